@@ -31,7 +31,7 @@ use Rattle.bsp_machine.specs.Sheets.{messages_in, no_words, picked}
 use Rattle.worker_histories.specs.Shares.{Share, share_of}
 use Rattle.run_options.specs.declared.reserve.Reserve.{Reserve}
 use Rattle.bsp_machine.specs.Reserves.{own_mark, IsMark, AreMarked, HaveReserve}
-use Rattle.bsp_machine.specs.Workers.{shares, share_at, state_behind, IsBetween, IsBehind, IsAt, HasCome, AreAt}
+use Rattle.bsp_machine.specs.Workers.{shares, share_at, state_behind, IsTold, IsBetween, IsBehind, IsAt, HasCome, AreAt}
 use Rattle.bsp_machine.proofs.ListLemmas.{map_by, map_at, range_more, get_is, one_there}
 use Rattle.worker_histories.proofs.Marking.{there}
 use Rattle.std.proofs.lemmas.Option.{slice_get_within}
@@ -247,12 +247,13 @@ module _ (code : SuperstepCode) (m : Shape) (map_for : IsMapFor code m) (bound :
     going = here.going;
     counted = λ h n low.
         let t = setting code m bound n in
-        here.counted h n low
-        ∙ shares_more t input k w within (share_at old row came)
+        subst (IsTold new.counts)
+        (shares_more t input k w within (share_at old row came)
         ((one_exchange t map_for input k 0 w (omega (arith, within)) within).0
         ∙ purpose_at code m bound _ _ w old row at (alive h) n low)
         (words_sent code m bound input k w old row at (alive h) n low)
-        ((come h).words n low);
+        ((come h).words n low))
+        (here.counted h n low);
     items = here.items;
     reserved = here.reserved;
   }

@@ -2,7 +2,6 @@
 use Rattle.std.proofs.Common.{◌≡◌, ℕ, ◌+◌, ◌<◌, ◌≤◌, inl, inr, List, length, Bool, true, false, Option, Some, None, refl, sym, ap, subst, ◌∙◌, arith}
 use Rattle.std.specs.Prelude.{◌||◌, nat_lt, nat_le, vec_capacity}
 use Rattle.std.proofs.lemmas.Bool.Decides.{nat_tests}
-use Rattle.std.proofs.lemmas.List.{length-map}
 use Rattle.std.proofs.lemmas.Bool.{lt-ltb}
 use Rattle.address_map.specs.Lawful.{Shape}
 use Rattle.superstep_instructions.specs.Code.{SuperstepCode}
@@ -19,11 +18,12 @@ use Rattle.superstep_machine.specs.Purposes.{purpose_is}
 use Rattle.worker_exchange.specs.Shown.{marked, is_stopped, IsShown, IsAtExchange}
 use Rattle.worker_exchange.specs.Arrived.{ComesPast}
 use Rattle.worker_exchange.specs.MessagesWritten.{IsWrittenFor}
+use Rattle.exchange_counts.specs.Tallies.{made_of, room_of}
 use Rattle.bsp_machine.specs.declared.counted.CountedWorker.{CountedWorker}
 use Rattle.run_options.specs.declared.reserve.Reserve.{Reserve}
 use Rattle.worker_histories.specs.Shares.{Share}
 use Rattle.bsp_machine.specs.Reserves.{is_past, own_mark}
-use Rattle.bsp_machine.specs.Workers.{share_told, IsBetween, IsStanding}
+use Rattle.bsp_machine.specs.Workers.{IsBetween, IsStanding}
 use Rattle.bsp_machine.specs.Growing.{IsShortOfItems}
 use Rattle.bsp_machine.proofs.MarkLemmas.{never}
 
@@ -65,7 +65,7 @@ standing_refused code m bound states told w x row mark way own past filled read 
 -- stopped or is past it.
 module _ (code : SuperstepCode) (m : Shape) (bound : ℕ) (states : ℕ → State) (told : ℕ → List Share) (w : ℕ) (x : CountedWorker) (y : Local)
     (r : Reserve) (between : IsBetween code m bound states told w x) (alive : is_stopped x.local.way ≡ false)
-    (has : HasReserve r.items x.local.steps.uniform) (room : r.exchanges ≤ vec_capacity x.counts)
+    (has : HasReserve r.items x.local.steps.uniform) (room : r.exchanges ≤ room_of x.counts)
     (shown : is_stopped y.way ≡ false → (n : ℕ) (s : State) → most_instructions code bound < n →
     IsShown (setting code m bound n) x.local.steps.bank.worker x.local s →
     IsAtExchange (setting code m bound n) x.local.steps.bank.worker y s)
@@ -87,21 +87,20 @@ module _ (code : SuperstepCode) (m : Shape) (bound : ℕ) (states : ℕ → Stat
       go false h = grind (arith, nat_tests)
 
   pub past_is : is_past r (printed w) (length (told n)) ≡ (is_stopped y.way || is_past r (length y.steps.uniform.output.items)
-      (length x.counts.items) || nat_le (vec_capacity x.counts) (length x.counts.items))
+      (made_of x.counts) || nat_le (room_of x.counts) (made_of x.counts))
   past_is = go (is_stopped y.way) refl
     where
       go : (b : Bool) → is_stopped y.way ≡ b → is_past r (printed w) (length (told n))
-          ≡ (b || is_past r (length y.steps.uniform.output.items) (length x.counts.items) || nat_le (vec_capacity x.counts) (length x.counts.items))
+          ≡ (b || is_past r (length y.steps.uniform.output.items) (made_of x.counts) || nat_le (room_of x.counts) (made_of x.counts))
       go true e =
           let l : r.items < printed w = subst (λ v. r.items < printed v) (between.worker alive) (past e r.items has n (states n) low here) in
           ap (λ d. d || nat_le r.exchanges (length (told n))) (lt-ltb r.items (printed w) l)
       go false e =
           let output : printed w ≡ length y.steps.uniform.output.items = ap printed (sym (between.worker alive))
           ∙ ap (λ (u : UniformPart). length u.output) (shown e n (states n) low here).worker.shows.uniform in
-          let many : length (told n) ≡ length x.counts.items =
-          ap length (sym (between.counted alive n low)) ∙ length-map x.counts.items share_told in
+          let many : length (told n) ≡ made_of x.counts = sym (between.counted alive n low).made in
           (λ i. is_past r (output i) (many i))
-          ∙ no_room r.exchanges (vec_capacity x.counts) (length x.counts.items) (nat_lt r.items (length y.steps.uniform.output.items)) room
+          ∙ no_room r.exchanges (room_of x.counts) (made_of x.counts) (nat_lt r.items (length y.steps.uniform.output.items)) room
 
 -- Where a worker comes to its next exchange, and stops there or has no room for its items, it has none for those of the state there.
 module _ (code : SuperstepCode) (m : Shape) (bound : ℕ) (states : ℕ → State) (told : ℕ → List Share) (w : ℕ) (x : CountedWorker) (y : Local)

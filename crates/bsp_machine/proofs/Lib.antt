@@ -2,6 +2,7 @@ pub mod ListLemmas
 pub mod SheetLemmas
 pub mod PhaseLemmas
 pub mod MarkLemmas
+pub mod TallyLemmas
 pub mod CountedLemmas
 pub mod StandingLemmas
 pub mod ComingLemmas

@@ -1,5 +1,5 @@
 -- Workers before the first instruction are a run.
-use Rattle.std.proofs.Common.{◌≡◌, ℕ, ◌+◌, List, [], ◌∷◌, ◌++◌, length, map, Option, None, ℤ, sym, ap, ◌∙◌, subst, arith}
+use Rattle.std.proofs.Common.{◌≡◌, ℕ, ◌+◌, List, [], ◌∷◌, ◌++◌, length, Bool, Option, None, ℤ, sym, ap, ◌∙◌, subst, arith}
 use Rattle.std.specs.Prelude.{slice_get}
 use Rattle.std.proofs.lemmas.List.{length-append}
 use Rattle.address_map.specs.Lawful.{Shape}
@@ -7,11 +7,13 @@ use Rattle.superstep_instructions.specs.Code.{SuperstepCode}
 use Rattle.bsp_machine.specs.declared.counted.CountedWorker.{CountedWorker}
 use Rattle.run_options.specs.declared.reserve.Reserve.{Reserve}
 use Rattle.bsp_machine.specs.Reserves.{HaveReserve, AreGiven}
-use Rattle.bsp_machine.specs.Workers.{share_told}
+use Rattle.exchange_counts.specs.Tallies.{is_kept}
+use Rattle.bsp_machine.specs.Workers.{AreKept}
 use Rattle.bsp_machine.specs.Opening.{IsFresh, AreFresh}
 use Rattle.bsp_machine.specs.Ended.{AreRunning}
 use Rattle.bsp_machine.proofs.ListLemmas.{each_added}
 use Rattle.bsp_machine.proofs.MarkLemmas.{going_on, never}
+use Rattle.bsp_machine.proofs.TallyLemmas.{none_told}
 
 module _ (code : SuperstepCode) (m : Shape) (input : List ℤ) where
   pub fresh_run : (bound : ℕ) (all : List CountedWorker) → AreFresh code m input all → AreRunning code m bound input all
@@ -21,7 +23,7 @@ module _ (code : SuperstepCode) (m : Shape) (input : List ℤ) where
       worker = λ alive. f.worker;
       shown = λ alive n low. f.shown bound n;
       going = λ on. f.going bound;
-      counted = λ alive n low. ap (map share_told) f.none;
+      counted = λ alive n low. none_told x.counts f.none f.none_made;
       items = λ alive. f.items;
       reserved = λ alive. f.reserved;
     });
@@ -47,6 +49,11 @@ pub more_unreserved : (worker : CountedWorker) (old new : List CountedWorker) �
     worker.reserve ≡ None → HaveReserve None new
 more_unreserved worker old new added have last v x at =
     each_added old worker (λ i y. y.reserve ≡ None) 0 have last v x (ap (λ ys. slice_get ys v) (sym added) ∙ at)
+
+pub more_kept : (kept : Bool) (worker : CountedWorker) (old new : List CountedWorker) → new ≡ old ++ worker ∷ [] → AreKept kept old →
+    is_kept worker.counts ≡ kept → AreKept kept new
+more_kept kept worker old new added have last v x at =
+    each_added old worker (λ i y. is_kept y.counts ≡ kept) 0 have last v x (ap (λ ys. slice_get ys v) (sym added) ∙ at)
 
 -- none of them has stopped
 pub fresh_given : (code : SuperstepCode) (m : Shape) (input : List ℤ) (all : List CountedWorker) (reserve : Option Reserve) →

@@ -2,7 +2,7 @@
 use Rattle.std.proofs.Common.{◌≡◌, ℕ, zero, suc, ◌+◌, ◌<◌, List, [], ◌∷◌, length, map, true, false}
 use Rattle.std.proofs.Common.{Option, Some, None, ℤ, pos, refl, sym, ap, ◌∙◌}
 use Rattle.std.proofs.Common.{arith, get_or}
-use Rattle.std.specs.Prelude.{slice_get, slice_index_or}
+use Rattle.std.specs.Prelude.{slice_get, slice_index_or, IfSome}
 use Rattle.std.specs.List.{range_with_len}
 use Rattle.std.proofs.lemmas.List.{length-map}
 use Rattle.std.proofs.lemmas.List.FromFn.{get_or-map-range_with_len, length-range_with_len}
@@ -14,7 +14,7 @@ use Rattle.superstep_instructions.specs.Code.{SuperstepCode}
 use Rattle.superstep_machine.specs.Setting.{Setting, module_cells}
 use Rattle.superstep_machine.specs.Run.{State, bsp, setting, opening, is_over, no_state, state_of}
 use Rattle.superstep_machine.specs.Run.{cell_in, verdict_by, outcome_of, outcome_by}
-use Rattle.superstep_machine.specs.Trace.{exchange_of, exchanges_by}
+use Rattle.superstep_machine.specs.Trace.{Exchange, exchange_of, exchanges_by}
 use Rattle.superstep_machine.proofs.Refused.{map_within}
 use Rattle.bsp_verify.specs.Runs.{worker_after}
 use Rattle.flat_machine.specs.Flatness.{IsMapFor}
@@ -27,12 +27,13 @@ use Rattle.worker_exchange.specs.Reached.{most_instructions}
 use Rattle.superstep_machine.specs.Purposes.{purpose_is}
 use Rattle.worker_exchange.specs.Shown.{way_is, is_stopped, IsShown}
 use Rattle.exchange_counts.specs.declared.count.Count.{Count}
+use Rattle.exchange_counts.specs.Tallies.{rows_of}
 use Rattle.exchange_counts.specs.Columns.{column_of, entry_of, nothing, AreColumns}
 use Rattle.exchange_counts.specs.CountedExchanges.{exchange_told, exchanges_told}
 use Rattle.bsp_machine.specs.declared.counted.CountedWorker.{CountedWorker}
 use Rattle.worker_histories.specs.Shares.{Share, share_of}
-use Rattle.bsp_machine.specs.Workers.{share_told}
-use Rattle.bsp_machine.specs.Ended.{AreRunning, AreWide, cells_of, value_of, memory_of, verdict_in, counts_of}
+use Rattle.bsp_machine.specs.Workers.{share_told, shares, AreKept}
+use Rattle.bsp_machine.specs.Ended.{AreExchanges, AreRunning, AreWide, cells_of, value_of, memory_of, verdict_in, counts_of}
 use Rattle.bsp_machine.proofs.ListLemmas.{map_by}
 use Rattle.worker_histories.proofs.Marking.{there}
 use Rattle.std.proofs.lemmas.Option.{slice_get_within}
@@ -59,18 +60,18 @@ none_told (ways.Past None true) output memory None over e none = absurd (cc e)
 none_told (ways.Past None false) output memory None over e none = absurd (cc e)
 
 column_is : (all : List CountedWorker) (w : ℕ) (x : CountedWorker) → slice_get all w ≡ Some x →
-    column_of (counts_of all) w ≡ x.counts.items
+    column_of (counts_of all) w ≡ rows_of x.counts
 column_is [] w x e = cc
-column_is (y ∷ all) zero x e = ap (λ (z : CountedWorker). z.counts.items) (unsome y x e)
+column_is (y ∷ all) zero x e = ap (λ (z : CountedWorker). rows_of z.counts) (unsome y x e)
   where
     unsome : (a b : CountedWorker) → Some a ≡ Some b → a ≡ b
     unsome a b e = cc
 column_is (y ∷ all) (suc w) x e = column_is all w x e
 
 first_entry : (i : ℕ) (all : List CountedWorker) (x : CountedWorker) → slice_get all 0 ≡ Some x →
-    slice_index_or (map (entry_of i) (counts_of all)) 0 nothing ≡ entry_of i x.counts.items
+    slice_index_or (map (entry_of i) (counts_of all)) 0 nothing ≡ entry_of i (rows_of x.counts)
 first_entry i [] x e = cc
-first_entry i (y ∷ all) x e = ap (λ (z : CountedWorker). entry_of i z.counts.items) (unsome y x e)
+first_entry i (y ∷ all) x e = ap (λ (z : CountedWorker). entry_of i (rows_of z.counts)) (unsome y x e)
   where
     unsome : (a b : CountedWorker) → Some a ≡ Some b → a ≡ b
     unsome a b e = cc
@@ -115,59 +116,63 @@ module _ (code : SuperstepCode) (m : Shape) (map_for : IsMapFor code m) (bound :
       ∙ length-map (module_cells t w) flat.0.flat.memory ∙ length-map (range_with_len 0 (m.width w)) (m.cell w)
       ∙ length-range_with_len 0 (m.width w)
 
-  -- ---- what was counted
-
-  counts_long : (w : ℕ) (x : CountedWorker) → slice_get all w ≡ Some x → length x.counts.items ≡ k
-  counts_long w x at =
-      sym (length-map x.counts.items share_told) ∙ ap length ((run.behind w x at).counted (none w x at) n low)
-      ∙ length-map (range_with_len 0 k) (λ i. share_of w (exchange_of t (worker_after t input i))) ∙ length-range_with_len 0 k
-
-  first_long : length (column_of (counts_of all) 0) ≡ k
-  first_long = ap length (column_is all 0 first here) ∙ counts_long 0 first here
-
-  pub columns_long : AreColumns (counts_of all)
-  columns_long =
-      let e = length-map all (λ (x : CountedWorker). x.counts.items) in
-      record {
-        some = (let l = slice_get_within all 0 first here in omega (arith, l, e));
-        long = λ w l.
-            let x = there all w (omega (arith, l, e)) in
-            ap length (column_is all w x.0 x.1) ∙ counts_long w x.0 x.1 ∙ sym first_long;
-      }
-
-  share_at : (w : ℕ) (x : CountedWorker) → slice_get all w ≡ Some x → (i : ℕ) → i < k →
-      share_told (entry_of i x.counts.items) ≡ share_of w (exchange_of t (worker_after t input i))
-  share_at w x at i l =
-      made_at share_told x.counts.items i nothing
-      ∙ ap (λ (ss : List Share). get_or ss i (share_told nothing)) ((run.behind w x at).counted (none w x at) n low)
-      ∙ get_or-map-range_with_len (λ j. share_of w (exchange_of t (worker_after t input j))) 0 k i i (share_told nothing) l (omega arith)
-
-  -- a list of what all workers counted
-  listed : (i : ℕ) → i < k → (of_count : Count → ℕ) (of_worker : ℕ → ℕ) →
-      ((w : ℕ) (x : CountedWorker) → slice_get all w ≡ Some x → of_count (entry_of i x.counts.items) ≡ of_worker w) →
-      map of_count (map (entry_of i) (counts_of all)) ≡ map of_worker (range_with_len 0 m.parts)
-  listed i l of_count of_worker each =
-      map_twice of_count (entry_of i) (counts_of all)
-      ∙ map_twice (λ (column : List Count). of_count (entry_of i column)) (λ (x : CountedWorker). x.counts.items) all
-      ∙ map_by (λ (x : CountedWorker). of_count (entry_of i x.counts.items)) of_worker all 0
-      (λ w x at. each w x at ∙ ap of_worker (let same : w ≡ 0 + w = omega arith in same))
-      ∙ ap (λ p. map of_worker (range_with_len 0 p)) many
-
-  by_worker : (f : ℕ → ℕ) (w : ℕ) → w < m.parts → slice_index_or (map f (range_with_len 0 m.parts)) w 0 ≡ f w
-  by_worker f w l = get_or-map-range_with_len f 0 m.parts w w 0 l (omega arith)
-
   below : (w : ℕ) (x : CountedWorker) → slice_get all w ≡ Some x → w < m.parts
   below w x at = let l = slice_get_within all w x at in omega (arith, l, many)
 
-  one_told : (i : ℕ) → i < k → exchange_told (counts_of all) i ≡ exchange_of t (worker_after t input i)
-  one_told i l = λ j. record {
-    purpose = (ap (λ (c : Count). purpose_is c.purpose) (first_entry i all first here)
-        ∙ ap (λ (s : Share). s.purpose) (share_at 0 first here i l)) j;
-    sent = listed i l (λ (c : Count). c.sent) _ (λ w x at. ap (λ (s : Share). s.sent) (share_at w x at i l)
-        ∙ by_worker _ w (below w x at)) j;
-    received = listed i l (λ (c : Count). c.received) _ (λ w x at. ap (λ (s : Share). s.received) (share_at w x at i l)
-        ∙ by_worker _ w (below w x at)) j;
-  }
+  -- ---- what was counted, where that was kept
+
+  module _ (kept : AreKept true all) where
+    rows_at : (w : ℕ) (x : CountedWorker) → slice_get all w ≡ Some x → map share_told (rows_of x.counts) ≡ shares t input w k
+    rows_at w x at = ((run.behind w x at).counted (none w x at) n low).rows (kept w x at)
+
+    counts_long : (w : ℕ) (x : CountedWorker) → slice_get all w ≡ Some x → length (rows_of x.counts) ≡ k
+    counts_long w x at =
+        sym (length-map (rows_of x.counts) share_told) ∙ ap length (rows_at w x at)
+        ∙ length-map (range_with_len 0 k) (λ i. share_of w (exchange_of t (worker_after t input i))) ∙ length-range_with_len 0 k
+
+    first_long : length (column_of (counts_of all) 0) ≡ k
+    first_long = ap length (column_is all 0 first here) ∙ counts_long 0 first here
+
+    pub columns_long : AreColumns (counts_of all)
+    columns_long =
+        let e = length-map all (λ (x : CountedWorker). rows_of x.counts) in
+        record {
+          some = (let l = slice_get_within all 0 first here in omega (arith, l, e));
+          long = λ w l.
+              let x = there all w (omega (arith, l, e)) in
+              ap length (column_is all w x.0 x.1) ∙ counts_long w x.0 x.1 ∙ sym first_long;
+        }
+
+    share_at : (w : ℕ) (x : CountedWorker) → slice_get all w ≡ Some x → (i : ℕ) → i < k →
+        share_told (entry_of i (rows_of x.counts)) ≡ share_of w (exchange_of t (worker_after t input i))
+    share_at w x at i l =
+        made_at share_told (rows_of x.counts) i nothing
+        ∙ ap (λ (ss : List Share). get_or ss i (share_told nothing)) (rows_at w x at)
+        ∙ get_or-map-range_with_len (λ j. share_of w (exchange_of t (worker_after t input j))) 0 k i i (share_told nothing) l (omega arith)
+
+    -- a list of what all workers counted
+    listed : (i : ℕ) → i < k → (of_count : Count → ℕ) (of_worker : ℕ → ℕ) →
+        ((w : ℕ) (x : CountedWorker) → slice_get all w ≡ Some x → of_count (entry_of i (rows_of x.counts)) ≡ of_worker w) →
+        map of_count (map (entry_of i) (counts_of all)) ≡ map of_worker (range_with_len 0 m.parts)
+    listed i l of_count of_worker each =
+        map_twice of_count (entry_of i) (counts_of all)
+        ∙ map_twice (λ (column : List Count). of_count (entry_of i column)) (λ (x : CountedWorker). rows_of x.counts) all
+        ∙ map_by (λ (x : CountedWorker). of_count (entry_of i (rows_of x.counts))) of_worker all 0
+        (λ w x at. each w x at ∙ ap of_worker (let same : w ≡ 0 + w = omega arith in same))
+        ∙ ap (λ p. map of_worker (range_with_len 0 p)) many
+
+    by_worker : (f : ℕ → ℕ) (w : ℕ) → w < m.parts → slice_index_or (map f (range_with_len 0 m.parts)) w 0 ≡ f w
+    by_worker f w l = get_or-map-range_with_len f 0 m.parts w w 0 l (omega arith)
+
+    one_told : (i : ℕ) → i < k → exchange_told (counts_of all) i ≡ exchange_of t (worker_after t input i)
+    one_told i l = λ j. record {
+      purpose = (ap (λ (c : Count). purpose_is c.purpose) (first_entry i all first here)
+          ∙ ap (λ (s : Share). s.purpose) (share_at 0 first here i l)) j;
+      sent = listed i l (λ (c : Count). c.sent) _ (λ w x at. ap (λ (s : Share). s.sent) (share_at w x at i l)
+          ∙ by_worker _ w (below w x at)) j;
+      received = listed i l (λ (c : Count). c.received) _ (λ w x at. ap (λ (s : Share). s.received) (share_at w x at i l)
+          ∙ by_worker _ w (below w x at)) j;
+    }
 
   -- ---- the outcome
 
@@ -205,9 +210,23 @@ module _ (code : SuperstepCode) (m : Shape) (map_for : IsMapFor code m) (bound :
     pub outcome_ends : outcome_by t (suc k) input ≡ Some (Some v)
     outcome_ends = run_ends (bsp t) m.parts k (opening t input) (run.before n low) over_is ∙ ap (λ o. Some o) outcome_is
 
-    pub exchanges_end : exchanges_by t (suc k) input ≡ exchanges_told (counts_of all)
-    exchanges_end =
+    exchanges_end : AreKept true all → exchanges_by t (suc k) input ≡ exchanges_told (counts_of all)
+    exchanges_end kept =
         exchanges_are t k (opening t input) (run.before n low) over_is
-        ∙ sym (ap (λ p. map (exchange_told (counts_of all)) (range_with_len 0 p)) first_long
-        ∙ map_within (exchange_told (counts_of all)) (λ i. exchange_of t (worker_after t input i)) k 0 (λ i l. one_told i (omega
+        ∙ sym (ap (λ p. map (exchange_told (counts_of all)) (range_with_len 0 p)) (first_long kept)
+        ∙ map_within (exchange_told (counts_of all)) (λ i. exchange_of t (worker_after t input i)) k 0 (λ i l. one_told kept i (omega
         (arith, l))))
+
+    -- whether they were kept or not, and whoever hands them on
+    pub exchanges_found : (others : List CountedWorker) → (AreKept true others → AreKept true all) → counts_of others ≡ counts_of all →
+        (found : Option (List Exchange)) →
+        IfSome found (λ exchanges. AreKept true others × (exchanges ≡ exchanges_told (counts_of others))) →
+        AreExchanges code m input bound v found
+    exchanges_found others back same None h =
+        (exchanges_by t (suc k) input, record { enough = n; most = suc k; ends = outcome_ends; told = refl })
+    exchanges_found others back same (Some exchanges) h = record {
+      enough = n;
+      most = suc k;
+      ends = outcome_ends;
+      told = exchanges_end (back h.0) ∙ ap exchanges_told (sym same) ∙ sym h.1;
+    }

@@ -1,12 +1,14 @@
 -- Worker 0 without its room for items: all else is as it was.
-use Rattle.std.proofs.Common.{◌≡◌, ℕ, zero, suc, List, [], ◌∷◌, length, map, Some, Vec, ℤ, refl, sym, ap, subst, ◌∙◌}
+use Rattle.std.proofs.Common.{◌≡◌, ℕ, zero, suc, List, [], ◌∷◌, length, map, Bool, Some, Vec, ℤ, refl, sym, ap, subst, ◌∙◌}
 use Rattle.std.specs.Global.{Global}
 use Rattle.std.specs.Prelude.{slice_get, slice_set, slice_index_or, pos}
 use Rattle.std.specs.List.{range_with_len}
 use Rattle.pram_model.specs.Layout.{total_size}
 use Rattle.address_map.specs.Lawful.{Shape}
 use Rattle.superstep_instructions.specs.Code.{SuperstepCode}
+use Rattle.exchange_counts.specs.Tallies.{is_kept, rows_of}
 use Rattle.bsp_machine.specs.declared.counted.CountedWorker.{CountedWorker}
+use Rattle.bsp_machine.specs.Workers.{AreKept}
 use Rattle.bsp_machine.specs.Ended.{AreWide, cells_of, memory_of, counts_of}
 use Rattle.bsp_machine.proofs.ListLemmas.{some_is}
 
@@ -28,6 +30,10 @@ module _ (y : CountedWorker) (rest : List CountedWorker) (items : Vec ℤ Global
       ap (λ (f : ℕ → ℤ). map f (range_with_len 0 (total_size code.layout)))
       (λ i c. slice_index_or (cells_at (m.part c) i) (m.offset c) (pos 0))
 
+  kept_at : (kept : Bool) → AreKept kept (y ∷ rest) → AreKept kept (without y items ∷ rest)
+  kept_at kept all zero x e = ap (λ (z : CountedWorker). is_kept z.counts) (some_is x (without y items) (sym e)) ∙ all zero y refl
+  kept_at kept all (suc w) x e = all (suc w) x e
+
 module _ (x : CountedWorker) (items : Vec ℤ Global) where
   pub first_left : (xs : List CountedWorker) → slice_get xs 0 ≡ Some x → slice_get (slice_set xs 0 (without x items)) 0 ≡ Some (without x items)
   first_left [] e = absurd (cc e)
@@ -47,7 +53,20 @@ module _ (x : CountedWorker) (items : Vec ℤ Global) where
 
   pub counts_left : (xs : List CountedWorker) → slice_get xs 0 ≡ Some x → counts_of (slice_set xs 0 (without x items)) ≡ counts_of xs
   counts_left [] e = absurd (cc e)
-  counts_left (y ∷ xs) e = ap (λ (z : CountedWorker). z.counts.items ∷ counts_of xs) (some_is x y (sym e))
+  counts_left (y ∷ xs) e = ap (λ (z : CountedWorker). rows_of z.counts ∷ counts_of xs) (some_is x y (sym e))
+
+  pub kept_left : (kept : Bool) (xs : List CountedWorker) → slice_get xs 0 ≡ Some x → AreKept kept xs →
+      AreKept kept (slice_set xs 0 (without x items))
+  kept_left kept [] e all = absurd (cc e)
+  kept_left kept (y ∷ xs) e all =
+      subst (λ (z : CountedWorker). AreKept kept (without z items ∷ xs)) (some_is y x e) (kept_at y xs items kept all)
+
+  pub kept_before : (kept : Bool) (xs : List CountedWorker) → slice_get xs 0 ≡ Some x → AreKept kept (slice_set xs 0 (without x items)) →
+      AreKept kept xs
+  kept_before kept [] e all w z at = absurd (cc e)
+  kept_before kept (y ∷ xs) e all zero z at =
+      ap (λ (q : CountedWorker). is_kept q.counts) (some_is z y (sym at) ∙ some_is y x e) ∙ all zero (without x items) refl
+  kept_before kept (y ∷ xs) e all (suc w) z at = all (suc w) z at
 
 -- The list that is left.
 module _ (xs ys : List CountedWorker) (x : CountedWorker) (items : Vec ℤ Global) (here : slice_get xs 0 ≡ Some x)
@@ -66,3 +85,9 @@ module _ (xs ys : List CountedWorker) (x : CountedWorker) (items : Vec ℤ Globa
 
   pub counts_is : counts_of ys ≡ counts_of xs
   counts_is = ap counts_of left ∙ counts_left x items xs here
+
+  pub kept_is : (kept : Bool) → AreKept kept xs → AreKept kept ys
+  kept_is kept all = subst (AreKept kept) (sym left) (kept_left x items kept xs here all)
+
+  pub kept_was : (kept : Bool) → AreKept kept ys → AreKept kept xs
+  kept_was kept all = kept_before x items kept xs here (subst (AreKept kept) left all)

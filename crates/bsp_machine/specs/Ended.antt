@@ -6,12 +6,14 @@ use Rattle.address_map.specs.Lawful.{Shape}
 use Rattle.superstep_instructions.specs.Code.{SuperstepCode}
 use Rattle.superstep_machine.specs.Setting.{workers}
 use Rattle.superstep_machine.specs.Run.{bsp, opening, is_over, setting}
+use Rattle.superstep_machine.specs.Trace.{Exchange, AreBspExchanges}
 use Rattle.write_rules.specs.declared.outcome.Outcome.{Outcome}
 use Rattle.write_rules.specs.Verdict.{Verdict, verdict_of}
 use Rattle.worker_exchange.specs.Reached.{most_instructions}
 use Rattle.worker_exchange.specs.Shown.{way_is, is_stopped}
 use Rattle.worker_exchange.specs.Equipped.{most_words, left, IsRunnable}
 use Rattle.exchange_counts.specs.declared.count.Count.{Count}
+use Rattle.exchange_counts.specs.Tallies.{rows_of}
 use Rattle.worker_histories.specs.Histories.{GoesOn}
 use Rattle.bsp_machine.specs.declared.counted.CountedWorker.{CountedWorker}
 use Rattle.bsp_machine.specs.Workers.{AreBehind, AreTogether, AreSheets}
@@ -83,6 +85,11 @@ abbrev pub verdict_in : Option Outcome → Option Verdict
 verdict_in None = None
 verdict_in (Some outcome) = Some (verdict_of outcome)
 
--- what each worker counted
+-- what each worker counted, where it keeps that
 abbrev pub counts_of : List CountedWorker → List (List Count)
-counts_of = map (λ (x : CountedWorker). x.counts.items)
+counts_of = map (λ (x : CountedWorker). rows_of x.counts)
+
+-- The exchanges of a run with this outcome: these, where they are kept; else there are such.
+abbrev pub AreExchanges : SuperstepCode → Shape → List ℤ → ℕ → Verdict → Option (List Exchange) → Type 0
+AreExchanges code m input bound verdict None = (exchanges : List Exchange) × AreBspExchanges code m input bound verdict exchanges
+AreExchanges code m input bound verdict (Some exchanges) = AreBspExchanges code m input bound verdict exchanges

@@ -3,6 +3,7 @@ use Rattle.std.specs.Prelude.{ℕ, ◌<◌, ◌≤◌, ◌⊎◌, length, vec_ca
 use Rattle.address_map.specs.Lawful.{Shape}
 use Rattle.superstep_instructions.specs.Code.{SuperstepCode}
 use Rattle.superstep_machine.specs.Run.{State, ready, setting}
+use Rattle.exchange_counts.specs.Tallies.{made_of, room_of}
 use Rattle.bsp_machine.specs.declared.counted.CountedWorker.{CountedWorker}
 
 -- It has no room for all items that worker w has printed where it comes to the next exchange from a state: in the output, or beside it.
@@ -13,4 +14,4 @@ IsShortOfItems code m bound s w n x =
 
 -- Or it has none to count that exchange.
 abbrev pub IsFull : SuperstepCode → Shape → ℕ → State → ℕ → ℕ → CountedWorker → Type 0
-IsFull code m bound s w n x = (vec_capacity x.counts ≤ length x.counts.items) ⊎ IsShortOfItems code m bound s w n x
+IsFull code m bound s w n x = (room_of x.counts ≤ made_of x.counts) ⊎ IsShortOfItems code m bound s w n x

@@ -6,6 +6,7 @@ use Rattle.superstep_instructions.specs.Code.{SuperstepCode}
 use Rattle.superstep_machine.specs.Run.{opening, setting}
 use Rattle.worker_exchange.specs.Shown.{IsShown}
 use Rattle.worker_exchange.specs.Equipped.{MayGoOn}
+use Rattle.exchange_counts.specs.Tallies.{made_of, rows_of}
 use Rattle.bsp_machine.specs.declared.counted.CountedWorker.{CountedWorker}
 use Rattle.bsp_machine.specs.declared.end_room.EndRoom.{EndRoom}
 use Rattle.bsp_machine.specs.Reserves.{IsReserved}
@@ -16,7 +17,8 @@ pub record IsFresh (code : SuperstepCode) (m : Shape) (input : List ℤ) (w : �
   pub worker : x.local.steps.bank.worker ≡ w
   pub shown : (bound n : ℕ) → IsShown (setting code m bound n) w x.local (opening (setting code m bound n) input w)
   pub going : (bound : ℕ) → MayGoOn code m bound x.local
-  pub none : x.counts.items ≡ []
+  pub none : rows_of x.counts ≡ []
+  pub none_made : made_of x.counts ≡ 0
   pub items : HasItems x
   pub reserved : IsReserved x
 

@@ -5,6 +5,7 @@ use Rattle.superstep_machine.specs.declared.mark.HeaderMark.{HeaderMark}
 use Rattle.superstep_machine.specs.declared.mark.HeaderMark.TheVariants.{Clear, OutOfMemory, OutOfReserve}
 use Rattle.superstep_machine.specs.HeaderWords.{read_header}
 use Rattle.instruction_steps.specs.Views.{HasReserve}
+use Rattle.exchange_counts.specs.Tallies.{room_of}
 use Rattle.worker_exchange.specs.Rows.{WrittenMessage}
 use Rattle.worker_exchange.specs.declared.refusal.RunRefusal.{RunRefusal}
 use Rattle.worker_exchange.specs.declared.refusal.RunRefusal.TheVariants as refusals
@@ -20,7 +21,7 @@ is_past r items exchanges = nat_lt r.items items || nat_le r.exchanges exchanges
 -- if it was given a reserve, there is room for all items of that, and to count its exchanges
 abbrev pub IsReserved : CountedWorker → Type 0
 IsReserved x = (r : Reserve) → x.reserve ≡ Some r →
-    (HasReserve r.items x.local.steps.uniform) × (r.items ≤ vec_capacity x.items) × (r.exchanges ≤ vec_capacity x.counts)
+    (HasReserve r.items x.local.steps.uniform) × (r.items ≤ vec_capacity x.items) × (r.exchanges ≤ room_of x.counts)
 
 -- by which mark a worker stops by itself: by that of refused memory, or by that of its reserve
 abbrev pub own_mark : Option Reserve → HeaderMark

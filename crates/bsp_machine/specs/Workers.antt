@@ -1,5 +1,5 @@
 -- The workers of a run, between two exchanges and at one.
-use Rattle.std.specs.Prelude.{◌≡◌, ℕ, ◌<◌, ◌≤◌, List, [], map, length, Some, false, ℤ, vec_capacity, slice_get}
+use Rattle.std.specs.Prelude.{◌≡◌, ℕ, ◌<◌, ◌≤◌, List, [], map, length, Some, Bool, true, false, ℤ, vec_capacity, slice_get}
 use Rattle.std.specs.List.{range_with_len}
 use Rattle.address_map.specs.Lawful.{Shape}
 use Rattle.superstep_instructions.specs.Code.{SuperstepCode}
@@ -20,6 +20,8 @@ use Rattle.worker_exchange.specs.Equipped.{MayGoOn, IsAtStep}
 use Rattle.worker_exchange.specs.MessagesWritten.{IsWrittenFor}
 use Rattle.worker_exchange.specs.Received.{messages_to}
 use Rattle.exchange_counts.specs.declared.count.Count.{Count}
+use Rattle.exchange_counts.specs.declared.tally.Tally.{Tally}
+use Rattle.exchange_counts.specs.Tallies.{is_kept, made_of, room_of, rows_of}
 use Rattle.worker_histories.specs.Shares.{Share, share_of}
 use Rattle.bsp_machine.specs.declared.counted.CountedWorker.{CountedWorker}
 use Rattle.run_options.specs.declared.reserve.Reserve.{Reserve}
@@ -44,6 +46,11 @@ share_at x row came = record { purpose = purpose_is x.local.purpose; sent = word
 abbrev pub shares : Setting → List ℤ → ℕ → ℕ → List Share
 shares t input w k = map (λ i. share_of w (exchange_of t (worker_after t input i))) (range_with_len 0 k)
 
+-- a worker's tally of these exchanges: as many, and each as it was where they are kept
+pub record IsTold (counts : Tally) (told : List Share) : Type 0 where
+  pub made : made_of counts ≡ length told
+  pub rows : is_kept counts ≡ true → map share_told (rows_of counts) ≡ told
+
 -- ---- one worker
 
 -- there is room for all items of its output
@@ -60,7 +67,7 @@ module _ (code : SuperstepCode) (m : Shape) (bound : ℕ) where
         IsShown (setting code m bound n) w x.local (states n)
     pub going : is_over (way_is x.local.way) ≡ false → MayGoOn code m bound x.local
     pub counted : is_stopped x.local.way ≡ false → (n : ℕ) → most_instructions code bound < n →
-        map share_told x.counts.items ≡ told n
+        IsTold x.counts (told n)
     pub items : is_stopped x.local.way ≡ false → HasItems x
     pub reserved : is_stopped x.local.way ≡ false → IsReserved x
 
@@ -80,7 +87,7 @@ module _ (code : SuperstepCode) (m : Shape) (bound : ℕ) where
         ≡ is_past r (length (ready (setting code m bound n) w (states n)).state.worker.uniform.output) (length (told n))
     pub sent : is_stopped x.local.way ≡ false → x.local.buffers.sent ≡ words_in row
     pub counted : is_stopped x.local.way ≡ false → (n : ℕ) → most_instructions code bound < n →
-        map share_told x.counts.items ≡ told n
+        IsTold x.counts (told n)
     pub items : is_stopped x.local.way ≡ false → HasItems x
     pub reserved : is_stopped x.local.way ≡ false → IsReserved x
 
@@ -105,7 +112,7 @@ module _ (code : SuperstepCode) (m : Shape) (bound : ℕ) where
   -- If it hasn't stopped it stands at an exchange, with room to count it.
   pub record IsReady (x : CountedWorker) : Type 0 where
     pub purpose : is_stopped x.local.way ≡ false → IsAtStep code m bound x.local
-    pub room : is_stopped x.local.way ≡ false → length x.counts.items < vec_capacity x.counts
+    pub room : is_stopped x.local.way ≡ false → made_of x.counts < room_of x.counts
 
   -- What came to worker w in the exchange behind k is what the machine's workers send to it.
   pub record HasCome (input : List ℤ) (k w : ℕ) (purpose : Purpose) (came : List WrittenMessage) : Type 0 where
@@ -135,6 +142,10 @@ module _ (code : SuperstepCode) (m : Shape) (bound : ℕ) where
 abbrev pub AreTogether : List CountedWorker → Type 0
 AreTogether workers = (w v : ℕ) (x y : CountedWorker) → slice_get workers w ≡ Some x → slice_get workers v ≡ Some y →
     is_stopped x.local.way ≡ is_stopped y.local.way
+
+-- each keeps what it counts, or none does
+abbrev pub AreKept : Bool → List CountedWorker → Type 0
+AreKept kept workers = (w : ℕ) (x : CountedWorker) → slice_get workers w ≡ Some x → is_kept x.counts ≡ kept
 
 -- a row for each of p workers, to all of them
 pub record AreSheets (p most : ℕ) (rows : List Sheet) : Type 0 where

@@ -1,17 +1,17 @@
 //! What workers come to whose run is over.
 
-ghost use Rattle.std.specs.Prelude.{◌≡◌, ◌<◌, ℕ, List, ℤ, Option, Some, length, slice_get, slice_set, IfOk, IfErr};
+ghost use Rattle.std.specs.Prelude.{◌≡◌, ◌<◌, ℕ, List, ℤ, Option, Some, length, slice_get, slice_set, true, IfOk, IfErr, IsSome};
 ghost use Rattle.write_rules.specs.Verdict.{verdict_of};
 ghost use Rattle.superstep_machine.specs.Run.{IsBspOutcome};
-ghost use Rattle.superstep_machine.specs.Trace.{AreBspExchanges};
 ghost use Rattle.worker_exchange.specs.Equipped.{IsRunnable};
 ghost use Rattle.bsp_machine.specs.declared.counted.CountedWorker.{CountedWorker as Counted};
 ghost use Rattle.run_options.specs.declared.reserve.Reserve.{Reserve as Given};
 ghost use Rattle.bsp_machine.specs.Reserves.{refusal_by as spec_refusal_by, refusal_for, AreGiven};
+ghost use Rattle.bsp_machine.specs.Workers.{AreKept};
 ghost use Rattle.bsp_machine.specs.Opening.{IsRoom};
-ghost use Rattle.bsp_machine.specs.Ended.{AreRunning, HaveRun, IsFirstOver, IsFirstStopped, IsFirstUnstopped};
+ghost use Rattle.bsp_machine.specs.Ended.{AreExchanges, AreRunning, HaveRun, IsFirstOver, IsFirstStopped, IsFirstUnstopped};
 
-use crate::columns::take_columns;
+use crate::columns::counts_in;
 use crate::counted::CountedWorker;
 use crate::end_room::EndRoom;
 use crate::outcome::outcome;
@@ -46,7 +46,8 @@ fn refusal_by(way: Way) -> RunRefusal
     }
 }
 
-/// What the workers of one run come to, in their order, whose run is over, and the exchanges that they counted. It takes no memory. An error
+/// What the workers of one run come to, in their order, whose run is over, and the exchanges that they counted, if each of them has kept
+/// those. It takes no memory. An error
 /// comes exactly where they have stopped, all at one exchange or none: `OutOfReserve` where they came past the reserve that they were
 /// given, `OutOfMemory` where memory was refused to one of them.
 pub fn collect<M: AddressMap>(
@@ -54,7 +55,7 @@ pub fn collect<M: AddressMap>(
     map: &M,
     mut workers: Vec<CountedWorker>,
     room: EndRoom,
-) -> Result<(Outcome, Counts), RunRefusal>
+) -> Result<(Outcome, Option<Counts>), RunRefusal>
     requires runnable { IsRunnable code.now (M.shape map.now) }
     requires workers { length workers.items ≡ (M.shape map.now).parts }
     requires run { HaveRun code.now (M.shape map.now) workers.items }
@@ -67,18 +68,18 @@ pub fn collect<M: AddressMap>(
     ensures outcome { IfOk result (λ found. (bound : ℕ) (input : List ℤ) → AreRunning code.now (M.shape map.now) bound input workers.items →
         IsBspOutcome code.now (M.shape map.now) input bound (verdict_of found.0)) }
     ensures counts { IfOk result (λ found. (bound : ℕ) (input : List ℤ) → AreRunning code.now (M.shape map.now) bound input workers.items →
-        AreBspExchanges code.now (M.shape map.now) input bound (verdict_of found.0) found.1) }
+        AreExchanges code.now (M.shape map.now) input bound (verdict_of found.0) found.1) }
+    ensures kept { AreKept true workers.items → IfOk result (λ found. IsSome found.1) }
 {
     let refusal = refusal_by(workers[0].local.way);
     let EndRoom {
         mut items,
         memory,
-        mut columns,
+        columns,
     } = room;
     take_items(&mut workers, &mut items);
     let Some(found) = outcome(code, map, workers.as_slice(), items, memory) else {
         return Err(refusal);
     };
-    take_columns(workers, &mut columns);
-    Ok((found, Counts::of_columns(columns)))
+    Ok((found, counts_in(workers, columns)))
 }

@@ -2,6 +2,7 @@
 
 ghost use Rattle.std.specs.Prelude.{◌≡◌, ◌<◌, ◌≤◌, ◌+◌, ◌^◌, ◌||◌, ◌⊎◌, ℕ, List, ℤ, length, true, false, Some, None, vec_capacity, ◌++◌, ◌∷◌, []};
 ghost use Rattle.std.specs.Prelude.{IfOk, IfErr, OnOk, OnErr, nat_le};
+ghost use Rattle.exchange_counts.specs.Tallies.{is_kept, made_of, room_of, rows_of};
 ghost use Rattle.address_map.specs.Outcome.{IsWorkers};
 ghost use Rattle.superstep_instructions.specs.Code.{SuperstepCode};
 ghost use Rattle.superstep_machine.specs.declared.mark.HeaderMark.{HeaderMark as MarkOfHeader};
@@ -22,7 +23,7 @@ ghost use Rattle.bsp_machine.specs.Reserves.{is_past as spec_is_past};
 ghost use Rattle.bsp_machine.specs.Opening.{IsFresh};
 
 use address_map::AddressMap;
-use exchange_counts::Count;
+use exchange_counts::{Count, Tally};
 use run_options::Reserve;
 use std::alloc::{AllocError, Global};
 use superstep_instructions::Code;
@@ -30,11 +31,11 @@ use superstep_machine::HeaderMark;
 use worker_exchange::{Column, Local, Row, RunRefusal, is_over, is_stopped, receive};
 use write_rules::WriteRule;
 
-/// A worker, what it counted at each exchange so far, room for the items of its output, and the reserve that it was given, if any.
+/// A worker, what it counted of its exchanges so far, room for the items of its output, and the reserve that it was given, if any.
 #[derive(Drop)]
 pub struct CountedWorker {
     pub local: Local,
-    pub counts: Vec<Count>,
+    pub counts: Tally,
     pub items: Vec<i64>,
     pub reserve: Option<Reserve>,
 }
@@ -56,14 +57,16 @@ fn words_came<C: Column>(column: &C, workers: usize) -> u64
 }
 
 // Counts an exchange, unless the worker has stopped at it.
-fn count<C: Column>(local: &Local, counts: &mut Vec<Count>, column: &C, workers: usize)
-    requires room { spec_is_stopped local.now.way ≡ false → length counts.old.items < vec_capacity counts.old }
+fn count<C: Column>(local: &Local, counts: &mut Tally, column: &C, workers: usize)
+    requires room { spec_is_stopped local.now.way ≡ false → made_of counts.old < room_of counts.old }
     requires column { length (C.came column.now) ≡ workers }
     requires few { workers ≤ 32 }
     requires short { C.room column.now < 2 ^ 32 }
-    ensures counted { spec_is_over (way_is local.now.way) ≡ false →
-        counts.new.items ≡ counts.old.items ++ (count_of local.now (words_in (C.came column.now)) ∷ []) }
-    ensures room { vec_capacity counts.new ≡ vec_capacity counts.old }
+    ensures counted { spec_is_over (way_is local.now.way) ≡ false → is_kept counts.old ≡ true →
+        rows_of counts.new ≡ rows_of counts.old ++ (count_of local.now (words_in (C.came column.now)) ∷ []) }
+    ensures made { spec_is_over (way_is local.now.way) ≡ false → made_of counts.new ≡ made_of counts.old + 1 }
+    ensures room { room_of counts.new ≡ room_of counts.old }
+    ensures kept { is_kept counts.new ≡ is_kept counts.old }
 {
     if is_over(local) {
         return;
@@ -71,7 +74,7 @@ fn count<C: Column>(local: &Local, counts: &mut Vec<Count>, column: &C, workers:
     let purpose = local.purpose;
     let sent = local.buffers.sent;
     let received = words_came(column, workers);
-    counts.push_reserved(Count {
+    counts.note(Count {
         purpose,
         sent,
         received,
@@ -90,7 +93,8 @@ fn keep_room(items: &mut Vec<i64>, most: usize) -> Result<(), AllocError>
 
 impl CountedWorker {
     /// One of the workers of a run before the first instruction, with nothing counted and without a reserve. It takes all the memory of a
-    /// run but for that by which its output grows, with the room for its items, and its counts: nothing else asks for any on the way.
+    /// run but for that by which its output grows, with the room for its items, and its counts: nothing else asks for any on the way. With
+    /// `kept` it keeps what it counts at each exchange; without, only how many it has made, and no exchange takes memory.
     /// Asked for a worker below their number; refused as the run is.
     pub fn new<M: AddressMap>(
         alloc: Global,
@@ -99,6 +103,7 @@ impl CountedWorker {
         workers: u32,
         worker: u32,
         input: &[i64],
+        kept: bool,
     ) -> Result<CountedWorker, RunRefusal>
         requires formed { IsWellFormed code.now }
         requires worker { IsWorkers workers → worker < workers }
@@ -106,13 +111,14 @@ impl CountedWorker {
         ensures accepted { IfOk result (λ x. IsAccepted code.now (M.shape map.now) workers input.now) }
         ensures fresh { IfOk result (IsFresh code.now (M.shape map.now) input.now worker) }
         ensures unreserved { IfOk result (λ x. x.reserve ≡ None) }
+        ensures kept { IfOk result (λ x. is_kept x.counts ≡ kept) }
         // It shows the opening state within any bound, and has counted nothing; so it can be set to work at a seat.
         ensures opens { IfOk result (λ x. (bound : ℕ) → IsBetween code.now (M.shape map.now) bound
             (λ n. opening (setting code.now (M.shape map.now) bound n) input.now worker) (λ n. []) worker x) }
         ensures runs { IfOk result (λ x. spec_is_stopped x.local.way ≡ false) }
     {
         let local = Local::new(alloc, code, map, workers, worker, input)?;
-        let counts = Vec::new(alloc);
+        let counts = Tally::new(alloc, kept);
         let items = Vec::new(alloc);
         Ok(CountedWorker {
             local,
@@ -134,6 +140,7 @@ impl CountedWorker {
         ensures going { OnOk result ((code : SuperstepCode) (m : Shape) (bound : ℕ) → MayGoOn code m bound self.old.local →
             MayGoOn code m bound self.new.local) }
         ensures way { OnOk result (self.new.local.way ≡ self.old.local.way) }
+        ensures kept { OnOk result (is_kept self.new.counts ≡ is_kept self.old.counts) }
     {
         self.counts.reserve(reserve.exchanges as usize)?;
         self.items.reserve(reserve.items as usize)?;
@@ -145,13 +152,13 @@ impl CountedWorker {
     // Whether it has stopped, or is past a reserve at its next exchange.
     fn is_past(&self, reserve: Reserve) -> bool
         ensures { result ≡ (spec_is_stopped self.now.local.way || spec_is_past reserve (length self.now.local.steps.uniform.output.items)
-            (length self.now.counts.items) || nat_le (vec_capacity self.now.counts) (length self.now.counts.items)) }
+            (made_of self.now.counts) || nat_le (room_of self.now.counts) (made_of self.now.counts)) }
     {
         let printed = self.local.steps.uniform.output.len();
-        let counted = self.counts.len();
-        let past = printed > reserve.items as usize || counted >= reserve.exchanges as usize;
+        let made = self.counts.made();
+        let past = printed > reserve.items as usize || made >= reserve.exchanges as u64;
         // There is room to count all exchanges of a reserve, so that the last test never decides.
-        is_stopped(self.local.way) || past || counted >= self.counts.capacity()
+        is_stopped(self.local.way) || past || made >= self.counts.room()
     }
 
     // Goes on up to its next exchange, where its reserve has the memory for that.
@@ -176,6 +183,7 @@ impl CountedWorker {
         ensures fewer { spec_is_stopped self.new.local.way ≡ false →
             left_at code.now bound self.new.local ≤ left code.now bound self.old.local }
         ensures reserve { self.new.reserve ≡ self.old.reserve }
+        ensures kept_rows { is_kept self.new.counts ≡ is_kept self.old.counts }
         ensures room { W.room row.new ≡ W.room row.old }
         ensures kept { W.kept row.old row.new }
     {
@@ -198,7 +206,7 @@ impl CountedWorker {
         requires going { MayGoOn code.now (M.shape map.now) bound self.old.local }
         requires workers { length (W.filled row.old) ≡ (M.shape map.now).parts }
         requires room { most_words code.now (M.shape map.now) ≤ W.room row.old }
-        requires count { length self.old.counts.items < vec_capacity self.old.counts }
+        requires count { made_of self.old.counts < room_of self.old.counts }
         requires reserve { self.old.reserve ≡ None }
         ensures full { spec_is_stopped self.new.local.way ≡ true → (states : ℕ → State) (told : ℕ → List Share) (w n : ℕ) →
             IsBetween code.now (M.shape map.now) bound states told w self.old → most_instructions code.now bound < n →
@@ -210,6 +218,7 @@ impl CountedWorker {
         ensures fewer { spec_is_stopped self.new.local.way ≡ false →
             left_at code.now bound self.new.local ≤ left code.now bound self.old.local }
         ensures reserve { self.new.reserve ≡ self.old.reserve }
+        ensures kept_rows { is_kept self.new.counts ≡ is_kept self.old.counts }
         ensures room { W.room row.new ≡ W.room row.old }
         ensures kept { W.kept row.old row.new }
     {
@@ -248,6 +257,7 @@ impl CountedWorker {
         ensures fewer { spec_is_stopped self.new.local.way ≡ false →
             left_at code.now bound self.new.local ≤ left code.now bound self.old.local }
         ensures reserve { self.new.reserve ≡ self.old.reserve }
+        ensures kept_rows { is_kept self.new.counts ≡ is_kept self.old.counts }
         ensures room { W.room row.new ≡ W.room row.old }
         ensures kept { W.kept row.old row.new }
     {
@@ -280,6 +290,7 @@ impl CountedWorker {
             (self.old.local.way ≡ way_is_one_of.Stopped mark)
             ⊎ ((spec_is_stopped self.old.local.way ≡ false) × (mark_heard (C.came column.now) ≡ mark)) }
         ensures reserve { self.new.reserve ≡ self.old.reserve }
+        ensures kept_rows { is_kept self.new.counts ≡ is_kept self.old.counts }
         ensures behind { (states : ℕ → State) (told : ℕ → List Share) (w : ℕ) (row : List WrittenMessage) →
             IsStanding code.now (M.shape map.now) bound states told w self.old row →
             IsBetween code.now (M.shape map.now) bound

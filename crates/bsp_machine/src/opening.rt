@@ -4,7 +4,7 @@ ghost use Rattle.std.specs.Prelude.{◌≡◌, ◌++◌, ◌∷◌, [], length, 
 ghost use Rattle.bsp_verify.specs.WellFormed.{IsWellFormed};
 ghost use Rattle.worker_exchange.specs.declared.refusal.RunRefusal.TheVariants as refusal_is;
 ghost use Rattle.worker_exchange.specs.Opened.{IsAccepted, IsRefusal};
-ghost use Rattle.bsp_machine.specs.Workers.{AreSheets};
+ghost use Rattle.bsp_machine.specs.Workers.{AreKept, AreSheets};
 ghost use Rattle.bsp_machine.specs.Reserves.{AreGiven};
 ghost use Rattle.bsp_machine.specs.Opening.{AreFresh};
 
@@ -26,13 +26,15 @@ fn add(all: &mut Vec<CountedWorker>, worker: CountedWorker) -> Result<(), RunRef
     }
 }
 
-/// All workers, each with the cells of its module, and without a reserve. They are judged as worker 0 is, before anything else is asked for.
+/// All workers, each with the cells of its module, and without a reserve. With `kept` each keeps what it counts at each exchange, else only
+/// how many there were. They are judged as worker 0 is, before anything else is asked for.
 pub fn open_all<M: AddressMap>(
     alloc: Global,
     code: &Code,
     map: &M,
     workers: u32,
     input: &[i64],
+    kept: bool,
 ) -> Result<Vec<CountedWorker>, RunRefusal>
     requires formed { IsWellFormed code.now }
     ensures refused { IfErr result (IsRefusal code.now (M.shape map.now) workers input.now) }
@@ -40,12 +42,13 @@ pub fn open_all<M: AddressMap>(
     ensures count { IfOk result (λ all. length all.items ≡ workers) }
     ensures opened { IfOk result (λ all. AreFresh code.now (M.shape map.now) input.now all.items) }
     ensures unreserved { IfOk result (λ all. AreGiven None all.items) }
+    ensures kept { IfOk result (λ all. AreKept kept all.items) }
 {
-    let first = CountedWorker::new(alloc, code, map, workers, 0, input)?;
+    let first = CountedWorker::new(alloc, code, map, workers, 0, input, kept)?;
     let mut all = Vec::new(alloc);
     add(&mut all, first)?;
     'workers: for worker in 1..workers {
-        let next = CountedWorker::new(alloc, code, map, workers, worker, input)?;
+        let next = CountedWorker::new(alloc, code, map, workers, worker, input, kept)?;
         add(&mut all, next)?;
     }
     Ok(all)

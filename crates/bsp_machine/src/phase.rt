@@ -1,11 +1,11 @@
 //! One exchange of all workers in turn.
 
-ghost use Rattle.std.specs.Prelude.{◌≡◌, ◌<◌, ◌≤◌, ℕ, suc, List, ℤ, length, false, Option, Some, slice_get};
+ghost use Rattle.std.specs.Prelude.{◌≡◌, ◌<◌, ◌≤◌, ℕ, suc, List, ℤ, length, Bool, false, Option, Some, slice_get};
 ghost use Rattle.superstep_machine.specs.Run.{is_over as spec_is_over};
 ghost use Rattle.worker_exchange.specs.Shown.{is_stopped, way_is};
 ghost use Rattle.worker_exchange.specs.Equipped.{most_words, left, left_at, IsRunnable};
 ghost use Rattle.bsp_machine.specs.declared.counted.CountedWorker.{CountedWorker as Counted};
-ghost use Rattle.bsp_machine.specs.Workers.{AreBehind, AreAt, AreReady, MayAllGoOn, AreTogether, AreSheets};
+ghost use Rattle.bsp_machine.specs.Workers.{AreBehind, AreAt, AreReady, MayAllGoOn, AreTogether, AreKept, AreSheets};
 ghost use Rattle.run_options.specs.declared.reserve.Reserve.{Reserve as Given};
 ghost use Rattle.bsp_machine.specs.Reserves.{HaveReserve, AreGiven};
 ghost use Rattle.bsp_machine.specs.Ended.{left_first};
@@ -39,6 +39,7 @@ fn send_all<R: WriteRule, M: AddressMap>(
     ensures fewer { (w : ℕ) (x y : Counted) → slice_get workers.old w ≡ Some x → slice_get workers.new w ≡ Some y →
         is_stopped y.local.way ≡ false → left_at code.now bound y.local ≤ left code.now bound x.local }
     ensures reserve { (reserve : Option Given) → HaveReserve reserve workers.old → HaveReserve reserve workers.new }
+    ensures kept { (kept : Bool) → AreKept kept workers.old → AreKept kept workers.new }
 {
     'workers: for w in 0..workers.len() {
         workers[w].until_exchange(code, rule, map, bound, &mut rows[w]);
@@ -70,6 +71,7 @@ fn receive_all<R: WriteRule, M: AddressMap>(
     ensures given { (reserve : Option Given) (input : List ℤ) (k : ℕ) →
         AreAt code.now (M.shape map.now) bound input k workers.old rows.now → HaveReserve reserve workers.old →
         AreGiven reserve workers.new }
+    ensures kept { (kept : Bool) → AreKept kept workers.old → AreKept kept workers.new }
 {
     'workers: for w in 0..workers.len() {
         let column = Picked { rows, worker: w };
@@ -102,6 +104,7 @@ pub(crate) fn phase<R: WriteRule, M: AddressMap>(
     // By the mark of refused memory, or by that of the reserve that they were given.
     ensures given { (reserve : Option Given) (input : List ℤ) (k : ℕ) → AreBehind code.now (M.shape map.now) bound input k workers.old →
         HaveReserve reserve workers.old → AreGiven reserve workers.new }
+    ensures kept { (kept : Bool) → AreKept kept workers.old → AreKept kept workers.new }
     ensures left { left_first code.now bound workers.new < left_first code.now bound workers.old }
 {
     let _modules = map.modules();

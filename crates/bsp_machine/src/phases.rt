@@ -1,8 +1,8 @@
 //! Exchange by exchange, up to the end of the run.
 
-ghost use Rattle.std.specs.Prelude.{◌≡◌, List, ℤ, length, Option};
+ghost use Rattle.std.specs.Prelude.{◌≡◌, List, ℤ, length, Bool, Option};
 ghost use Rattle.worker_exchange.specs.Equipped.{most_words, IsRunnable};
-ghost use Rattle.bsp_machine.specs.Workers.{AreSheets};
+ghost use Rattle.bsp_machine.specs.Workers.{AreKept, AreSheets};
 ghost use Rattle.run_options.specs.declared.reserve.Reserve.{Reserve as Given};
 ghost use Rattle.bsp_machine.specs.Reserves.{AreGiven};
 ghost use Rattle.bsp_machine.specs.Ended.{AreOnWay, AreRunning, IsFirstOver};
@@ -34,6 +34,7 @@ fn run_phases<R: WriteRule, M: AddressMap>(
         AreRunning code.now (M.shape map.now) bound input workers.new }
     ensures over { IsFirstOver workers.new }
     ensures given { (reserve : Option Given) → AreGiven reserve workers.old → AreGiven reserve workers.new }
+    ensures kept { (kept : Bool) → AreKept kept workers.old → AreKept kept workers.new }
 {
     'phases: while !is_over(&workers[0].local) {
         phase(code, rule, map, bound, workers, rows);
@@ -50,8 +51,9 @@ pub(crate) struct Phases<'a, M> {
 }
 
 impl<'a, M: AddressMap> RuleBody for Phases<'a, M> {
-    ghost use Rattle.std.specs.Prelude.{◌≡◌, List, ℤ, length, Option};
+    ghost use Rattle.std.specs.Prelude.{◌≡◌, List, ℤ, length, Bool, Option};
     ghost use Rattle.run_options.specs.declared.reserve.Reserve.{Reserve as Given};
+    ghost use Rattle.bsp_machine.specs.Workers.{AreKept};
     ghost use Rattle.bsp_machine.specs.Reserves.{AreGiven};
     ghost use Rattle.bsp_machine.specs.Ended.{AreRunning, IsFirstOver, CanRun};
 
@@ -63,7 +65,8 @@ impl<'a, M: AddressMap> RuleBody for Phases<'a, M> {
     ghost gives = { λ b rule workers. (length workers.items ≡ (M.shape b.map.now).parts)
         × ((input : List ℤ) → AreRunning b.code.now (M.shape b.map.now) b.bound input b.workers.items →
         AreRunning b.code.now (M.shape b.map.now) b.bound input workers.items) × IsFirstOver workers.items
-        × ((reserve : Option Given) → AreGiven reserve b.workers.items → AreGiven reserve workers.items) };
+        × ((reserve : Option Given) → AreGiven reserve b.workers.items → AreGiven reserve workers.items)
+        × ((kept : Bool) → AreKept kept b.workers.items → AreKept kept workers.items) };
 
     fn run<R: WriteRule>(self, rule: &R) -> Vec<CountedWorker> {
         let Phases {

@@ -1,6 +1,6 @@
 //! A whole run.
 
-ghost use Rattle.std.specs.Prelude.{◌≡◌, List, ℤ, length, Option, IfOk, IfErr};
+ghost use Rattle.std.specs.Prelude.{◌≡◌, List, ℤ, length, Bool, Option, IfOk, IfErr};
 ghost use Rattle.write_rules.specs.Verdict.{verdict_of};
 ghost use Rattle.superstep_machine.specs.Run.{IsBspOutcome};
 ghost use Rattle.superstep_machine.specs.Trace.{AreBspExchanges};
@@ -9,6 +9,7 @@ ghost use Rattle.worker_exchange.specs.Equipped.{IsRunnable};
 ghost use Rattle.worker_exchange.specs.Opened.{IsAccepted, IsRefusal};
 ghost use Rattle.run_options.specs.declared.reserve.Reserve.{Reserve as Given};
 ghost use Rattle.bsp_machine.specs.Reserves.{AreGiven};
+ghost use Rattle.bsp_machine.specs.Workers.{AreKept};
 ghost use Rattle.bsp_machine.specs.Opening.{AreOpened};
 ghost use Rattle.bsp_machine.specs.Ended.{AreRunning, IsFirstOver};
 
@@ -41,6 +42,7 @@ fn run_all<M: AddressMap>(
         AreRunning code.now (M.shape map.now) bound input ended.items) }
     ensures over { IfOk result (λ ended. IsFirstOver ended.items) }
     ensures given { IfOk result (λ ended. (reserve : Option Given) → AreGiven reserve workers.items → AreGiven reserve ended.items) }
+    ensures kept { IfOk result (λ ended. (kept : Bool) → AreKept kept workers.items → AreKept kept ended.items) }
 {
     let count = map.modules();
     let most = workers[0].local.buffers.reply.len();
@@ -72,14 +74,15 @@ fn run_code<M: AddressMap>(
     ensures outcome { IfOk result (λ found. IsBspOutcome code.now (M.shape map.now) input.now bound (verdict_of found.0)) }
     ensures counts { IfOk result (λ found. AreBspExchanges code.now (M.shape map.now) input.now bound (verdict_of found.0) found.1) }
 {
-    let opened = open_all(alloc, code, map, workers, input)?;
+    let opened = open_all(alloc, code, map, workers, input, true)?;
     let Ok(room) = EndRoom::new(alloc, code, workers) else {
         return Err(RunRefusal::OutOfMemory);
     };
-    match run_all(alloc, code, map, opened, bound) {
-        Ok(ended) => collect(code, map, ended, room),
-        Err(_) => Err(RunRefusal::OutOfMemory),
-    }
+    let Ok(ended) = run_all(alloc, code, map, opened, bound) else {
+        return Err(RunRefusal::OutOfMemory);
+    };
+    let (outcome, counts) = collect(code, map, ended, room)?;
+    Ok((outcome, counts.unwrap()))
 }
 
 /// Runs verified code on an input by so many workers, in turn on one thread, within a bound on statements: what the run comes to, and

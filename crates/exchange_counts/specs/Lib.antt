@@ -1,3 +1,4 @@
 pub mod Columns
 pub mod CountedExchanges
 pub mod CountsFields
+pub mod Tallies

@@ -4,7 +4,9 @@
 mod count;
 pub mod count_laws;
 mod counts;
+mod tally;
 
 pub use count::Count;
 pub use counts::Counts;
 pub use superstep_machine::Purpose;
+pub use tally::Tally;

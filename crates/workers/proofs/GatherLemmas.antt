@@ -27,7 +27,7 @@ use Rattle.bsp_machine.specs.declared.counted.CountedWorker.{CountedWorker}
 use Rattle.worker_exchange.specs.Rows.{WrittenMessage}
 use Rattle.run_options.specs.declared.reserve.Reserve.{Reserve}
 use Rattle.bsp_machine.specs.Reserves.{own_mark, IsMark, AreMarked, IsGiven, HaveReserve, AreGiven}
-use Rattle.bsp_machine.specs.Workers.{share_told, shares, AreTogether, IsBehind}
+use Rattle.bsp_machine.specs.Workers.{shares, IsTold, AreTogether, IsBehind}
 use Rattle.bsp_machine.specs.Ended.{AreRunning, IsFirstOver, IsFirstStopped, IsFirstUnstopped}
 use Rattle.bsp_machine.proofs.ListLemmas.{one_there}
 use Rattle.std.proofs.lemmas.Option.{slice_get_within}
@@ -179,10 +179,11 @@ module _ (code : SuperstepCode) (m : Shape) (runnable : IsRunnable code m) (boun
     shown_behind w l = subst (IsShown t w (many w l).0.local) (is_run.run.states w l) (shown_last w l)
 
     counted_behind : (w : ℕ) (l : w < m.parts) →
-        map share_told (many w l).0.counts.items ≡ shares t input w (crossings seats)
+        IsTold (many w l).0.counts (shares t input w (crossings seats))
     counted_behind w l =
-        (one w l).worked.between.counted (goes w l) n low
-        ∙ ap (shares_in_words t w (opening t input w)) (sym (received_is w (seat w l).0 (seat w l).1)) ∙ shares_are w l
+        subst (IsTold (many w l).0.counts)
+        (ap (shares_in_words t w (opening t input w)) (sym (received_is w (seat w l).0 (seat w l).1)) ∙ shares_are w l)
+        ((one w l).worked.between.counted (goes w l) n low)
 
   none_stopped : ((w : ℕ) → w < m.parts → stops w ≡ false) → AreRunning code m bound input workers
   none_stopped alive = record {

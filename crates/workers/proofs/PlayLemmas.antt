@@ -33,7 +33,7 @@ use Rattle.worker_histories.proofs.Growing.{histories_grow, shares_grow}
 use Rattle.worker_histories.proofs.Marking.{clear_grows}
 use Rattle.turnstile.specs.Seats.{RowState}
 use Rattle.bsp_machine.specs.declared.counted.CountedWorker.{CountedWorker}
-use Rattle.bsp_machine.specs.Workers.{IsBetween, IsStanding, state_behind, share_at}
+use Rattle.bsp_machine.specs.Workers.{IsBetween, IsStanding, IsTold, state_behind, share_at}
 use Rattle.run_options.specs.declared.reserve.Reserve.{Reserve}
 use Rattle.bsp_machine.specs.Reserves.{is_past, own_mark, IsMark, AreMarked}
 use Rattle.bsp_machine.proofs.MarkLemmas.{going_on, never, given_behind}
@@ -143,8 +143,9 @@ module _ (code : SuperstepCode) (m : Shape) (bound : ℕ) (states : ℕ → Stat
       shown = λ h n low. subst (IsShown (t n) w new.local)
           (ap (λ p. after (t n) w (ready (t n) w (states n)) (messages_to code.rule m w p came)) (for_it h n low)) (here.shown h n low);
       going = here.going;
-      counted = λ h n low. here.counted h n low
-          ∙ ap (λ (p : Purpose). told n ++ record { purpose = p; sent = words_in row; received = words_in came } ∷ []) (for_it h n low);
+      counted = λ h n low. subst (IsTold new.counts)
+          (ap (λ (p : Purpose). told n ++ record { purpose = p; sent = words_in row; received = words_in came } ∷ []) (for_it h n low))
+          (here.counted h n low);
       items = here.items;
       reserved = here.reserved;
     };
@@ -178,8 +179,8 @@ module _ (code : SuperstepCode) (m : Shape) (bound : ℕ) (states : ℕ → Stat
           shown = λ h n low. subst (λ cs. IsShown (t_at n) w x.local (end_by (in_words (t_at n)) w (states n) cs)) (sym columns)
               (b.shown h n low);
           going = b.going;
-          counted = λ h n low. b.counted h n low ∙ sym (append-nil (told n))
-              ∙ ap (λ cs. told n ++ shares_in_words (t_at n) w (states n) cs) (sym columns);
+          counted = λ h n low. subst (IsTold x.counts)
+              (sym (append-nil (told n)) ∙ ap (λ cs. told n ++ shares_in_words (t_at n) w (states n) cs) (sym columns)) (b.counted h n low);
           items = b.items;
           reserved = b.reserved;
         };
@@ -249,7 +250,7 @@ module _ (code : SuperstepCode) (m : Shape) (bound : ℕ) (states : ℕ → Stat
         worker = behind.between.worker;
         shown = λ h n low. subst (IsShown (t_at n) w x'.local) (end_is n) (behind.between.shown h n low);
         going = behind.between.going;
-        counted = λ h n low. behind.between.counted h n low ∙ share_is n low h;
+        counted = λ h n low. subst (IsTold x'.counts) (share_is n low h) (behind.between.counted h n low);
         items = behind.between.items;
         reserved = behind.between.reserved;
       };

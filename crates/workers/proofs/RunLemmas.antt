@@ -1,5 +1,5 @@
 -- From the seats and workers of a run to its tasks, and back.
-use Rattle.std.proofs.Common.{◌≡◌, ℕ, zero, suc, ◌+◌, ◌-◌, ◌*◌, ◌/◌, ◌^◌, ◌≤◌, List, [], ◌∷◌, length, map, Option, Some, ℤ}
+use Rattle.std.proofs.Common.{◌≡◌, ℕ, zero, suc, ◌+◌, ◌-◌, ◌*◌, ◌/◌, ◌^◌, ◌≤◌, List, [], ◌∷◌, length, map, Bool, Option, Some, ℤ}
 use Rattle.std.proofs.Common.{refl, sym, ap, ◌∙◌, subst, arith}
 use Rattle.std.specs.Prelude.{slice_get, zip}
 use Rattle.std.specs.List.{AllByRecursion}
@@ -10,14 +10,16 @@ use Rattle.superstep_instructions.specs.Limits.{IsCode}
 use Rattle.superstep_machine.specs.Run.{opening, setting}
 use Rattle.worker_exchange.specs.Equipped.{most_words}
 use Rattle.turnstile.specs.Seats.{RowState, AreSeatsOf}
+use Rattle.exchange_counts.specs.Tallies.{is_kept}
 use Rattle.bsp_machine.specs.declared.counted.CountedWorker.{CountedWorker}
 use Rattle.worker_histories.specs.Shares.{Share}
-use Rattle.bsp_machine.specs.Workers.{IsBetween, share_told}
+use Rattle.bsp_machine.specs.Workers.{AreKept, IsBetween}
 use Rattle.run_options.specs.declared.reserve.Reserve.{Reserve}
 use Rattle.bsp_machine.specs.Reserves.{HaveReserve}
 use Rattle.bsp_machine.specs.Opening.{AreFresh}
 use Rattle.bsp_machine.proofs.ListLemmas.{one_there}
 use Rattle.bsp_machine.proofs.MarkLemmas.{going_on}
+use Rattle.bsp_machine.proofs.TallyLemmas.{none_told}
 use Rattle.workers.specs.Gathered.{HasEnded, HaveEnded}
 use Rattle.workers.specs.Worked.{HasWorked}
 use Rattle.workers.specs.Crews.{Pairwise}
@@ -78,7 +80,7 @@ module _ {M : Type 0} (shape : M → Shape) (run : RunState M) (seats : List Row
         worker = λ alive. f.worker;
         shown = λ alive n low. f.shown run.bound n;
         going = λ on. f.going run.bound;
-        counted = λ alive n low. ap (map share_told) f.none;
+        counted = λ alive n low. none_told x.counts f.none f.none_made;
         items = λ alive. f.items;
         reserved = λ alive. f.reserved;
       }
@@ -180,6 +182,13 @@ module _ {M : Type 0} (shape : M → Shape) (run : RunState M) (seats : List Row
         let y = mapped_at (λ (z : RowState × CountedWorker). z.1) played k x e in
         let t = made_of k y.0 y.1 in
         ap (λ (z : CountedWorker). z.reserve) (sym y.2) ∙ t.made.reserve ∙ have k t.worker t.worker_at
+
+    -- and keeps what it counts as it did then
+    pub same_kept : (kept : Bool) → AreKept kept workers → AreKept kept (map (λ (y : RowState × CountedWorker). y.1) played)
+    same_kept kept have k x e =
+        let y = mapped_at (λ (z : RowState × CountedWorker). z.1) played k x e in
+        let t = made_of k y.0 y.1 in
+        ap (λ (z : CountedWorker). is_kept z.counts) (sym y.2) ∙ t.made.kept ∙ have k t.worker t.worker_at
 
   -- the seats of tasks that nobody began
   pub seats_unused : AreSeatsOf run.turnstile (map (λ (x : TaskState M). x.seat) (tasks_for run seats workers))

@@ -7,6 +7,7 @@ use Rattle.worker_exchange.specs.Shown.{way_is, is_stopped}
 use Rattle.worker_exchange.specs.Equipped.{most_words, IsRunnable}
 use Rattle.turnstile.specs.Seats.{TurnstileShape, RowState, AreSeatsOf, AreFresh}
 use Rattle.worker_histories.specs.Shares.{Share}
+use Rattle.exchange_counts.specs.Tallies.{is_kept}
 use Rattle.bsp_machine.specs.declared.counted.CountedWorker.{CountedWorker}
 use Rattle.bsp_machine.specs.Workers.{IsBetween}
 use Rattle.bsp_machine.specs.Opening.{AreOpened}
@@ -46,6 +47,7 @@ module _ {M : Type 0} (shape : M → Shape) where
     pub owner : SameOwner x.seat r
     pub over : is_over (way_is y.local.way) ≡ true
     pub reserve : y.reserve ≡ x.worker.reserve
+    pub kept : is_kept y.counts ≡ is_kept x.worker.counts
     pub worked : (states : ℕ → State) (told : ℕ → List Share) →
         IsBetween x.run.code (shape x.run.map) x.run.bound states told x.seat.worker x.worker →
         HasWorked x.run.code (shape x.run.map) x.run.bound states told x.seat.worker r y

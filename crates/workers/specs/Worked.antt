@@ -14,6 +14,7 @@ use Rattle.worker_histories.specs.Histories.{end_by}
 use Rattle.worker_histories.specs.Shares.{Share, purpose_of}
 use Rattle.worker_histories.specs.InWords.{in_words, IsSent, shares_in_words}
 use Rattle.worker_histories.specs.Marked.{IsMarked, StopsByMarks, HasGone}
+use Rattle.exchange_counts.specs.Tallies.{is_kept}
 use Rattle.bsp_machine.specs.declared.counted.CountedWorker.{CountedWorker}
 use Rattle.run_options.specs.declared.reserve.Reserve.{Reserve}
 use Rattle.bsp_machine.specs.Reserves.{is_past, own_mark, AreMarked, IsGiven}
@@ -70,6 +71,7 @@ module _ (code : SuperstepCode) (m : Shape) (bound : ℕ) where
     pub sent : sent_of r' ≡ sent_of r ++ row ∷ []
     pub received : received_of r' ≡ received_of r ++ column ∷ []
     pub reserve : x'.reserve ≡ x.reserve
+    pub kept : is_kept x'.counts ≡ is_kept x.counts
     pub behind : (states : ℕ → State) (told : ℕ → List Share) → IsBetween code m bound states told r.worker x →
         IsBehindExchange states told r.worker row column x'
 

@@ -1,15 +1,15 @@
 //! What workers come to that have played at the seats of a turnstile.
 
-ghost use Rattle.std.specs.Prelude.{◌≡◌, ℕ, List, ℤ, Option, Some, IfOk, IfErr};
+ghost use Rattle.std.specs.Prelude.{◌≡◌, ℕ, List, ℤ, Option, Some, true, IfOk, IfErr, IsSome};
 ghost use Rattle.write_rules.specs.Verdict.{verdict_of};
 ghost use Rattle.superstep_machine.specs.Run.{IsBspOutcome};
-ghost use Rattle.superstep_machine.specs.Trace.{AreBspExchanges};
 ghost use Rattle.turnstile.specs.Seats.{AreSeatsOf};
 ghost use Rattle.worker_exchange.specs.Equipped.{IsRunnable};
 ghost use Rattle.run_options.specs.declared.reserve.Reserve.{Reserve as Given};
 ghost use Rattle.bsp_machine.specs.Reserves.{HaveReserve, refusal_for};
+ghost use Rattle.bsp_machine.specs.Workers.{AreKept};
 ghost use Rattle.bsp_machine.specs.Opening.{IsRoom};
-ghost use Rattle.bsp_machine.specs.Ended.{IsFirstStopped};
+ghost use Rattle.bsp_machine.specs.Ended.{AreExchanges, IsFirstStopped};
 ghost use Rattle.workers.specs.Gathered.{HaveEnded, HaveEndedSome, NoneHasStopped};
 ghost use Rattle.workers.specs.Past.{ComesPast};
 
@@ -21,7 +21,7 @@ use turnstile::{RowSeat, Turnstile};
 use write_rules::Outcome;
 
 /// What the workers of one run come to, in their order, each with the seat at which it has played its part, and the exchanges that
-/// they counted. It closes the turnstile in any case, and takes no memory. An error comes only where the workers have stopped, all of them at
+/// they counted, if each has kept those. It closes the turnstile in any case, and takes no memory. An error comes only where the workers have stopped, all of them at
 /// one exchange: `OutOfReserve` where they came past the reserve that they were given, `OutOfMemory` where memory was refused to one.
 pub fn gather<M: AddressMap>(
     code: &Code,
@@ -30,7 +30,7 @@ pub fn gather<M: AddressMap>(
     seats: Vec<RowSeat>,
     workers: Vec<CountedWorker>,
     room: EndRoom,
-) -> Result<(Outcome, Counts), RunRefusal>
+) -> Result<(Outcome, Option<Counts>), RunRefusal>
     requires runnable { IsRunnable code.now (M.shape map.now) }
     requires seats { AreSeatsOf turnstile seats.items }
     requires ended { HaveEndedSome code.now (M.shape map.now) seats.items workers.items }
@@ -51,7 +51,8 @@ pub fn gather<M: AddressMap>(
         IsBspOutcome code.now (M.shape map.now) input bound (verdict_of found.0)) }
     ensures counts { IfOk result (λ found. (bound : ℕ) (input : List ℤ) →
         HaveEnded code.now (M.shape map.now) bound input seats.items workers.items →
-        AreBspExchanges code.now (M.shape map.now) input bound (verdict_of found.0) found.1) }
+        AreExchanges code.now (M.shape map.now) input bound (verdict_of found.0) found.1) }
+    ensures kept { AreKept true workers.items → IfOk result (λ found. IsSome found.1) }
 {
     turnstile.close(seats);
     collect(code, map, workers, room)

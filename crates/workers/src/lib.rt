@@ -22,4 +22,4 @@ pub use gates::{Gate, OpenGate};
 pub use gathering::gather;
 pub use hands::{ColumnHand, RowHand};
 pub use play::work;
-pub use run::{run_on_terms, run_reserved, run_workers};
+pub use run::{run_keeping, run_on_terms, run_reserved, run_workers};

@@ -4,6 +4,7 @@ ghost use Rattle.std.specs.Prelude.{◌≡◌, ◌+◌, ◌^◌, ◌<◌, ℕ, L
 ghost use Rattle.superstep_machine.specs.Run.{State, is_over as spec_is_over};
 ghost use Rattle.worker_exchange.specs.Shown.{is_stopped, way_is};
 ghost use Rattle.worker_exchange.specs.Equipped.{left, IsRunnable, MayGoOn};
+ghost use Rattle.exchange_counts.specs.Tallies.{is_kept};
 ghost use Rattle.worker_histories.specs.Shares.{Share};
 ghost use Rattle.bsp_machine.specs.Workers.{IsBetween};
 ghost use Rattle.workers.specs.Seating.{SameOwner};
@@ -73,6 +74,7 @@ pub fn work<R: Wait, W: WriteRule, M: AddressMap, G: Gate>(
     ensures owner { SameOwner seat result.0 }
     ensures over { spec_is_over (way_is result.1.local.way) ≡ true }
     ensures reserve { result.1.reserve ≡ worker.reserve }
+    ensures kept { is_kept result.1.counts ≡ is_kept worker.counts }
     // Whatever states it showed, within any number of instructions that is enough.
     ensures worked { (states : ℕ → State) (told : ℕ → List Share) →
         IsBetween code.now (M.shape map.now) bound states told seat.worker worker →

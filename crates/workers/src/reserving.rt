@@ -1,11 +1,12 @@
 //! The reserve of all workers of a run.
 
-ghost use Rattle.std.specs.Prelude.{◌≡◌, List, ℤ, length, Some, None, IfOk, IfErr, OnOk};
+ghost use Rattle.std.specs.Prelude.{◌≡◌, List, ℤ, Bool, length, Some, None, IfOk, IfErr, OnOk};
 ghost use Rattle.address_map.specs.Lawful.{Shape};
 ghost use Rattle.superstep_instructions.specs.Code.{SuperstepCode};
 ghost use Rattle.bsp_verify.specs.WellFormed.{IsWellFormed};
 ghost use Rattle.worker_exchange.specs.Opened.{IsAccepted, IsRefusal};
 ghost use Rattle.bsp_machine.specs.Reserves.{HaveReserve};
+ghost use Rattle.bsp_machine.specs.Workers.{AreKept};
 ghost use Rattle.bsp_machine.specs.Opening.{AreFresh};
 
 use address_map::AddressMap;
@@ -20,6 +21,7 @@ fn reserve_each(workers: &mut Vec<CountedWorker>, reserve: Reserve) -> Result<()
     ensures given { OnOk result (HaveReserve (Some reserve) workers.new.items) }
     ensures fresh { OnOk result ((code : SuperstepCode) (m : Shape) (input : List ℤ) → AreFresh code m input workers.old.items →
         AreFresh code m input workers.new.items) }
+    ensures kept { OnOk result ((kept : Bool) → AreKept kept workers.old.items → AreKept kept workers.new.items) }
 {
     'workers: for w in 0..workers.len() {
         workers[w].reserve(reserve)?;
@@ -34,6 +36,7 @@ fn reserve_all(workers: &mut Vec<CountedWorker>, reserve: Option<Reserve>) -> Re
     ensures given { OnOk result (HaveReserve reserve workers.new.items) }
     ensures fresh { OnOk result ((code : SuperstepCode) (m : Shape) (input : List ℤ) → AreFresh code m input workers.old.items →
         AreFresh code m input workers.new.items) }
+    ensures kept { OnOk result ((kept : Bool) → AreKept kept workers.old.items → AreKept kept workers.new.items) }
 {
     match reserve {
         None => Ok(()),
@@ -42,7 +45,7 @@ fn reserve_all(workers: &mut Vec<CountedWorker>, reserve: Option<Reserve>) -> Re
 }
 
 /// All workers of a run before the first instruction, each with the reserve, if there is one: it has taken all the memory of its run then.
-/// Refused as the run is.
+/// With `kept` each keeps what it counts at each exchange, else only how many there were. Refused as the run is.
 pub(crate) fn open_reserved<M: AddressMap>(
     alloc: Global,
     code: &Code,
@@ -50,6 +53,7 @@ pub(crate) fn open_reserved<M: AddressMap>(
     workers: u32,
     input: &[i64],
     reserve: Option<Reserve>,
+    kept: bool,
 ) -> Result<Vec<CountedWorker>, RunRefusal>
     requires formed { IsWellFormed code.now }
     ensures refused { IfErr result (IsRefusal code.now (M.shape map.now) workers input.now) }
@@ -57,8 +61,9 @@ pub(crate) fn open_reserved<M: AddressMap>(
     ensures count { IfOk result (λ all. length all.items ≡ workers) }
     ensures opened { IfOk result (λ all. AreFresh code.now (M.shape map.now) input.now all.items) }
     ensures given { IfOk result (λ all. HaveReserve reserve all.items) }
+    ensures kept { IfOk result (λ all. AreKept kept all.items) }
 {
-    let mut opened = open_all(alloc, code, map, workers, input)?;
+    let mut opened = open_all(alloc, code, map, workers, input, kept)?;
     match reserve_all(&mut opened, reserve) {
         Ok(()) => Ok(opened),
         Err(_) => Err(RunRefusal::OutOfMemory),

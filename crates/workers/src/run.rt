@@ -1,6 +1,6 @@
 //! A run by workers in threads.
 
-ghost use Rattle.std.specs.Prelude.{◌≡◌, List, ℤ, Option, length, IfOk, IfErr, IfSome};
+ghost use Rattle.std.specs.Prelude.{◌≡◌, List, ℤ, Bool, true, Option, length, IfOk, IfErr, IfSome, IsSome};
 ghost use Rattle.write_rules.specs.Verdict.{verdict_of};
 ghost use Rattle.superstep_machine.specs.Run.{IsBspOutcome};
 ghost use Rattle.superstep_machine.specs.Trace.{AreBspExchanges};
@@ -9,7 +9,9 @@ ghost use Rattle.worker_exchange.specs.Opened.{IsAccepted, IsRefusal};
 ghost use Rattle.turnstile.specs.Seats.{AreSeatsOf};
 ghost use Rattle.run_options.specs.declared.reserve.Reserve.{Reserve as Given};
 ghost use Rattle.bsp_machine.specs.Reserves.{HaveReserve};
+ghost use Rattle.bsp_machine.specs.Workers.{AreKept};
 ghost use Rattle.bsp_machine.specs.Opening.{AreFresh};
+ghost use Rattle.bsp_machine.specs.Ended.{AreExchanges};
 ghost use Rattle.workers.specs.Gathered.{HaveEnded};
 ghost use Rattle.workers.specs.Tasks.{CanBegin};
 ghost use Rattle.workers.specs.Past.{ComesPast, IsReservedRefusal, IsRefusalWith, StaysWithin};
@@ -52,6 +54,7 @@ fn play_all<'a, R: Threads + Wait + Sync, M: AddressMap + Sync, G: Gate + Sync>(
         HaveEnded code.entry.now (M.shape map.entry.now) bound input result.0.items ended.items) }
     ensures reserve { IfSome result.1 (λ ended. (reserve : Option Given) → HaveReserve reserve workers.items →
         HaveReserve reserve ended.items) }
+    ensures kept { IfSome result.1 (λ ended. (kept : Bool) → AreKept kept workers.items → AreKept kept ended.items) }
 {
     let RunRoom {
         crew,
@@ -69,7 +72,7 @@ fn play_all<'a, R: Threads + Wait + Sync, M: AddressMap + Sync, G: Gate + Sync>(
     }
 }
 
-// A run of well-formed code, by workers with a reserve or without.
+// A run of well-formed code, by workers with a reserve or without. With `kept` it answers the exchanges too.
 fn run_code<R: Threads + Wait + Sync, M: AddressMap + Sync, G: Gate + Sync>(
     rt: &R,
     alloc: Global,
@@ -77,17 +80,19 @@ fn run_code<R: Threads + Wait + Sync, M: AddressMap + Sync, G: Gate + Sync>(
     map: &M,
     input: &[i64],
     terms: Terms,
+    kept: bool,
     gate: &G,
-) -> Result<(Outcome, Counts), RunRefusal>
+) -> Result<(Outcome, Option<Counts>), RunRefusal>
     requires formed { IsWellFormed code.now }
     ensures refused { IfErr result (IsRefusalWith code.now (M.shape map.now) terms.workers input.now terms.bound terms.reserve) }
     ensures accepted { IfOk result (λ found. IsAccepted code.now (M.shape map.now) terms.workers input.now) }
     ensures within { IfOk result (λ found. StaysWithin code.now (M.shape map.now) terms.bound input.now terms.reserve) }
     ensures outcome { IfOk result (λ found. IsBspOutcome code.now (M.shape map.now) input.now terms.bound (verdict_of found.0)) }
-    ensures counts { IfOk result (λ found. AreBspExchanges code.now (M.shape map.now) input.now terms.bound (verdict_of found.0) found.1) }
+    ensures counts { IfOk result (λ found. AreExchanges code.now (M.shape map.now) input.now terms.bound (verdict_of found.0) found.1) }
+    ensures kept { kept ≡ true → IfOk result (λ found. IsSome found.1) }
 {
     let _instructions = code.instructions();
-    let opened = open_reserved(alloc, code, map, terms.workers, input, terms.reserve)?;
+    let opened = open_reserved(alloc, code, map, terms.workers, input, terms.reserve, kept)?;
     let Ok(end_room) = EndRoom::new(alloc, code, terms.workers) else {
         return Err(RunRefusal::OutOfMemory);
     };
@@ -119,6 +124,31 @@ fn run_code<R: Threads + Wait + Sync, M: AddressMap + Sync, G: Gate + Sync>(
     }
 }
 
+/// Runs verified code on an input, on such terms: what it comes to, and its exchanges where they are to be kept. For those each worker
+/// keeps 24 bytes of each exchange; without, how many there were, and then a run takes memory for its output alone beside what the workers
+/// have before the first instruction.
+pub fn run_keeping<R: Threads + Wait + Sync, M: AddressMap + Sync, G: Gate + Sync>(
+    rt: &R,
+    alloc: Global,
+    verified: &Verified,
+    map: &M,
+    input: &[i64],
+    terms: Terms,
+    kept: bool,
+    gate: &G,
+) -> Result<(Outcome, Option<Counts>), RunRefusal>
+    ensures refused { IfErr result (IsRefusalWith verified.now (M.shape map.now) terms.workers input.now terms.bound terms.reserve) }
+    ensures accepted { IfOk result (λ found. IsAccepted verified.now (M.shape map.now) terms.workers input.now) }
+    ensures within { IfOk result (λ found. StaysWithin verified.now (M.shape map.now) terms.bound input.now terms.reserve) }
+    ensures outcome { IfOk result (λ found. IsBspOutcome verified.now (M.shape map.now) input.now terms.bound (verdict_of found.0)) }
+    // The run has exchanges, and these are they if they are answered: as they are where they are to be kept.
+    ensures counts { IfOk result (λ found. AreExchanges verified.now (M.shape map.now) input.now terms.bound (verdict_of found.0) found.1) }
+    ensures kept { kept ≡ true → IfOk result (λ found. IsSome found.1) }
+{
+    let code = verified.code();
+    run_code(rt, alloc, code, map, input, terms, kept, gate)
+}
+
 /// Runs verified code on an input, on such terms: as `run_reserved` where they have a reserve, else as `run_workers`.
 pub fn run_on_terms<R: Threads + Wait + Sync, M: AddressMap + Sync, G: Gate + Sync>(
     rt: &R,
@@ -135,8 +165,8 @@ pub fn run_on_terms<R: Threads + Wait + Sync, M: AddressMap + Sync, G: Gate + Sy
     ensures outcome { IfOk result (λ found. IsBspOutcome verified.now (M.shape map.now) input.now terms.bound (verdict_of found.0)) }
     ensures counts { IfOk result (λ found. AreBspExchanges verified.now (M.shape map.now) input.now terms.bound (verdict_of found.0) found.1) }
 {
-    let code = verified.code();
-    run_code(rt, alloc, code, map, input, terms, gate)
+    let (outcome, counts) = run_keeping(rt, alloc, verified, map, input, terms, true, gate)?;
+    Ok((outcome, counts.unwrap()))
 }
 
 /// Runs verified code on an input by so many workers, within a bound on statements: what the run comes to, and its exchanges with the words

@@ -1,11 +1,10 @@
-use Rattle.std.proofs.Common.{◌≡◌, ◌<◌, ◌≤◌, suc, length, vec_capacity, Some, sym, ap, ◌∙◌, subst, arith}
+use Rattle.std.proofs.Common.{◌≡◌, ◌<◌, ◌≤◌, suc, length, vec_capacity, true, Some, sym, ap, ◌∙◌, subst, arith}
 use Rattle.pram_model.specs.Layout.{total_size}
 use Rattle.write_rules.specs.Verdict.{verdict_of}
 use Rattle.superstep_machine.specs.Run.{verdict_by}
 use Rattle.worker_exchange.specs.Reached.{most_instructions}
 use Rattle.worker_exchange.specs.Shown.{way_is, is_stopped}
 use Rattle.exchange_counts.specs.Columns.{AreColumns}
-use Rattle.exchange_counts.specs.CountedExchanges.{exchanges_told}
 use Rattle.bsp_machine.specs.declared.counted.CountedWorker.{CountedWorker}
 use Rattle.bsp_machine.specs.Ended.{memory_of, verdict_in}
 use Rattle.bsp_machine.specs.Reserves.{refusal_by}
@@ -14,7 +13,7 @@ use Rattle.bsp_machine.proofs.ListLemmas.{one_there}
 use Rattle.std.proofs.lemmas.Option.{slice_get-get_or}
 use Rattle.worker_histories.proofs.Marking.{there}
 use Rattle.bsp_machine.proofs.SwapLemmas as swap
-use Rattle.bsp_machine.proofs.OutcomeLemmas.{told_alive, none_told, wide, columns_long, outcome_ends, exchanges_end}
+use Rattle.bsp_machine.proofs.OutcomeLemmas.{told_alive, none_told, wide, columns_long, outcome_ends, exchanges_found}
 use Rattle.bsp_machine.proofs.collecting.collect.Goals as goal
 
 pub outcome-requires-clause-wide : goal.outcome-requires-clause-wide
@@ -67,8 +66,8 @@ returns-in_default-clause-given g c = λ reserve given.
     returns-in_default-clause-refused g c x.0 x.1
     ∙ refusal_at x.0.local.way reserve (given 0 x.0 x.1).stopped (returns-in_default-clause-stopped g c x.0 x.1)
 
-pub of_columns-requires : goal.of_columns-requires
-of_columns-requires g c =
+pub counts_in-requires-clause-columns : goal.counts_in-requires-clause-columns
+counts_in-requires-clause-columns g c = λ kept.
     let code = c.args.code.now in
     let m = g.M.AddressMap.shape c.args.map.now in
     let all = c.args.workers.items in
@@ -82,9 +81,17 @@ of_columns-requires g c =
     let alive = told_alive x.0.local.way x.0.local.steps.uniform.output.items (memory_of code m c.as_slice.result.now)
     (verdict_of c.in-Some.found) told in
     let r = c.requires.run in
-    subst AreColumns
-    (sym (c.take_columns.ensures ∙ swap.counts_is all c.take_items.new.workers.items x.0 c.args.room.items x.1 gone))
-    (columns_long code m c.requires.runnable.map r.bound r.running.input all many r.running.running x.0 x.1 alive)
+    let others = c.take_items.new.workers.items in
+    subst AreColumns (sym (swap.counts_is all others x.0 c.args.room.items x.1 gone))
+    (columns_long code m c.requires.runnable.map r.bound r.running.input all many r.running.running x.0 x.1 alive
+    (swap.kept_was all others x.0 c.args.room.items x.1 gone true kept))
+
+pub returns-clause-kept : goal.returns-clause-kept
+returns-clause-kept g c = λ kept.
+    let all = c.args.workers.items in
+    let x = there all 0 (let some = c.requires.runnable.map.lawful.one in let many = c.requires.workers in omega (arith, some, many)) in
+    c.counts_in.ensures.all
+    (swap.kept_is all c.take_items.new.workers.items x.0 c.args.room.items x.1 (c.take_items.ensures.left x.0 x.1) true kept)
 
 pub returns-clause-unstopped : goal.returns-clause-unstopped
 returns-clause-unstopped g c = λ x here.
@@ -139,14 +146,7 @@ returns-clause-counts g c = λ bound input run.
     (swap.memory_is all c.as_slice.result.now x.0 c.args.room.items x.1 left code m) in
     let alive = told_alive x.0.local.way x.0.local.steps.uniform.output.items (memory_of code m all) (verdict_of found) told in
     let below : total_size code.layout < suc m.count = omega (arith, room) in
-    record {
-      enough = suc (most_instructions code bound);
-      most = suc run.exchanges;
-      ends = outcome_ends code m c.requires.runnable.map bound input all many run x.0 x.1 alive (c.requires.over x.0 x.1)
-          (verdict_of found) told below;
-      told = exchanges_end code m c.requires.runnable.map bound input all many run x.0 x.1 alive (c.requires.over x.0 x.1)
-          (verdict_of found) told below
-          ∙ ap exchanges_told
-          (sym (c.take_columns.ensures ∙ swap.counts_is all c.take_items.new.workers.items x.0 c.args.room.items x.1 gone))
-          ∙ sym c.of_columns.ensures.told;
-    }
+    let others = c.take_items.new.workers.items in
+    exchanges_found code m c.requires.runnable.map bound input all many run x.0 x.1 alive (c.requires.over x.0 x.1) (verdict_of found) told below
+    others (swap.kept_was all others x.0 c.args.room.items x.1 gone true) (swap.counts_is all others x.0 c.args.room.items x.1 gone)
+    c.counts_in.result c.counts_in.ensures.told

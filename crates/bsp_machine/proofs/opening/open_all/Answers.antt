@@ -1,6 +1,6 @@
 use Rattle.std.proofs.Common.{◌≡◌, ap, arith, length, None}
 use Rattle.std.proofs.lemmas.Option.{slice_get_within}
-use Rattle.bsp_machine.proofs.OpeningLemmas.{more_fresh, more_long, more_unreserved, fresh_given}
+use Rattle.bsp_machine.proofs.OpeningLemmas.{more_fresh, more_long, more_unreserved, more_kept, fresh_given}
 use Rattle.bsp_machine.proofs.opening.open_all.Goals as goal
 
 pub workers-init : goal.workers-init
@@ -14,6 +14,8 @@ workers-init g c =
           none (λ w x at. absurd (let l = slice_get_within c.new-all.result.items w x at in omega (arith, none, l))) c.in_ok-first.ensures.fresh;
       none = more_unreserved first c.new-all.result.items c.add.new.all.items c.in_ok-add.ensures.added
           (λ w x at. absurd (let l = slice_get_within c.new-all.result.items w x at in omega (arith, none, l))) c.in_ok-first.ensures.unreserved;
+      kept = more_kept c.args.kept first c.new-all.result.items c.add.new.all.items c.in_ok-add.ensures.added
+          (λ w x at. absurd (let l = slice_get_within c.new-all.result.items w x at in omega (arith, none, l))) c.in_ok-first.ensures.kept;
     }
 
 pub workers-preserved : goal.workers-preserved
@@ -28,6 +30,8 @@ workers-preserved g c =
           c.in_ok-add-2.ensures.added i.count i.fresh c.in_ok-next.ensures.fresh;
       none = more_unreserved next c.workers.all.items c.add-in-workers.new.all.items c.in_ok-add-2.ensures.added i.none
           c.in_ok-next.ensures.unreserved;
+      kept = more_kept c.args.kept next c.workers.all.items c.add-in-workers.new.all.items c.in_ok-add-2.ensures.added i.kept
+          c.in_ok-next.ensures.kept;
     }
 
 pub returns-clause-unreserved : goal.returns-clause-unreserved

@@ -40,3 +40,6 @@ returns-clause-together g c = λ input k before. c.receive_all.ensures.together 
 pub returns-clause-given : goal.returns-clause-given
 returns-clause-given g c = λ reserve input k before all.
     c.receive_all.ensures.given reserve input k (c.send_all.ensures.at input k before) (c.send_all.ensures.reserve reserve all)
+
+pub returns-clause-kept : goal.returns-clause-kept
+returns-clause-kept g c = λ kept all. c.receive_all.ensures.kept kept (c.send_all.ensures.kept kept all)

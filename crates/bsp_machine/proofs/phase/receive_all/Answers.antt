@@ -6,6 +6,7 @@ use Rattle.bsp_verify.specs.Runs.{worker_after}
 use Rattle.worker_exchange.specs.Shown.{way_is, is_stopped}
 use Rattle.worker_exchange.specs.Equipped.{most_words, left, left_at}
 use Rattle.worker_exchange.specs.Received.{is_marked, mark_heard}
+use Rattle.exchange_counts.specs.Tallies.{is_kept}
 use Rattle.bsp_machine.specs.declared.counted.CountedWorker.{CountedWorker}
 use Rattle.bsp_machine.specs.Sheets.{messages_in, picked}
 use Rattle.bsp_machine.specs.Workers.{shares, AreAt, IsBehind}
@@ -80,6 +81,9 @@ workers-preserved g c =
           (λ below. given_behind reserve y x' (picked w rows) (all w y before) (at w y row.0 before row.1).refused
           (marked_by_own code m bound input k olds rows at many long reserve all w within) e.reserve e.stopped e.mark)
           (λ v x n there below. i.given reserve input k at all v x (omega (arith, n, below)) there) v x there below;
+      kept = λ kept all v x below at.
+          set_each xs w x' (λ v x. v < w + 1 → is_kept x.counts ≡ kept) lt (λ below. e.kept_rows ∙ all w y before)
+          (λ v x n at below. i.kept kept all v x (omega (arith, n, below)) at) v x at below;
     }
 
 pub returns-clause-given : goal.returns-clause-given
@@ -108,3 +112,9 @@ returns-clause-left g c = λ w x y was there.
     let l = slice_get_within c.workers.workers w y there in
     let stop = c.workers-test.false in
     c.workers.invariant.left w x y (omega (arith, l, stop)) was there
+
+pub returns-clause-kept : goal.returns-clause-kept
+returns-clause-kept g c = λ kept all w x at.
+    let l = slice_get_within c.workers.workers w x at in
+    let stop = c.workers-test.false in
+    c.workers.invariant.kept kept all w x (omega (arith, l, stop)) at

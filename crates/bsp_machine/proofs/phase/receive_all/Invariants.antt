@@ -1,12 +1,13 @@
-use Rattle.std.proofs.Common.{◌≡◌, ℕ, suc, ◌<◌, ◌≤◌, List, ℤ, length, Option, Some, false}
+use Rattle.std.proofs.Common.{◌≡◌, ℕ, suc, ◌<◌, ◌≤◌, List, ℤ, length, Option, Some, Bool, false}
 use Rattle.std.specs.Prelude.{slice_get}
 use Rattle.superstep_machine.specs.Run.{is_over}
 use Rattle.worker_exchange.specs.Shown.{is_stopped, way_is}
 use Rattle.worker_exchange.specs.Equipped.{left, left_at}
+use Rattle.exchange_counts.specs.Tallies.{is_kept}
 use Rattle.bsp_machine.specs.declared.counted.CountedWorker.{CountedWorker}
 use Rattle.run_options.specs.declared.reserve.Reserve.{Reserve}
 use Rattle.bsp_machine.specs.Reserves.{HaveReserve, IsGiven}
-use Rattle.bsp_machine.specs.Workers.{AreAt, IsBehind}
+use Rattle.bsp_machine.specs.Workers.{AreKept, AreAt, IsBehind}
 use Rattle.bsp_machine.proofs.MarkLemmas.{any_stopped}
 use Rattle.bsp_machine.proofs.phase.receive_all.Given as goal
 
@@ -25,4 +26,6 @@ invariant-workers g l = record {
   given : (reserve : Option Reserve) (input : List ℤ) (k : ℕ) →
       AreAt l.code (g.M.AddressMap.shape l.map) l.bound input k l.fn.workers l.rows → HaveReserve reserve l.fn.workers →
       (v : ℕ) (x : CountedWorker) → v < l.w → slice_get l.workers v ≡ Some x → IsGiven reserve x;
+  kept : (kept : Bool) → AreKept kept l.fn.workers → (v : ℕ) (x : CountedWorker) → v < l.w → slice_get l.workers v ≡ Some x →
+      is_kept x.counts ≡ kept;
 }

@@ -5,6 +5,7 @@ use Rattle.superstep_machine.specs.Run.{setting}
 use Rattle.bsp_verify.specs.Runs.{worker_after}
 use Rattle.worker_exchange.specs.Shown.{is_stopped}
 use Rattle.worker_exchange.specs.Equipped.{most_words, left, left_at}
+use Rattle.exchange_counts.specs.Tallies.{is_kept}
 use Rattle.bsp_machine.specs.declared.counted.CountedWorker.{CountedWorker}
 use Rattle.bsp_machine.specs.declared.sheet.Sheet.{Sheet}
 use Rattle.bsp_machine.specs.Sheets.{messages_in, IsSheet}
@@ -97,6 +98,9 @@ workers-preserved g c =
       reserve = λ reserve all v x below at.
           set_each xs w x' (λ v x. v < w + 1 → x.reserve ≡ reserve) lt (λ below. e.reserve ∙ all w y before)
           (λ v x n at below. i.reserve reserve all v x (omega (arith, n, below)) at) v x at below;
+      kept = λ kept all v x below at.
+          set_each xs w x' (λ v x. v < w + 1 → is_kept x.counts ≡ kept) lt (λ below. e.kept_rows ∙ all w y before)
+          (λ v x n at below. i.kept kept all v x (omega (arith, n, below)) at) v x at below;
     }
 
 pub returns-clause-reserve : goal.returns-clause-reserve
@@ -126,3 +130,9 @@ returns-clause-fewer g c = λ w x y was at.
     let l = slice_get_within c.workers.workers w y at in
     let stop = c.workers-test.false in
     i.fewer w x y (omega (arith, l, stop)) was at
+
+pub returns-clause-kept : goal.returns-clause-kept
+returns-clause-kept g c = λ kept all w x at.
+    let l = slice_get_within c.workers.workers w x at in
+    let stop = c.workers-test.false in
+    c.workers.invariant.kept kept all w x (omega (arith, l, stop)) at

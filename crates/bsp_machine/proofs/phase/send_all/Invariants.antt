@@ -1,13 +1,14 @@
-use Rattle.std.proofs.Common.{◌≡◌, ℕ, ◌<◌, ◌≤◌, List, ℤ, length, Option, Some, false}
+use Rattle.std.proofs.Common.{◌≡◌, ℕ, ◌<◌, ◌≤◌, List, ℤ, length, Option, Some, Bool, false}
 use Rattle.std.specs.Prelude.{slice_get}
 use Rattle.worker_exchange.specs.Shown.{is_stopped}
 use Rattle.worker_exchange.specs.Equipped.{most_words, left, left_at}
+use Rattle.exchange_counts.specs.Tallies.{is_kept}
 use Rattle.bsp_machine.specs.declared.counted.CountedWorker.{CountedWorker}
 use Rattle.bsp_machine.specs.declared.sheet.Sheet.{Sheet}
 use Rattle.bsp_machine.specs.Sheets.{messages_in}
 use Rattle.run_options.specs.declared.reserve.Reserve.{Reserve}
 use Rattle.bsp_machine.specs.Reserves.{HaveReserve}
-use Rattle.bsp_machine.specs.Workers.{AreSheets, AreBehind, IsAt, IsReady}
+use Rattle.bsp_machine.specs.Workers.{AreKept, AreSheets, AreBehind, IsAt, IsReady}
 use Rattle.bsp_machine.proofs.phase.send_all.Given as goal
 
 abbrev pub invariant-workers : goal.invariant-workers
@@ -24,4 +25,6 @@ invariant-workers g l = record {
       is_stopped y.local.way ≡ false → left_at l.code l.bound y.local ≤ left l.code l.bound x.local;
   reserve : (reserve : Option Reserve) → HaveReserve reserve l.fn.workers → (v : ℕ) (x : CountedWorker) → v < l.w →
       slice_get l.workers v ≡ Some x → x.reserve ≡ reserve;
+  kept : (kept : Bool) → AreKept kept l.fn.workers → (v : ℕ) (x : CountedWorker) → v < l.w → slice_get l.workers v ≡ Some x →
+      is_kept x.counts ≡ kept;
 }

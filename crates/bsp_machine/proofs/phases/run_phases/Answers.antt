@@ -43,4 +43,5 @@ phases-preserved g c =
           let input = c.requires.opened.input in
           let run = i.running input c.requires.opened.running in
           e.given reserve input run.exchanges run.behind (λ w x at. (i.given reserve was w x at).given);
+      kept = λ kept was. e.kept kept (i.kept kept was);
     }

@@ -1,6 +1,6 @@
-use Rattle.std.proofs.Common.{◌≡◌, List, ℤ, length, Option}
+use Rattle.std.proofs.Common.{◌≡◌, List, ℤ, length, Bool, Option}
 use Rattle.worker_exchange.specs.Equipped.{most_words}
-use Rattle.bsp_machine.specs.Workers.{AreSheets}
+use Rattle.bsp_machine.specs.Workers.{AreKept, AreSheets}
 use Rattle.run_options.specs.declared.reserve.Reserve.{Reserve}
 use Rattle.bsp_machine.specs.Reserves.{AreGiven}
 use Rattle.bsp_machine.specs.Ended.{AreRunning, left_first}
@@ -16,4 +16,5 @@ invariant-phases g l = record {
   running : (input : List ℤ) → AreRunning l.code (g.M.AddressMap.shape l.map) l.bound input l.fn.workers →
       AreRunning l.code (g.M.AddressMap.shape l.map) l.bound input l.workers;
   given : (reserve : Option Reserve) → AreGiven reserve l.fn.workers → AreGiven reserve l.workers;
+  kept : (kept : Bool) → AreKept kept l.fn.workers → AreKept kept l.workers;
 }

@@ -20,6 +20,7 @@ returns-clause-exchanged g c =
       received = received_more a mid c.cross.result c.of-column.result.seat c.turn.result kept c.cross.ensures.received is
           c.turn.ensures.received;
       reserve = c.receive.ensures.reserve ∙ c.until_exchange.ensures.reserve;
+      kept = c.receive.ensures.kept_rows ∙ c.until_exchange.ensures.kept_rows;
       behind = λ states told b.
           let at = c.until_exchange.ensures.at states told a.worker b in
           behind_exchange code m c.args.bound states told a.worker c.until_exchange.new.self c.receive.new.self (letters mid.row)

@@ -13,6 +13,7 @@ exchanges-init g c =
     record {
       owner = record { table = refl; worker = refl; workers = refl; room = refl };
       reserve = refl;
+      kept = refl;
       few = omega (arith, none);
       worked = λ states told b. none_yet c.args.code.now (g.M.AddressMap.shape c.args.map.now) c.args.bound states told c.args.seat.worker
           c.args.seat c.args.worker c.requires.fresh.0 c.requires.fresh.1 c.requires.runs b;
@@ -54,6 +55,7 @@ exchanges-preserved g c =
         room = e.owner.room ∙ i.owner.room;
       };
       reserve = e.exchanged.reserve ∙ i.reserve;
+      kept = e.exchanged.kept ∙ i.kept;
       few =
           (let few = i.few in
           let less = exchanges-smaller g c in

@@ -1,5 +1,6 @@
 use Rattle.std.proofs.Common.{◌≡◌, ◌<◌, ◌≤◌, ◌+◌, Some, length, length-set, sym, ap, ◌∙◌, arith}
 use Rattle.std.specs.Prelude.{slice_get}
+use Rattle.exchange_counts.specs.Tallies.{is_kept}
 use Rattle.bsp_machine.specs.Opening.{IsFresh}
 use Rattle.bsp_machine.proofs.ListLemmas.{get_other, set_each}
 use Rattle.std.proofs.lemmas.Option.{slice_get-get_or, slice_get_within}
@@ -26,6 +27,10 @@ workers-preserved c =
           set_each xs w x' (λ v x. v < w + 1 → IsFresh code m input v x) lt
           (λ below. e.fresh code m input w (all w y (sym (i.later w (omega arith)) ∙ here)))
           (λ v x n at below. i.fresh code m input all v x (omega (arith, n, below)) at) v x at below;
+      kept = λ kept all v x below at.
+          set_each xs w x' (λ v x. v < w + 1 → is_kept x.counts ≡ kept) lt
+          (λ below. e.kept ∙ all w y (sym (i.later w (omega arith)) ∙ here))
+          (λ v x n at below. i.kept kept all v x (omega (arith, n, below)) at) v x at below;
     }
 
 pub returns-clause-given : goal.returns-clause-given
@@ -41,3 +46,10 @@ returns-clause-fresh c = λ code m input all w x at.
     let l = slice_get_within c.workers.workers.items w x at in
     let stop = c.workers-test.false in
     i.fresh code m input all w x (omega (arith, l, stop)) at
+
+pub returns-clause-kept : goal.returns-clause-kept
+returns-clause-kept c = λ kept all w x at.
+    let i = c.workers.invariant in
+    let l = slice_get_within c.workers.workers.items w x at in
+    let stop = c.workers-test.false in
+    i.kept kept all w x (omega (arith, l, stop)) at

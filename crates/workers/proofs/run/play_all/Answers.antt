@@ -2,11 +2,12 @@ use Rattle.std.proofs.Common.{length, map, sym, ap, ◌∙◌, subst, arith}
 use Rattle.std.specs.Prelude.{List}
 use Rattle.turnstile.specs.Seats.{RowState, AreSeatsOf}
 use Rattle.bsp_machine.specs.declared.counted.CountedWorker.{CountedWorker}
+use Rattle.bsp_machine.specs.Workers.{AreKept}
 use Rattle.bsp_machine.specs.Reserves.{HaveReserve}
 use Rattle.workers.specs.Gathered.{HaveEnded}
 use Rattle.workers.specs.Tasks.{TaskState, HasPlayed}
 use Rattle.workers.specs.Crews.{Pairwise}
-use Rattle.workers.proofs.RunLemmas.{all_ready, many_tasks, many_played, seats_back, all_ended, same_reserve, seats_unused}
+use Rattle.workers.proofs.RunLemmas.{all_ready, many_tasks, many_played, seats_back, all_ended, same_reserve, same_kept, seats_unused}
 use Rattle.workers.proofs.run.play_all.Goals as goal
 
 pub tasks_of-tasks-requires-clause-ready : goal.tasks_of-tasks-requires-clause-ready
@@ -63,6 +64,14 @@ returns-in-Ok-clause-reserve g c reserve have =
     c.tasks_of-tasks.ensures c.in-Ok.ensures.done in
     subst (HaveReserve reserve) (sym c.unzipped-back.ensures.workers)
     (same_reserve shape (record { turnstile = c.args.turnstile.now; code = c.args.code.now; map = c.args.map.now; bound = c.args.bound }) c.args.seats.items c.args.workers.items c.requires.begin c.in-Ok.played.items done reserve have)
+
+pub returns-in-Ok-clause-kept : goal.returns-in-Ok-clause-kept
+returns-in-Ok-clause-kept g c kept have =
+    let shape = g.M.AddressMap.shape in
+    let done = subst (λ (ts : List (TaskState g.row.M.Denot)). Pairwise (λ x y. HasPlayed shape x y.0 y.1) ts c.in-Ok.played.items)
+    c.tasks_of-tasks.ensures c.in-Ok.ensures.done in
+    subst (AreKept kept) (sym c.unzipped-back.ensures.workers)
+    (same_kept shape (record { turnstile = c.args.turnstile.now; code = c.args.code.now; map = c.args.map.now; bound = c.args.bound }) c.args.seats.items c.args.workers.items c.requires.begin c.in-Ok.played.items done kept have)
 
 pub unused-requires : goal.unused-requires
 unused-requires g c =

@@ -1,4 +1,4 @@
-use Rattle.std.proofs.Common.{◌≡◌, ℕ, Ok, Err, Option, Some, None, inr, refl, sym, ap, ◌∙◌, subst, arith, Vec, Global}
+use Rattle.std.proofs.Common.{◌≡◌, ℕ, Ok, Err, Bool, Option, Some, None, inr, refl, sym, ap, ◌∙◌, subst, arith, Vec, Global}
 use Rattle.std.specs.Prelude.{slice_get, IfOk, IfErr, IfSome, Result, List, ℤ}
 use Rattle.address_map.specs.Lawful.{Shape}
 use Rattle.superstep_instructions.specs.Code.{SuperstepCode}
@@ -7,6 +7,7 @@ use Rattle.worker_exchange.specs.Opened.{IsAccepted, IsRefusal}
 use Rattle.worker_exchange.specs.Equipped.{most_words}
 use Rattle.bsp_machine.specs.declared.counted.CountedWorker.{CountedWorker}
 use Rattle.run_options.specs.declared.reserve.Reserve.{Reserve}
+use Rattle.bsp_machine.specs.Workers.{AreKept}
 use Rattle.bsp_machine.specs.Reserves.{HaveReserve, refusal_for}
 use Rattle.bsp_machine.specs.Opening.{AreFresh}
 use Rattle.std.proofs.lemmas.Option.{slice_get-get_or}
@@ -115,6 +116,13 @@ returns-in-Some-clause-counts g c =
     HaveEnded c.args.code.now (g.M.AddressMap.shape c.args.map.now) c.args.terms.bound input c.play_all-seats.result.0.items ended.items))
     c.in-Some.is c.play_all-seats.ensures.ended c.args.input.now c.in_ok-opened.ensures.opened)) c.gather.result
     c.gather.ensures.counts
+
+pub returns-in-Some-clause-kept : goal.returns-in-Some-clause-kept
+returns-in-Some-clause-kept g c = λ kept.
+    let opened = c.in_ok-opened.opened.items in
+    let all = subst (λ (o : Option (Vec CountedWorker Global)). IfSome o (λ ended. (kept : Bool) → AreKept kept opened →
+    AreKept kept ended.items)) c.in-Some.is c.play_all-seats.ensures.kept c.args.kept c.in_ok-opened.ensures.kept in
+    c.gather.ensures.kept (subst (λ b. AreKept b c.in-Some.ended.items) kept all)
 
 -- ---- the reserve
 

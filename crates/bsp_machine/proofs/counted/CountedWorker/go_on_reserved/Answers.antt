@@ -8,6 +8,7 @@ use Rattle.superstep_machine.specs.Purposes.{purpose_is}
 use Rattle.worker_exchange.specs.Shown.{marked, is_stopped, IsShown, IsAtExchange}
 use Rattle.worker_exchange.specs.MessagesWritten.{IsWrittenFor}
 use Rattle.run_options.specs.declared.reserve.Reserve.{Reserve}
+use Rattle.exchange_counts.specs.Tallies.{made_of}
 use Rattle.bsp_machine.specs.Reserves.{is_past, own_mark}
 use Rattle.bsp_machine.proofs.MarkLemmas.{going_on, never}
 use Rattle.std.proofs.lemmas.Bool.{or_parts}
@@ -50,7 +51,7 @@ returns-else-is_past-clause-at g c = λ states told w b.
     let same = b.worker alive in
     let had = b.reserved alive c.args.reserve c.requires.reserve in
     let none = sym c.is_past.ensures ∙ c.if-is_past.false in
-    let past = is_past c.args.reserve (length new.steps.uniform.output.items) (length x.counts.items) in
+    let past = is_past c.args.reserve (length new.steps.uniform.output.items) (made_of x.counts) in
     let on = or_parts (is_stopped new.way) past (or_parts (is_stopped new.way || past) _ none).0 in
     let within = or_parts (nat_lt c.args.reserve.items (length new.steps.uniform.output.items)) _ on.1 in
     let few : length new.steps.uniform.output.items ≤ c.args.reserve.items = (let l = within.0 in grind (arith, nat_tests)) in

@@ -1,7 +1,7 @@
-use Rattle.std.proofs.Common.{length, map, ap, arith}
+use Rattle.std.proofs.Common.{length, ap, arith}
 use Rattle.superstep_machine.specs.Parts.{UniformPart}
-use Rattle.bsp_machine.specs.Workers.{share_told}
 use Rattle.bsp_machine.proofs.MarkLemmas.{going_on}
+use Rattle.bsp_machine.proofs.TallyLemmas.{none_told}
 use Rattle.bsp_machine.proofs.counted.CountedWorker.new.Goals as goal
 
 pub returns-clause-fresh : goal.returns-clause-fresh
@@ -12,7 +12,8 @@ returns-clause-fresh g c =
       worker = e.worker;
       shown = e.shown;
       going = e.going;
-      none = c.new-counts.ensures.items;
+      none = c.new-counts.ensures.none;
+      none_made = c.new-counts.ensures.made;
       items = record { none = c.new-items.ensures.items; room = omega (arith, none) };
       reserved = λ r some. cc;
     }
@@ -25,7 +26,7 @@ returns-clause-opens g c = λ bound.
       worker = λ alive. e.worker;
       shown = λ alive n low. e.shown bound n;
       going = λ on. e.going bound;
-      counted = λ alive n low. ap (map share_told) c.new-counts.ensures.items;
+      counted = λ alive n low. none_told c.new-counts.result c.new-counts.ensures.none c.new-counts.ensures.made;
       items = λ alive. record { none = c.new-items.ensures.items; room = omega (arith, none) };
       reserved = λ alive r some. cc;
     }

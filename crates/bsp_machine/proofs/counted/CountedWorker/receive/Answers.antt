@@ -1,13 +1,13 @@
-use Rattle.std.proofs.Common.{◌≡◌, ◌<◌, suc, [], ◌∷◌, ◌++◌, map, length, false, sym, subst, ap, ◌∙◌, arith}
+use Rattle.std.proofs.Common.{◌≡◌, ◌<◌, suc, [], ◌∷◌, ◌++◌, length, false, sym, subst, ap, ◌∙◌, arith}
 use Rattle.superstep_machine.specs.Run.{setting, ready, after}
-use Rattle.flat_machine.proofs.Lists.{map_joined}
 use Rattle.worker_exchange.specs.Rows.{words_in}
 use Rattle.worker_exchange.specs.Reached.{most_instructions}
 use Rattle.superstep_machine.specs.Purposes.{purpose_is}
 use Rattle.worker_exchange.specs.Shown.{is_stopped, IsShown, IsAtExchange}
 use Rattle.worker_exchange.specs.Received.{is_marked, mark_heard, messages_to}
-use Rattle.bsp_machine.specs.Workers.{share_told, share_at, count_of}
+use Rattle.bsp_machine.specs.Workers.{IsTold, share_at, count_of}
 use Rattle.bsp_machine.proofs.MarkLemmas.{going_on}
+use Rattle.bsp_machine.proofs.TallyLemmas.{one_more_told}
 use Rattle.std.proofs.lemmas.Bool.{or_parts}
 use Rattle.bsp_machine.proofs.counted.CountedWorker.receive.Goals as goal
 
@@ -38,10 +38,10 @@ returns-clause-behind g c = λ states told w row at.
           e.going h n (states n) low
           (subst (λ v. IsAtExchange t v old (states n)) (sym (at.worker (alive on))) (at.shown (alive on) n low));
       counted = λ h n low.
-          let count = count_of old (words_in came) in
-          ap (map share_told) (c.count.ensures.counted (c.requires.ready.purpose (alive h)).going)
-          ∙ map_joined share_told x.counts.items (count ∷ [])
-          ∙ (λ i. at.counted (alive h) n low i ++ record (share_at x row came) { sent = at.sent (alive h) i } ∷ []);
+          let on = (c.requires.ready.purpose (alive h)).going in
+          let more = one_more_told (count_of old (words_in came)) c.count.ensures.kept (c.count.ensures.made on) (c.count.ensures.counted on)
+          (at.counted (alive h) n low) in
+          subst (λ words. IsTold c.count.new.counts (told n ++ record (share_at x row came) { sent = words } ∷ [])) (at.sent (alive h)) more;
       items = λ h.
           let had = at.items (alive h) in
           record {

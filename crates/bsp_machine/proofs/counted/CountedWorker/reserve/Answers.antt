@@ -4,6 +4,7 @@ use Rattle.superstep_machine.specs.Parts.{UniformPart}
 use Rattle.superstep_machine.specs.Run.{setting, opening}
 use Rattle.instruction_steps.specs.Views.{HasReserve}
 use Rattle.worker_exchange.specs.declared.local.Local.{Local}
+use Rattle.exchange_counts.specs.Tallies.{room_of}
 use Rattle.run_options.specs.declared.reserve.Reserve.{Reserve}
 use Rattle.bsp_machine.proofs.CountedLemmas.{one_reserve}
 use Rattle.bsp_machine.proofs.counted.CountedWorker.reserve.Goals as goal
@@ -20,10 +21,11 @@ returns-clause-fresh c = λ code m input w f.
       worker = ap (λ (l : Local). l.steps.bank.worker) e.same ∙ f.worker;
       shown = λ bound n. e.shown (setting code m bound n) w (opening (setting code m bound n) input w) (f.shown bound n);
       going = λ bound. e.going code m bound (f.going bound);
-      none = c.reserve.ensures.items ∙ f.none;
+      none = c.reserve.ensures.rows ∙ f.none;
+      none_made = c.reserve.ensures.made ∙ f.none_made;
       items = record { none = c.reserve-2.ensures.items ∙ f.items.none; room = omega (arith, output, had, wider) };
       reserved = λ r some. subst (λ (q : Reserve). (HasReserve q.items c.reserve-3.new.self.steps.uniform)
-          × (q.items ≤ vec_capacity c.reserve-2.new.self) × (q.exchanges ≤ vec_capacity c.reserve.new.self))
+          × (q.items ≤ vec_capacity c.reserve-2.new.self) × (q.exchanges ≤ room_of c.reserve.new.self))
           (one_reserve (Some c.args.reserve) c.args.reserve r refl some)
           (e.reserved, omega (arith, items), omega (arith, counts));
     }

@@ -1,8 +1,8 @@
-use Rattle.std.proofs.Common.{inl, inr, ap, sym, ◌∙◌, map, arith}
+use Rattle.std.proofs.Common.{inl, inr, ap, sym, arith}
 use Rattle.superstep_machine.specs.declared.mark.HeaderMark.TheVariants.{OutOfMemory}
-use Rattle.bsp_machine.specs.Workers.{share_told}
 use Rattle.bsp_machine.specs.Reserves.{own_mark}
 use Rattle.bsp_machine.proofs.CountedLemmas.{standing_refused, no_reserve}
+use Rattle.bsp_machine.proofs.TallyLemmas.{still_told}
 use Rattle.bsp_machine.proofs.counted.CountedWorker.until_exchange.Goals as goal
 
 pub returns-in-Ok-clause-at : goal.returns-in-Ok-clause-at
@@ -10,7 +10,7 @@ returns-in-Ok-clause-at g c = λ states told w b. c.go_on.ensures.at states told
   worker = b.worker;
   shown = b.shown;
   going = b.going;
-  counted = λ h n low. ap (map share_told) c.reserve.ensures.items ∙ b.counted h n low;
+  counted = λ h n low. still_told c.reserve.ensures.kept c.reserve.ensures.made c.reserve.ensures.rows (b.counted h n low);
   items = λ h. record { none = (b.items h).none; room = (b.items h).room };
   reserved = λ h r some. no_reserve c.args.self.now.reserve r c.in-None.is some;
 })
@@ -30,11 +30,10 @@ returns-in-Ok-clause-full g c = λ none stopped states told w n b low. inr (c.go
   worker = b.worker;
   shown = b.shown;
   going = b.going;
-  counted = λ h k l. ap (map share_told) c.reserve.ensures.items ∙ b.counted h k l;
+  counted = λ h k l. still_told c.reserve.ensures.kept c.reserve.ensures.made c.reserve.ensures.rows (b.counted h k l);
   items = λ h. record { none = (b.items h).none; room = (b.items h).room };
   reserved = λ h r some. no_reserve c.args.self.now.reserve r c.in-None.is some;
 }) low)
 
 pub returns-in-Err-clause-full : goal.returns-in-Err-clause-full
-returns-in-Err-clause-full g c = λ none stopped states told w n b low. inl (let l = c.in-Err.ensures.full in
-    let long = c.args.self.now.counts.ok.0 in omega (arith, l, long))
+returns-in-Err-clause-full g c = λ none stopped states told w n b low. inl (let l = c.in-Err.ensures.full in omega (arith, l))

@@ -9,5 +9,6 @@ returns g c =
       owner = c.work.ensures.owner;
       over = c.work.ensures.over;
       reserve = c.work.ensures.reserve;
+      kept = c.work.ensures.kept;
       worked = c.work.ensures.worked;
     })
