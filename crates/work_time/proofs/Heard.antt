@@ -1,10 +1,10 @@
 -- One moment that is heard, counted.
-use Rattle.std.proofs.Common.{◌≡◌, ◌∷◌, ◌++◌, [], List, ℕ, Option, ap, sym, ◌∙◌, append-nil}
+use Rattle.std.proofs.Common.{◌≡◌, ◌∷◌, ◌++◌, [], List, ℕ, length, Option, refl, ap, sym, ◌∙◌, append-nil}
 use Rattle.pram_tokens.specs.declared.token.Location.{Location}
 use Rattle.pram_meaning.specs.declared.key.Key.{Key}
 use Rattle.pram_meaning.specs.Attempt.{Attempt}
 use Rattle.pram_meaning.specs.Conflict.{Part}
-use Rattle.pram_meaning.specs.Moments.{Action, Alone, StepAction, Together}
+use Rattle.pram_meaning.specs.Moments.{Action, Alone, StepAction, AssignsOn, TurnsOn, ChoosesOn, Together}
 use Rattle.pram_meaning.specs.Store.{State}
 use Rattle.exchange_bound.specs.Events.{Event}
 use Rattle.work_time.specs.declared.meter.Meter.{Meter}
@@ -26,10 +26,19 @@ pub alone_counted : (a b : Meter) (here : Location) (act : Action) (before after
 alone_counted a b here act before after x s is same e =
     (same, e ∙ step_met a.schedule s (by_one here.line x) (alone_events act) (ledger_is a.ledger) is)
 
+-- what is spent doesn't depend on how many execute it
+set_met : (k : ℕ) (act : StepAction) (a : Accounts) → met_all (set_events k act) a ≡ met_all (set_events 0 act) a
+set_met k (AssignsOn x e) a = refl
+set_met k (TurnsOn e) a = refl
+set_met k (ChoosesOn e) a = refl
+
 pub set_counted : (a b : Meter) (here : Location) (act : StepAction) (before after : State) (xs : List Part) (k : Option Key)
     (s : TimeStep) →
     s ≡ by_set here.line xs k → b.schedule ≡ a.schedule →
-    ledger_is b.ledger ≡ entered a.schedule s (met_all (set_events act) (ledger_is a.ledger)) →
+    ledger_is b.ledger ≡ entered a.schedule s (met_all (set_events 0 act) (ledger_is a.ledger)) →
     HasCounted a (Together here act before xs k after ∷ []) b
-set_counted a b here act before after xs k s is same e =
-    (same, e ∙ step_met a.schedule s (by_set here.line xs k) (set_events act) (ledger_is a.ledger) is)
+set_counted a b here act before after xs k s is same e = (
+  same,
+  e ∙ ap (entered a.schedule s) (sym (set_met (length xs) act (ledger_is a.ledger)))
+      ∙ step_met a.schedule s (by_set here.line xs k) (set_events (length xs) act) (ledger_is a.ledger) is,
+)

@@ -10,3 +10,8 @@ pub mod Complete
 pub mod Rows
 pub mod RowCosts
 pub mod Timed
+pub mod TimedMoments
+pub mod AttemptReads
+pub mod EvenMoments
+pub mod Counted
+pub mod Communication

@@ -1,7 +1,8 @@
 -- The events of a run are those of its moments: by one recursion over statements.
 use Rattle.std.proofs.Common.{◌≡◌, ℕ, zero, suc, ◌+◌, ℤ, pos, ◌+ℤ◌, List, [], ◌∷◌, ◌++◌, Bool, true, false, if◌then◌else◌, nat_lt}
-use Rattle.std.proofs.Common.{Option, Some, None, refl, ap, sym, ◌∙◌, append_assoc, append-nil}
+use Rattle.std.proofs.Common.{Option, Some, None, length, refl, ap, sym, ◌∙◌, append_assoc, append-nil}
 use Rattle.std.proofs.lemmas.Grind.{flat_map-append}
+use Rattle.std.proofs.lemmas.List.{length-map}
 use Rattle.std.specs.List.{flat_map}
 use Rattle.pram_tokens.specs.declared.token.Location.{Location}
 use Rattle.pram_model.specs.Layout.{width}
@@ -24,7 +25,7 @@ use Rattle.pram_meaning.specs.Moments.{set_moment, set_test_moment, setting_mome
 use Rattle.pram_meaning.specs.Moments.{writing}
 use Rattle.pram_meaning.specs.Outcome.{opening}
 use Rattle.pram_meaning.specs.Store.{State, View, numbers, printed, seen, with_team, with_uniform}
-use Rattle.pram_meaning.specs.Together.{assigned, assigned_by, parts, those}
+use Rattle.pram_meaning.specs.Together.{assigned, assigned_by, part_of, parts, those}
 use Rattle.exchange_bound.specs.Events.{Cut, Event, Runs, events, events_of, for_events, levels, list_events, row_events, step_events}
 use Rattle.exchange_bound.specs.Events.{step_row_events, steps_events, turns_events, turns_on_events}
 use Rattle.exchange_bound.specs.Events as event
@@ -82,26 +83,28 @@ alone_met n here act write left a m =
     begun_met n m (λ m. Alone here act m (writing write (a m)) (left_by left (a m) m)) (alone_events act) (λ m. refl)
 
 on_key_met : (here : Location) (act : StepAction) (left : List Part → State → State) (m : State) (xs : List Part) (k : Option Key) →
-    events_at (by_set here act left m xs k) ≡ set_events act
+    events_at (by_set here act left m xs k) ≡ set_events (length xs) act
 on_key_met here act left m xs None = refl
 on_key_met here act left m xs (Some k) = refl
 
 set_met : (p : Checked) (n : ℕ) (here : Location) (act : StepAction) (left : List Part → State → State) (a : View → Attempt Effect)
     (vs : List ℕ)
-    (m : State) → event.begun n m (set_events act) ≡ met (set_moment p n here act left a vs m)
+    (m : State) → event.begun n m (set_events (length vs) act) ≡ met (set_moment p n here act left a vs m)
 set_met p n here act left a vs m =
-    begun_met n m (λ m. by_set here act left m (parts p m a vs) (least (keys p.rule (parts p m a vs)))) (set_events act)
-    (λ m. on_key_met here act left m (parts p m a vs) (least (keys p.rule (parts p m a vs))))
+    begun_met n m (λ m. by_set here act left m (parts p m a vs) (least (keys p.rule (parts p m a vs)))) (set_events (length vs) act)
+    (λ m. on_key_met here act left m (parts p m a vs) (least (keys p.rule (parts p m a vs)))
+    ∙ ap (λ k. set_events k act) (length-map vs (part_of p m a)))
 
 -- ---- inside pardo
 
-turns_on_met : (k : ℕ) (head : State → List Event) (heard : List ℕ → State → List Moment) (test : List ℕ → State → Behaviour (List Part))
+turns_on_met : (k : ℕ) (head : List ℕ → State → List Event) (heard : List ℕ → State → List Moment)
+    (test : List ℕ → State → Behaviour (List Part))
     (body : List ℕ → State → Done) (inside : List ℕ → State → List Event) (told : List ℕ → State → List Moment) →
-    ((vs : List ℕ) (m : State) → head m ≡ met (heard vs m)) → ((vs : List ℕ) (m : State) → inside vs m ≡ met (told vs m)) →
+    ((vs : List ℕ) (m : State) → head vs m ≡ met (heard vs m)) → ((vs : List ℕ) (m : State) → inside vs m ≡ met (told vs m)) →
     (vs : List ℕ) (m : State) → turns_on_events k head test body inside vs m ≡ met (turns_on_moments k heard test told body vs m)
 turns_on_met zero head heard test body inside told h i vs m = refl
 turns_on_met (suc k) head heard test body inside told h i vs m =
-    then_met (head m) (heard vs m) (test vs m)
+    then_met (head vs m) (heard vs m) (test vs m)
     (λ xs m. event.if_any (those true xs) (inside (those true xs) m
     ++ event.behind (body (those true xs) m) (λ u. turns_on_events k head test body inside (those true xs))))
     (λ xs m. if_any (those true xs) (told (those true xs) m
@@ -120,7 +123,7 @@ module _ (p : Checked) (n : ℕ) where
     inner_met : (s : Step) (vs : List ℕ) (m : State) → step_events p n s vs m ≡ met (inner_moments p n s vs m)
     inner_met (step.Assign here x e) vs m = set_met p n here (AssignsOn x e) (assigned_by p x) (λ s. attempt_step s x e) vs m
     inner_met (step.If' here e q a r b) vs m =
-        then_met (event.begun n m (set_events (ChoosesOn e))) (set_test_moment p n here (ChoosesOn e) e vs m)
+        then_met (event.begun n m (set_events (length vs) (ChoosesOn e))) (set_test_moment p n here (ChoosesOn e) e vs m)
         (tested_on p n here.line e vs m)
         (λ xs m. step_row_events p n a (those true xs) m
         ++ event.behind (perform_row_on p n a (those true xs) m) (λ u. step_row_events p n b (those false xs)))
@@ -131,7 +134,7 @@ module _ (p : Checked) (n : ℕ) where
         (perform_row_on p n a (those true xs) m) (λ u. step_row_events p n b (those false xs))
         (λ u. inner_row_moments p n b (those false xs)) (inner_row_met a (those true xs) m) (λ u m. inner_row_met b (those false xs) m))
     inner_met (step.While' here e q body) vs m =
-        turns_on_met (n + 1) (λ m. event.begun n m (set_events (TurnsOn e))) (set_test_moment p n here (TurnsOn e) e)
+        turns_on_met (n + 1) (λ us m. event.begun n m (set_events (length us) (TurnsOn e))) (set_test_moment p n here (TurnsOn e) e)
         (tested_on p n here.line e) (perform_row_on p n body) (step_row_events p n body) (inner_row_moments p n body)
         (λ vs m. set_met p n here (TurnsOn e) unchanged (λ s. attempt_value s e) vs m) (λ vs m. inner_row_met body vs m) vs m
 
@@ -171,12 +174,12 @@ for_met : (n : ℕ) (here : Location) (k x : ℕ) (a : ℤ) (body : State → Do
     for_events n k x a body inside m ≡ met (for_turns_moments n here k x a told body m)
 for_met n here zero x a body inside told i m = refl
 for_met n here (suc k) x a body inside told i m =
-    then_met (event.begun n m (Runs 0 false ∷ [])) (setting_moment n here x a m) (counted n m)
+    then_met (event.begun n m (Runs 0 false None 0 ∷ [])) (setting_moment n here x a m) (counted n m)
     (λ u m. inside (with_uniform x a m)
     ++ Cut ∷ event.behind (body (with_uniform x a m)) (λ u. for_events n k x (a +ℤ pos 1) body inside))
     (λ u m. closing (told (with_uniform x a m))
     ++ behind (body (with_uniform x a m)) (λ u. for_turns_moments n here k x (a +ℤ pos 1) told body))
-    (begun_met n m (λ m. Alone here (Sets x) m (Gives [] None) (with_uniform x a m)) (Runs 0 false ∷ []) (λ m. refl))
+    (begun_met n m (λ m. Alone here (Sets x) m (Gives [] None) (with_uniform x a m)) (Runs 0 false None 0 ∷ []) (λ m. refl))
     (λ u m. closed_met (inside (with_uniform x a m)) (told (with_uniform x a m)) (body (with_uniform x a m))
     (λ u. for_events n k x (a +ℤ pos 1) body inside) (λ u. for_turns_moments n here k x (a +ℤ pos 1) told body)
     (i (with_uniform x a m)) (λ u m. for_met n here k x (a +ℤ pos 1) body inside told i m))

@@ -1,5 +1,6 @@
 pub mod Steps
 pub mod MomentEvents
+pub mod Communication
 pub mod Cost
 pub mod Time
 pub mod Totals
@@ -10,3 +11,4 @@ pub mod Heard
 pub mod HeardLaws
 pub mod Counted
 pub mod RowCosts
+pub mod Timed

@@ -1,6 +1,6 @@
 //! The events of a statement that begins.
 
-ghost use Rattle.std.specs.Prelude.{◌≡◌, [], ◌∷◌, OnOk, false};
+ghost use Rattle.std.specs.Prelude.{◌≡◌, [], ◌∷◌, None, OnOk, false};
 ghost use Rattle.exchange_bound.specs.Events.{Cut, Runs};
 ghost use Rattle.pram_meaning.specs.Listening.{action_is, step_action_is};
 ghost use Rattle.work_time.specs.Ledgers.{spending_is};
@@ -17,7 +17,7 @@ use pram_meaning::action::{Action, StepAction};
 impl Exchanges {
     // A statement behind which what was written is sent.
     fn run_and_cut(&mut self, levels: u64) -> Result<(), TooMany>
-        ensures { OnOk result (spending_is self.new ≡ spend_all (Runs levels false ∷ Cut ∷ []) (spending_is self.old)) }
+        ensures { OnOk result (spending_is self.new ≡ spend_all (Runs levels false None 0 ∷ Cut ∷ []) (spending_is self.old)) }
     {
         self.run(levels, false)?;
         self.cut()
@@ -25,7 +25,7 @@ impl Exchanges {
 
     // The test of a loop, before which it is sent too.
     fn turn(&mut self, levels: u64) -> Result<(), TooMany>
-        ensures { OnOk result (spending_is self.new ≡ spend_all (Cut ∷ Runs levels false ∷ Cut ∷ []) (spending_is self.old)) }
+        ensures { OnOk result (spending_is self.new ≡ spend_all (Cut ∷ Runs levels false None 0 ∷ Cut ∷ []) (spending_is self.old)) }
     {
         self.cut()?;
         self.run_and_cut(levels)
@@ -66,7 +66,7 @@ impl Exchanges {
 
     /// A statement inside pardo.
     pub fn begin_on(&mut self, action: &StepAction) -> Result<(), TooMany>
-        ensures { OnOk result (spending_is self.new ≡ spend_all (set_events (step_action_is action.now)) (spending_is self.old)) }
+        ensures { OnOk result (spending_is self.new ≡ spend_all (set_events 0 (step_action_is action.now)) (spending_is self.old)) }
     {
         match *action {
             StepAction::Assigns { target, value } => {

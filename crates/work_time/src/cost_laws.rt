@@ -1,5 +1,6 @@
 //! Laws of the costs of a run.
 
+ghost use Rattle.work_time.specs.Communication.{AccessesAreCounted, InsideAndOutsideAreAll};
 ghost use Rattle.work_time.specs.Cost.{BrentsPrinciple};
 ghost use Rattle.work_time.specs.Time.{GoingOnTakesTheBound, TimeIsTheLeastBound, TimeIsWithinTheBound};
 
@@ -17,4 +18,12 @@ pub fn time_keeps_to_the_bound()
     ensures within { TimeIsWithinTheBound }
     ensures goes_on { GoingOnTakesTheBound }
     ensures ends { TimeIsTheLeastBound }
+{}
+
+/// Work bounds communication: in a run that doesn't fault the words of its accesses, with p workers and of so
+/// many words a write, are at most 2 r + k w + 2 p u + k v, for r reads and w writes inside pardo and u reads and
+/// v writes outside, which together are those that the run's costs count.
+pub fn work_bounds_communication()
+    ensures accesses { AccessesAreCounted }
+    ensures all { InsideAndOutsideAreAll }
 {}

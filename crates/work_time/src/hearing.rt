@@ -55,7 +55,7 @@ impl Meter {
         requires few { step.now.reads ≤ 2 ^ 96 }
         ensures same { self.new.schedule ≡ self.old.schedule }
         ensures counted { OnOk result (ledger_is self.new.ledger ≡ entered self.old.schedule step.now
-            (met_all (set_events (step_action_is action.now)) (ledger_is self.old.ledger))) }
+            (met_all (set_events 0 (step_action_is action.now)) (ledger_is self.old.ledger))) }
     {
         if self.ledger.exchanges.begin_on(action).is_err() {
             return Err(AllocError);

@@ -3,6 +3,7 @@
 #![tactic(auto)]
 
 mod accesses;
+mod alone;
 mod beginning;
 mod cost;
 pub mod cost_laws;
@@ -16,12 +17,16 @@ mod line_cost;
 mod meter;
 mod row_costs;
 mod spending;
+mod taken;
 mod tally;
 mod time_step;
+mod timing;
 mod too_many;
 mod whole;
 
+pub use alone::time_and_work;
 pub use cost::{Cost, cost_of};
 pub use line_cost::LineCost;
+pub use taken::TimeAndWork;
 // A type of the definitions.
 pub use time_step::TimeStep;

@@ -1,6 +1,6 @@
 //! What events spend on exchanges.
 
-ghost use Rattle.std.specs.Prelude.{◌≡◌, ◌+◌, [], ◌∷◌, IfOk, OnOk, not, ◌&&◌, ◌||◌};
+ghost use Rattle.std.specs.Prelude.{◌≡◌, ◌+◌, [], ◌∷◌, IfOk, None, OnOk, not, ◌&&◌, ◌||◌};
 ghost use Rattle.exchange_bound.specs.Bound.{one_if};
 ghost use Rattle.exchange_bound.specs.Events.{Cut, Runs, Votes};
 ghost use Rattle.exchange_bound.specs.Spent.{any_level};
@@ -62,7 +62,7 @@ impl Exchanges {
     /// A statement, with the levels of its shared reads, that may write to shared memory: the reads
     /// send what was held back, and a write is held back.
     pub fn run(&mut self, levels: u64, writes: bool) -> Result<(), TooMany>
-        ensures { OnOk result (spending_is self.new ≡ spend (Runs levels writes) (spending_is self.old)) }
+        ensures { OnOk result (spending_is self.new ≡ spend (Runs levels writes None 0) (spending_is self.old)) }
     {
         let reads = has_reads(levels);
         let alone = goes_alone(self.held, writes, reads);

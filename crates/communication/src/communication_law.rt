@@ -1,0 +1,11 @@
+//! The law of this crate.
+
+ghost use Rattle.communication.specs.Law.{WorkBoundsCommunication};
+
+/// The code of a program, in a run that doesn't fault, by any number p of workers and any lawful map: all words
+/// that the workers send in all exchanges together are at most 2 r + 3 w + 2 p u + 3 v, for r shared reads and w
+/// shared writes inside pardo and u and v outside, as the run's costs count them; 4 in the place of each 3 where the
+/// rule is sum.
+pub fn work_bounds_communication()
+    ensures words { WorkBoundsCommunication }
+{}
