@@ -137,3 +137,12 @@ further sizes (suc d) left text = at_line sizes (further sizes d) line.Sum text
 -- the number of an expression behind its opening brace, and the text behind the closing one; it is nested at most 64 deep
 unfoldable pub braced : List Size → Reader
 braced sizes text = at_line sizes (further sizes 64) line.Sum text >>= λ e. expect 125 e.1 >>= λ rest. Ok (e.0, rest)
+
+-- a number behind which nothing is left
+abbrev pub all_read : ℕ → List ℕ → Result ℕ Wrong
+all_read v [] = Ok v
+all_read v (b ∷ rest) = Err (wrong_at reason.Unexpected (length (b ∷ rest)))
+
+-- the number of an expression that is all of a text; it is nested at most 64 deep
+unfoldable pub whole : List Size → List ℕ → Result ℕ Wrong
+whole sizes text = at_line sizes (further sizes 64) line.Sum text >>= λ e. all_read e.0 e.1

@@ -13,3 +13,4 @@ pub mod SizeWords
 pub mod Filling
 pub mod SizeRanges
 pub mod Sweeps
+pub mod Formulas

@@ -242,3 +242,16 @@ pub(crate) fn braced<'a>(sizes: &[Size], text: &'a [u8]) -> Result<(u64, &'a [u8
     let rest = expect(rest, b'}')?;
     Ok((value, rest))
 }
+
+/// The number of an expression that is all of a text.
+#[tactic(auto, unfolding(crate::specs::Expressions::whole))]
+pub(crate) fn whole(sizes: &[Size], text: &[u8]) -> Result<u64, Wrong>
+    ensures gives { Gives (λ v. v) result (spec.whole sizes.now text.now) }
+{
+    let (value, rest) = chain(sizes, Line::Sum, text, DEEPEST)?;
+    if rest.is_empty() {
+        Ok(value)
+    } else {
+        Err(wrong_at(Reason::Unexpected, rest))
+    }
+}
