@@ -15,7 +15,8 @@ use Rattle.pram_meaning.specs.Outcome.{IsOutcome}
 use Rattle.address_map.specs.Outcome.{IsFault}
 use Rattle.address_map.specs.declared.fault.MapFault.{MapFault}
 use Rattle.address_map.specs.declared.fault.MapFault.TheVariants as no
-use Rattle.compiled_meaning.specs.PlainForm.{IsInputFor}
+use Rattle.exchange_words.specs.Sent.{words_sent}
+use Rattle.compiled_meaning.specs.PlainForm.{IsInputFor, word_bound}
 use Rattle.compiled_meaning.specs.Supersteps.{IsFusedForm}
 use Rattle.program_runs.specs.Compiled.{IsCodeOf}
 use Rattle.program_texts.specs.Report.{IsMeaningOf, IsProgramOf, IsRunOf}
@@ -25,12 +26,13 @@ use Rattle.run_options.specs.declared.map_choice.MapChoice.TheVariants as choose
 use Rattle.run_options.specs.declared.options.Options.{Options}
 use Rattle.worker_exchange.specs.declared.refusal.RunRefusal.TheVariants as run
 use Rattle.worker_exchange.specs.Opened.{IsAccepted}
-use Rattle.workers.specs.Past.{IsRefusalWith}
+use Rattle.bsp_machine.specs.Ended.{AreExchanges}
+use Rattle.workers.specs.Past.{IsRefusalWith, StaysWithin}
 use Rattle.program_texts.specs.declared.from_text.Refusal.{Refusal}
 use Rattle.program_texts.specs.declared.from_text.Refusal.TheVariants as refusals
 use Rattle.run_options.specs.declared.reserve.Reserve.{Reserve}
-use Rattle.program_runs.specs.Runs.{IsChoice, IsCodeRun, IsCodeRefused, IsMapOf, IsNoMap, IsProgramRefused, IsProgramRun, IsRunRefused}
-use Rattle.program_runs.specs.Reserved.{IsCodeRunWith, IsProgramRunWith, IsRunByWorkersWith, IsCodeRefusedWith, IsProgramRefusedWith}
+use Rattle.program_runs.specs.Runs.{AreLaidOut, IsChoice, IsCodeRun, IsCodeRefused, IsMapOf, IsNoMap, IsProgramRefused, IsProgramRun, IsRunRefused}
+use Rattle.program_runs.specs.Reserved.{IsCodeRunKept, IsCodeRunWith, IsProgramRunWith, IsRunByWorkersWith, IsCodeRefusedWith, IsProgramRefusedWith}
 use Rattle.program_runs.specs.Reserved.{IsRunRefusedWith}
 
 -- the map of a choice has so many places
@@ -70,7 +72,31 @@ module _ (program : Checked) (code : SuperstepCode) (means : IsFusedForm program
     is_code = is_code;
     run = r;
     few = λ faultless. means.supersteps r.shape on_map input input_fits options.bound verdict outcome faultless exchanges r.made;
+    words = λ faultless. subst (λ k. words_sent exchanges ≤ word_bound program k input options.bound)
+        (modules_of options.map r.shape.count options.workers r.shape r.laid_out.is_map)
+        (means.communication r.shape on_map input input_fits options.bound verdict outcome faultless exchanges r.made);
   }
+
+-- what is run on such a map, with its exchanges if they were kept
+pub run_kept : (code : SuperstepCode) (m : Shape) (input : List ℤ) (options : Options) (reserve : Option Reserve) (verdict : Verdict)
+    (found : Option (List Exchange)) → AreLaidOut (total_size code.layout) options m → length input ≤ total_size code.layout →
+    IsBspOutcome code m input options.bound verdict → AreExchanges code m input options.bound verdict found →
+    StaysWithin code m options.bound input reserve → IsCodeRunKept code input options reserve verdict found
+run_kept code m input options reserve verdict None laid fits outcome made within = (
+  made.0,
+  record { run = record { shape = m; laid_out = laid; fits = fits; outcome = outcome; made = made.1 }; within = within },
+)
+run_kept code m input options reserve verdict (Some exchanges) laid fits outcome made within = record {
+  run = record { shape = m; laid_out = laid; fits = fits; outcome = outcome; made = made };
+  within = within;
+}
+
+-- there are exchanges, whether they were kept or not
+pub some_exchanges : (code : SuperstepCode) (input : List ℤ) (options : Options) (reserve : Option Reserve) (verdict : Verdict)
+    (found : Option (List Exchange)) → IsCodeRunKept code input options reserve verdict found →
+    (exchanges : List Exchange) × IsCodeRunWith code input options reserve verdict exchanges
+some_exchanges code input options reserve verdict None run = run
+some_exchanges code input options reserve verdict (Some exchanges) run = (exchanges, run)
 
 -- ---- the same of an answer
 
@@ -91,6 +117,40 @@ module _ {X : Type 0} (program : Checked) (code : SuperstepCode) (means : IsFuse
     within = r.within;
   }
   all_ran (Err e) is r = tt
+
+-- ---- and of an answer that has no exchanges, though the run has some
+
+module _ (program : Checked) (input : List ℤ) (options : Options) (reserve : Option Reserve) where
+  abbrev pub CodeRan : SuperstepCode → Verdict → Type 0
+  CodeRan code v = (exchanges : List Exchange) × IsCodeRunWith code input options reserve v exchanges
+
+  abbrev pub ProgramRan : Verdict → Type 0
+  ProgramRan v = (exchanges : List Exchange) × IsProgramRunWith program input options reserve v exchanges
+
+  pub meanings_too : {X E : Type 0} (code : SuperstepCode) → IsFusedForm program code → AreValues input → (verdict : X → Verdict)
+      (found : Result X E) → IfOk found (λ x. CodeRan code (verdict x)) →
+      IfOk found (λ x. IsMeaningOf program input options.bound (verdict x))
+  meanings_too code means values verdict (Ok x) r = is_meaning program code means input options (verdict x) r.0 values r.1.run
+  meanings_too code means values verdict (Err e) r = tt
+
+  pub ran_too : {X E : Type 0} (code : SuperstepCode) → IsFusedForm program code → AreValues input → IsCodeOf program code →
+      (verdict : X → Verdict) (found : Result X E) → IfOk found (λ x. CodeRan code (verdict x)) →
+      IfOk found (λ x. ProgramRan (verdict x))
+  unfolding is_program_run
+  ran_too code means values is verdict (Ok x) r = (
+    r.0,
+    record { ran = is_program_run program code means input options (verdict x) r.0 values r.1.run is; within = r.1.within },
+  )
+  ran_too code means values is verdict (Err e) r = tt
+
+  pub runs_by_workers_too : {X E : Type 0} (verdict : X → Verdict) (found : Result X E) → IfOk found (λ x. ProgramRan (verdict x)) →
+      IfOk found (λ x. (text : List ℕ) → IsProgramOf text program →
+      (exchanges : List Exchange) × IsRunByWorkersWith text input options reserve (verdict x) exchanges)
+  runs_by_workers_too verdict (Ok x) r = λ text is. (
+    r.0,
+    record { by_workers = record { program = program; is_program = is; ran = r.1.ran }; within = r.1.within },
+  )
+  runs_by_workers_too verdict (Err e) r = tt
 
 -- ---- and of each text that the program is of
 

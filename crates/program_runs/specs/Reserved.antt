@@ -23,6 +23,12 @@ pub record IsCodeRunWith (code : SuperstepCode) (input : List ℤ) (options : Op
   pub run : IsCodeRun code input options verdict exchanges
   pub within : StaysWithin code run.shape options.bound input reserve
 
+-- The same, and these are its exchanges where they were kept; else there are such.
+abbrev pub IsCodeRunKept : SuperstepCode → List ℤ → Options → Option Reserve → Verdict → Option (List Exchange) → Type 0
+IsCodeRunKept code input options reserve verdict None =
+    (exchanges : List Exchange) × IsCodeRunWith code input options reserve verdict exchanges
+IsCodeRunKept code input options reserve verdict (Some exchanges) = IsCodeRunWith code input options reserve verdict exchanges
+
 -- So was the code of a program.
 pub record IsProgramRunWith (program : Checked) (input : List ℤ) (options : Options) (reserve : Option Reserve) (verdict : Verdict)
     (exchanges : List Exchange) : Type 0 where

@@ -13,6 +13,8 @@ use Rattle.superstep_machine.specs.Trace.{AreBspExchanges, Exchange}
 use Rattle.fusing.specs.Fusing.{IsFaultless}
 use Rattle.pram_check.specs.Checked.{Checked}
 use Rattle.exchange_bound.specs.Bound.{exchange_bound}
+use Rattle.exchange_words.specs.Sent.{words_sent}
+use Rattle.compiled_meaning.specs.PlainForm.{word_bound}
 use Rattle.pram_tokens.specs.Plain.{IsPlain}
 use Rattle.program_texts.specs.Report.{HasBreach, HasTooFewCells, IsProgramOf, IsTextRefusal}
 use Rattle.program_texts.specs.declared.from_text.Refusal.{Refusal}
@@ -53,13 +55,15 @@ pub record IsCodeRun (code : SuperstepCode) (input : List ℤ) (options : Option
   pub outcome : IsBspOutcome code shape input options.bound verdict
   pub made : AreBspExchanges code shape input options.bound verdict exchanges
 
--- So was the code of a program. Where the verdict is no fault there are at most as many exchanges as the program's bound says.
+-- So was the code of a program. Where the verdict is no fault there are at most as many exchanges as the program's bound says, and in all of
+-- them the workers sent at most as many words as the accesses of the program's run take.
 pub record IsProgramRun (program : Checked) (input : List ℤ) (options : Options) (verdict : Verdict)
     (exchanges : List Exchange) : Type 0 where
   pub code : SuperstepCode
   pub is_code : IsCodeOf program code
   pub run : IsCodeRun code input options verdict exchanges
   pub few : IsFaultless verdict → length exchanges ≤ exchange_bound program input options.bound
+  pub words : IsFaultless verdict → words_sent exchanges ≤ word_bound program options.workers input options.bound
 
 -- So was that of the accepted program of a text.
 pub record IsRunByWorkers (text : List ℕ) (input : List ℤ) (options : Options) (verdict : Verdict)

@@ -2,13 +2,14 @@
 
 ghost use Rattle.std.specs.Prelude.{◌≡◌, ℕ, List, Some, IfOk, IfErr};
 ghost use Rattle.write_rules.specs.Verdict.{verdict_of};
+ghost use Rattle.superstep_machine.specs.Trace.{Exchange};
 ghost use Rattle.pram_meaning.specs.Values.{AreValues};
 ghost use Rattle.program_texts.specs.Report.{IsMeaningOf, IsProgramOf, IsRunOf};
 ghost use Rattle.program_runs.specs.Runs.{IsRunByWorkers, IsRunRefused};
 ghost use Rattle.program_runs.specs.Reserved.{IsProgramRefusedWith, IsProgramRunWith, IsRunByWorkersWith, IsRunRefusedWith};
 
 use crate::compiler::compile_program;
-use crate::on_map::run_code;
+use crate::on_map::{outcome_of_code, run_code};
 use exchange_counts::Counts;
 use pram_check::Program;
 use pram_trees::Layout;
@@ -38,9 +39,9 @@ fn have_64_bits(input: &[i64])
 }
 
 /// Compiles a program and runs its code on an input, by the workers and the map of the options, each in a thread of its own that passes
-/// the gate before its exchanges: its outcome, which is the program's by its meaning, and the exchanges of the workers. It is refused
-/// for the first of E13, E12 and E11 that holds; for E16 where memory or a thread was refused; and with a reserve for E18, exactly where
-/// the run comes past that.
+/// the gate before its exchanges: its outcome, which is the program's by its meaning, and the exchanges of the workers, of which each keeps
+/// 24 bytes an exchange. It is refused for the first of E13, E12 and E11 that holds; for E16 where memory or a thread was refused; and with
+/// a reserve for E18, exactly where the run comes past that.
 pub fn run_program<R: Threads + Wait + Sync, G: Gate + Sync>(
     rt: &R,
     alloc: Global,
@@ -67,7 +68,35 @@ pub fn run_program<R: Threads + Wait + Sync, G: Gate + Sync>(
     run_code(rt, alloc, &code, input, options, reserve, gate)
 }
 
-// The same from a text, with a reserve or without.
+/// The same run, of which only the outcome is wanted: nothing is kept of an exchange, so that on the way memory is asked for by the output
+/// alone. It is refused as `run_program` is.
+pub fn outcome_of_program<R: Threads + Wait + Sync, G: Gate + Sync>(
+    rt: &R,
+    alloc: Global,
+    program: &Program,
+    input: &[i64],
+    options: Options,
+    reserve: Option<Reserve>,
+    gate: &G,
+) -> Result<Outcome, Refusal>
+    ensures meaning { IfOk result (λ outcome. IsMeaningOf program.now input.now options.bound (verdict_of outcome)) }
+    // Its code was run so, and has exchanges, of which there are as many at most as the program's bound says where it doesn't fault.
+    ensures run { IfOk result (λ outcome. (exchanges : List Exchange)
+        × IsProgramRunWith program.now input.now options reserve (verdict_of outcome) exchanges) }
+    ensures stopped { IfErr result (IsProgramRefusedWith program.now input.now options reserve) }
+    // So it is for each text that the program is of.
+    ensures outcome { IfOk result (λ outcome. (text : List ℕ) → IsProgramOf text program.now →
+        IsRunOf text input.now options.bound program.now.layout (verdict_of outcome)) }
+    ensures exchanges { IfOk result (λ outcome. (text : List ℕ) → IsProgramOf text program.now →
+        (exchanges : List Exchange) × IsRunByWorkersWith text input.now options reserve (verdict_of outcome) exchanges) }
+    ensures refused { (text : List ℕ) → IsProgramOf text program.now → IsRunRefusedWith text input.now options reserve result }
+{
+    have_64_bits(input);
+    let code = compile_program(alloc, program)?;
+    outcome_of_code(rt, alloc, &code, input, options, reserve, gate)
+}
+
+// The same from a text, with its exchanges, with a reserve or without.
 fn run_text_with<R: Threads + Wait + Sync, G: Gate + Sync>(
     rt: &R,
     alloc: Global,

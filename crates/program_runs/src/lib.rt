@@ -8,5 +8,5 @@ pub mod headline;
 mod on_map;
 
 pub use compiler::{compile, compile_program};
-pub use from_text::{Report, run_program, run_text, run_text_reserved};
-pub use on_map::run_code;
+pub use from_text::{Report, outcome_of_program, run_program, run_text, run_text_reserved};
+pub use on_map::{outcome_of_code, run_code};

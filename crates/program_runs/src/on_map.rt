@@ -1,6 +1,6 @@
 //! A run by the workers of a map.
 
-ghost use Rattle.std.specs.Prelude.{List, ℤ, Option, IfOk, IfErr};
+ghost use Rattle.std.specs.Prelude.{◌≡◌, true, List, ℤ, Option, IfOk, IfErr, IsSome};
 ghost use Rattle.superstep_instructions.specs.Code.{SuperstepCode};
 ghost use Rattle.address_map.specs.Lawful.{IsLawful};
 ghost use Rattle.address_map.specs.Outcome.{IsWorkers};
@@ -10,7 +10,8 @@ ghost use Rattle.write_rules.specs.Verdict.{verdict_of};
 ghost use Rattle.run_options.specs.Places.{IsLeastPower};
 ghost use Rattle.run_options.specs.declared.reserve.Reserve.{Reserve as Given};
 ghost use Rattle.program_runs.specs.Runs.{IsChoice, IsMapOf, IsNoMap};
-ghost use Rattle.program_runs.specs.Reserved.{IsCodeRefusedWith, IsCodeRunWith};
+ghost use Rattle.superstep_machine.specs.Trace.{Exchange};
+ghost use Rattle.program_runs.specs.Reserved.{IsCodeRefusedWith, IsCodeRunKept, IsCodeRunWith};
 
 use address_map::{AddressMap, Affine, Identity, MapFault};
 use bsp_machine::RunRefusal;
@@ -21,7 +22,7 @@ use run_options::{MapChoice, Options, Reserve, Terms, places};
 use std::alloc::Global;
 use std::sync::Wait;
 use std::thread::Threads;
-use workers::{Gate, run_on_terms};
+use workers::{Gate, run_keeping};
 use write_rules::Outcome;
 
 // Every map is lawful: that is a law of its trait.
@@ -31,7 +32,7 @@ fn lawful<M: AddressMap>(map: &M)
     let _modules = map.modules();
 }
 
-// Runs code by the workers of a map.
+// Runs code by the workers of a map. With `kept` the exchanges are answered too.
 fn run_on<R: Threads + Wait + Sync, M: AddressMap + Sync, G: Gate + Sync>(
     rt: &R,
     alloc: Global,
@@ -40,13 +41,15 @@ fn run_on<R: Threads + Wait + Sync, M: AddressMap + Sync, G: Gate + Sync>(
     input: &[i64],
     options: Options,
     reserve: Option<Reserve>,
+    kept: bool,
     gate: &G,
-) -> Result<(Outcome, Counts), Refusal>
+) -> Result<(Outcome, Option<Counts>), Refusal>
     requires workers { IsWorkers options.workers }
     requires choice { IsChoice options.map }
     requires least { IsLeastPower (total_size code.now.layout) (M.shape map.now).count }
     requires placed { IsMapOf options.map (M.shape map.now).count options.workers (M.shape map.now) }
-    ensures run { IfOk result (λ found. IsCodeRunWith code.now input.now options reserve (verdict_of found.0) found.1) }
+    ensures run { IfOk result (λ found. IsCodeRunKept code.now input.now options reserve (verdict_of found.0) found.1) }
+    ensures kept { kept ≡ true → IfOk result (λ found. IsSome found.1) }
     ensures refused { IfErr result (IsCodeRefusedWith code.now input.now options reserve) }
 {
     lawful(map);
@@ -55,7 +58,7 @@ fn run_on<R: Threads + Wait + Sync, M: AddressMap + Sync, G: Gate + Sync>(
         bound: options.bound,
         reserve,
     };
-    match run_on_terms(rt, alloc, code, map, input, terms, gate) {
+    match run_keeping(rt, alloc, code, map, input, terms, kept, gate) {
         Ok(found) => Ok(found),
         Err(RunRefusal::BadWorkers) => Err(Refusal::BadWorkers),
         Err(RunRefusal::BadMap) => Err(Refusal::BadMap),
@@ -76,10 +79,39 @@ fn refusal_of(fault: MapFault) -> Refusal
     }
 }
 
+// Runs verified code by the workers and the map of the options. With `kept` the exchanges are answered too.
+fn run_by_map<R: Threads + Wait + Sync, G: Gate + Sync>(
+    rt: &R,
+    alloc: Global,
+    code: &Verified,
+    input: &[i64],
+    options: Options,
+    reserve: Option<Reserve>,
+    kept: bool,
+    gate: &G,
+) -> Result<(Outcome, Option<Counts>), Refusal>
+    ensures run { IfOk result (λ found. IsCodeRunKept code.now input.now options reserve (verdict_of found.0) found.1) }
+    ensures kept { kept ≡ true → IfOk result (λ found. IsSome found.1) }
+    ensures refused { IfErr result (IsCodeRefusedWith code.now input.now options reserve) }
+{
+    let cells = places(code.code().layout().cells());
+    let workers = options.workers;
+    match options.map {
+        MapChoice::Identity => match Identity::new(cells, workers) {
+            Ok(map) => run_on(rt, alloc, code, &map, input, options, reserve, kept, gate),
+            Err(fault) => Err(refusal_of(fault)),
+        },
+        MapChoice::Affine { factor, shift } => match Affine::new(cells, workers, factor, shift) {
+            Ok(map) => run_on(rt, alloc, code, &map, input, options, reserve, kept, gate),
+            Err(fault) => Err(refusal_of(fault)),
+        },
+    }
+}
+
 /// Runs verified code on an input, by the workers and the map of the options, each in a thread of its own that passes the gate before
-/// its exchanges: its outcome, and the exchanges of the workers. It is refused for the first of these: E13 where there are no workers or
-/// more than 32, E12 where there is no such map, E11 where the input has more values than the code has cells; for E16 where memory
-/// or a thread was refused; and with a reserve for E18, exactly where the run comes past that.
+/// its exchanges: its outcome, and the exchanges of the workers, of which each keeps 24 bytes an exchange. It is refused for the first of
+/// these: E13 where there are no workers or more than 32, E12 where there is no such map, E11 where the input has more values than the code
+/// has cells; for E16 where memory or a thread was refused; and with a reserve for E18, exactly where the run comes past that.
 pub fn run_code<R: Threads + Wait + Sync, G: Gate + Sync>(
     rt: &R,
     alloc: Global,
@@ -92,16 +124,25 @@ pub fn run_code<R: Threads + Wait + Sync, G: Gate + Sync>(
     ensures run { IfOk result (λ found. IsCodeRunWith code.now input.now options reserve (verdict_of found.0) found.1) }
     ensures refused { IfErr result (IsCodeRefusedWith code.now input.now options reserve) }
 {
-    let cells = places(code.code().layout().cells());
-    let workers = options.workers;
-    match options.map {
-        MapChoice::Identity => match Identity::new(cells, workers) {
-            Ok(map) => run_on(rt, alloc, code, &map, input, options, reserve, gate),
-            Err(fault) => Err(refusal_of(fault)),
-        },
-        MapChoice::Affine { factor, shift } => match Affine::new(cells, workers, factor, shift) {
-            Ok(map) => run_on(rt, alloc, code, &map, input, options, reserve, gate),
-            Err(fault) => Err(refusal_of(fault)),
-        },
-    }
+    let (outcome, counts) = run_by_map(rt, alloc, code, input, options, reserve, true, gate)?;
+    Ok((outcome, counts.unwrap()))
+}
+
+/// The same run, of which only the outcome is wanted: nothing is kept of an exchange, so that on the way memory is asked for by the output
+/// alone. It is refused as `run_code` is.
+pub fn outcome_of_code<R: Threads + Wait + Sync, G: Gate + Sync>(
+    rt: &R,
+    alloc: Global,
+    code: &Verified,
+    input: &[i64],
+    options: Options,
+    reserve: Option<Reserve>,
+    gate: &G,
+) -> Result<Outcome, Refusal>
+    ensures run { IfOk result (λ outcome. (exchanges : List Exchange)
+        × IsCodeRunWith code.now input.now options reserve (verdict_of outcome) exchanges) }
+    ensures refused { IfErr result (IsCodeRefusedWith code.now input.now options reserve) }
+{
+    let (outcome, _none) = run_by_map(rt, alloc, code, input, options, reserve, false, gate)?;
+    Ok(outcome)
 }

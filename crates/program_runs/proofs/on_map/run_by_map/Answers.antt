@@ -2,7 +2,7 @@ use Rattle.std.proofs.Common.{subst}
 use Rattle.address_map.specs.Outcome.{IsCells, IsOdd}
 use Rattle.program_runs.specs.Runs.{IsChoice}
 use Rattle.program_runs.proofs.RunLemmas.{is_no_map}
-use Rattle.program_runs.proofs.on_map.run_code.Goals as goal
+use Rattle.program_runs.proofs.on_map.run_by_map.Goals as goal
 
 pub returns-in-Err-clause-refused : goal.returns-in-Err-clause-refused
 returns-in-Err-clause-refused g c =
