@@ -17,7 +17,7 @@ use pram_check::Program;
 use pram_meaning::reference_run;
 use small_scopes::{Scope, first_input};
 use std::alloc::Global;
-use work_time::cost_of;
+use work_time::time_and_work;
 
 // What differs first on an input that is not too long for either program.
 fn difference(
@@ -34,11 +34,11 @@ fn difference(
     let Ok(outcome) = reference_run(alloc, first, input, bound) else {
         return Err(ComparisonRefusal::OutOfMemory);
     };
-    let Ok((other, cost)) = cost_of(alloc, second, input, bound, 1) else {
+    let Ok((other, counted)) = time_and_work(alloc, second, input, bound) else {
         return Err(ComparisonRefusal::OutOfMemory);
     };
-    let time = u64::from(cost.time);
-    Ok(first_difference(compared, &outcome, &other, time, cost.work))
+    let time = u64::from(counted.time);
+    Ok(first_difference(compared, &outcome, &other, time, counted.work))
 }
 
 /// Runs two programs on an input, each for at most `bound` statements, and says what differs first, or that they come to the same.

@@ -11,7 +11,7 @@ use pram_check::Program;
 use pram_meaning::MeaningRefusal;
 use small_scopes::{Scope, first_input, input_count};
 use std::alloc::Global;
-use work_time::cost_of;
+use work_time::time_and_work;
 
 // Runs the program on one input more.
 fn try_input(
@@ -26,10 +26,16 @@ fn try_input(
         found_is findings.new ≡ found program.now bound (before ++ input.now ∷ [])) }
     ensures memory { result ≢ Err MeaningRefusal.InputTooLong }
 {
-    let Ok((outcome, cost)) = cost_of(alloc, program, input, bound, 1) else {
+    let Ok((outcome, counted)) = time_and_work(alloc, program, input, bound) else {
         return Err(MeaningRefusal::OutOfMemory);
     };
-    match findings.add(alloc, &outcome, u64::from(cost.time), cost.work, input) {
+    match findings.add(
+        alloc,
+        &outcome,
+        u64::from(counted.time),
+        counted.work,
+        input,
+    ) {
         Ok(()) => Ok(()),
         Err(_) => Err(MeaningRefusal::OutOfMemory),
     }

@@ -15,9 +15,9 @@ returns-clause-difference c =
     let input = c.args.input.now in
     let one : verdict_of c.in-Ok.outcome ≡ verdict_on p n input =
     (outcome_is_computed p input n (verdict_of c.in-Ok.outcome)).0 c.in-Ok.ensures.outcome in
-    let other : verdict_of c.in-Ok-cost_of.other ≡ verdict_on q n input =
-    (outcome_is_computed q input n (verdict_of c.in-Ok-cost_of.other)).0 c.in-Ok-cost_of.ensures.outcome in
-    let taken : c.from-time.result ≡ time (run_steps q input n) = c.from-time.ensures ∙ c.in-Ok-cost_of.ensures.time in
+    let other : verdict_of c.in-Ok-time_and_work.other ≡ verdict_on q n input =
+    (outcome_is_computed q input n (verdict_of c.in-Ok-time_and_work.other)).0 c.in-Ok-time_and_work.ensures.outcome in
+    let taken : c.from-time.result ≡ time (run_steps q input n) = c.from-time.ensures ∙ c.in-Ok-time_and_work.ensures.time in
     c.first_difference.ensures
     ∙ (λ i. first_difference c.args.compared.now (one i)
-    (record { verdict = other i; time = taken i; work = c.in-Ok-cost_of.ensures.work i }))
+    (record { verdict = other i; time = taken i; work = c.in-Ok-time_and_work.ensures.work i }))

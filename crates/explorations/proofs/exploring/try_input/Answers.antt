@@ -14,7 +14,7 @@ returns-in-Ok-add-clause-found c = λ before e.
     let input = c.args.input.now in
     let v = verdict_of c.in-Ok.outcome in
     let is : verdict_on p n input ≡ v = sym ((outcome_is_computed p input n v).0 c.in-Ok.ensures.outcome) in
-    let cost = c.in-Ok.cost in
+    let cost = c.in-Ok.counted in
     c.in-Ok-add.ensures
     ∙ ap (λ (f : Found). added v c.from.result cost.work input f) e
     ∙ ap (λ (t : ℕ). added v t cost.work input (found p n before)) (c.from.ensures ∙ c.in-Ok.ensures.time)
