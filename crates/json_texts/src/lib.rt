@@ -27,6 +27,6 @@ pub use outcome::json_outcome;
 pub use pair::json_pair;
 pub use refusal::{json_stop, json_unverified, out_of_memory_line};
 pub use rules::json_comparison;
-pub use steps::json_steps;
+pub use steps::{json_step, json_steps};
 pub use sweep::json_sweep;
 pub use trace::json_trace;

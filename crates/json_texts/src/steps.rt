@@ -16,7 +16,7 @@ use crate::acts::acts_facts;
 use crate::cause::put_known;
 use crate::fault::{cell_text, put_fault};
 use crate::outcome::outcome_value;
-use json_lines::{Object, Value, push_line};
+use json_lines::{Object, Value, line_of, push_line};
 use memory_texts::Choice;
 use pram_trees::{Layout, Location, Tree};
 use scope_names::{local_name, variable_name};
@@ -212,6 +212,21 @@ fn step_facts(
     object.put_count("step", number as u64)?;
     put_told(alloc, &mut object, layout, tree, entry)?;
     Ok(object.into_value())
+}
+
+/// An entry of this number, counted from 1, on a line, as [`json_steps`] makes it.
+pub fn json_step(
+    alloc: Global,
+    layout: &Layout,
+    tree: &Tree,
+    number: usize,
+    entry: &Entry,
+) -> Result<String, AllocError>
+    ensures json { IfOk result
+        (λ text. IsJson (spec.step_facts layout.now tree.now number (entry_is entry.now) ∷ []) (string_bytes text)) }
+{
+    let facts = step_facts(alloc, layout, tree, number, entry)?;
+    line_of(alloc, &facts)
 }
 
 // The line of an entry behind so many others, if its number is asked for.

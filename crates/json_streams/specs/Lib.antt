@@ -1,0 +1,3 @@
+pub mod Streams
+pub mod StreamLaws
+pub mod Streamed

@@ -1,0 +1,12 @@
+//! Which entries of a run are written.
+
+use pram_trees::{Layout, Tree};
+
+/// The entries whose numbers, counted from 1, go from `first` to `last`, of a program with these cells and this tree.
+#[derive(Clone, Copy)]
+pub(crate) struct Asked<'a> {
+    pub layout: &'a Layout,
+    pub tree: &'a Tree,
+    pub first: usize,
+    pub last: usize,
+}

@@ -1,0 +1,100 @@
+//! The steps of a run as lines of JSON, written as it goes.
+
+ghost use Rattle.std.specs.Prelude.{◌≡◌, ◌↔◌, ◌<◌, ◌≤◌, ◌^◌, [], IfOk, OnOk, length};
+ghost use Rattle.pram_model.specs.Layout.{total_size};
+ghost use Rattle.text_out.specs.Printing.{printing};
+ghost use Rattle.write_rules.specs.Verdict.{verdict_of};
+ghost use Rattle.pram_meaning.specs.Outcome.{IsOutcome};
+ghost use Rattle.step_journal.specs.Entries.{run_entries};
+ghost use Rattle.json_texts.specs.StepFacts.{steps_from};
+ghost use Rattle.json_streams.specs.Streamed.{HasStreamedJson};
+ghost use Rattle.json_streams.specs.Streams.{PrintsFirst, Streams};
+
+use crate::asked::Asked;
+use crate::stream::Stream;
+use pram_check::Program;
+use pram_meaning::MeaningRefusal;
+use std::alloc::Global;
+use step_journal::tell_run;
+use step_streams::StreamFailure;
+use text_out::Out;
+use write_rules::Outcome;
+
+// The run, told to a stream, which comes back; what it comes to goes into `done`.
+fn run_into<'a, W: Out>(
+    alloc: Global,
+    program: &Program,
+    input: &[i64],
+    bound: u32,
+    stream: Stream<'a, W>,
+    done: &mut Result<Outcome, MeaningRefusal>,
+) -> Stream<'a, W>
+    ensures same_out { result.out.ghost_name ≡ stream.entry.out.ghost_name }
+    ensures outcome { IfOk done.new (λ o. IsOutcome program.now input.now bound (verdict_of o)) }
+    ensures fits { OnOk done.new (length input.now ≤ total_size program.now.layout) }
+    ensures too_long { (done.new ≡ Err MeaningRefusal.InputTooLong) ↔ (total_size program.now.layout < length input.now) }
+    ensures told { OnOk done.new (Streams stream.entry.asked stream.entry.count result.count
+        (printing (W.Out.state stream.entry.out.now) stream.entry.failed) (printing (W.Out.state result.out.now) result.failed)
+        (run_entries program.now input.now bound)) }
+    ensures part { done.new ≡ Err MeaningRefusal.OutOfMemory → PrintsFirst stream.entry.asked stream.entry.count
+        (printing (W.Out.state stream.entry.out.now) stream.entry.failed) (printing (W.Out.state result.out.now) result.failed)
+        (run_entries program.now input.now bound) }
+    ensures untold { done.new ≡ Err MeaningRefusal.InputTooLong → Streams stream.entry.asked stream.entry.count result.count
+        (printing (W.Out.state stream.entry.out.now) stream.entry.failed) (printing (W.Out.state result.out.now) result.failed) [] }
+{
+    let (stream, outcome) = tell_run(alloc, program, input, bound, stream);
+    *done = outcome;
+    stream
+}
+
+/// Runs a program on an input, for at most `bound` statements, and writes each entry whose number, counted from 1, goes from `first` to
+/// `last` as soon as its statement has run, as a line of JSON, as [`json_texts::json_steps`] makes them of entries that are kept. No entry is
+/// kept, and a line no longer than it takes to write it: beside the run it takes the memory of one statement. Behind `last` no more entries
+/// are made, and the run goes on to its outcome.
+///
+/// E11 where there are more values than cells, and then nothing is written; E17 where the writer failed, which ends the run; E16 only where
+/// memory was refused, behind the lines of the statements before.
+pub fn stream_json<W: Out>(
+    alloc: Global,
+    program: &Program,
+    input: &[i64],
+    bound: u32,
+    first: usize,
+    last: usize,
+    out: &mut W,
+) -> Result<Outcome, StreamFailure>
+    requires counted { (W.Out.state out.old).failures < 2 ^ 63 }
+    ensures outcome { IfOk result (λ o. IsOutcome program.now input.now bound (verdict_of o)) }
+    ensures fits { OnOk result (length input.now ≤ total_size program.now.layout) }
+    ensures too_long { (result ≡ Err StreamFailure.InputTooLong) ↔ (total_size program.now.layout < length input.now) }
+    ensures written { HasStreamedJson (W.Out.state out.old) (W.Out.state out.new)
+        (steps_from program.now.layout program.now.tree first last 1) (run_entries program.now input.now bound) result }
+{
+    let asked = Asked {
+        layout: program.layout(),
+        tree: program.tree(),
+        first,
+        last,
+    };
+    let stream = Stream {
+        alloc,
+        asked,
+        out,
+        count: 0,
+        failed: false,
+    };
+    let mut done = Err(MeaningRefusal::OutOfMemory);
+    let stream = run_into(alloc, program, input, bound, stream, &mut done);
+    let Stream { failed, .. } = stream;
+    match done {
+        Ok(outcome) => Ok(outcome),
+        Err(MeaningRefusal::InputTooLong) => Err(StreamFailure::InputTooLong),
+        Err(MeaningRefusal::OutOfMemory) => {
+            if failed {
+                Err(StreamFailure::WriteFailed)
+            } else {
+                Err(StreamFailure::OutOfMemory)
+            }
+        }
+    }
+}
