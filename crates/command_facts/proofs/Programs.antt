@@ -1,6 +1,7 @@
 -- Programs that were loaded are those of their files.
 use Rattle.std.proofs.Common.{ℕ, List}
 use Rattle.std.specs.Prelude.{Option, Some, None}
+use Rattle.pram_tokens.specs.Plain.{IsPlain}
 use Rattle.sized_texts.specs.Faults.{shown}
 use Rattle.sized_texts.specs.Pieces.{Expansion}
 use Rattle.sized_texts.specs.declared.expanded.Expanded.{Expanded}
@@ -35,3 +36,11 @@ pub code_in : (holds : List ℕ → Option (List ℕ) → Type 0) (file : Progra
     (e : Expansion) × IsExpansionIn (holds file.name.now) file.sizes.items e × IsCompiledFrom e.text code
 code_in holds file l code is compiled =
     let found = program_in holds file l is in (found.expansion, found.is_expansion, compiled found.expansion.text found.is_program)
+
+plain_of : (words : List SizeWord) (bytes : List ℕ) (x : Option Expanded) → HasExpansion words bytes x → IsPlain bytes
+plain_of words bytes None has = absurd has
+plain_of words bytes (Some e) has = has.plain
+
+-- the text of a program is plain
+pub plain_in : (holds : Option (List ℕ) → Type 0) (file : ProgramFile) (l : Loaded) → IsLoaded holds file l → IsPlain l.source.bytes.items
+plain_in holds file l is = plain_of file.sizes.items l.source.bytes.items l.source.expansion is.0.1

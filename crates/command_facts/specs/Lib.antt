@@ -3,6 +3,7 @@ pub mod Held
 pub mod Found
 pub mod Refused
 pub mod Scopes
+pub mod Limits
 pub mod Pairs
 pub mod Sweeps
 pub mod Calls

@@ -27,6 +27,7 @@ use Rattle.program_texts.specs.declared.stop.Stop.TheVariants as stop
 use Rattle.command_facts.specs.declared.found.FoundPair.{FoundPair}
 use Rattle.command_facts.specs.declared.halted.Halted.{Halted}
 use Rattle.command_facts.specs.Held.{IsInputIn, StopsAtInput, StopsAtProgram}
+use Rattle.command_facts.specs.Limits.{AreLimits, HaveNoLimits}
 use Rattle.command_facts.specs.Refused.{AreNumbers, IsProgramIn}
 
 -- ---- what is compared
@@ -47,13 +48,12 @@ uncommon_name All first second = None
 uncommon_name Nothing first second = None
 uncommon_name (Named word) first second = find (is_uncommon first second) (parts word.now)
 
--- the output and all that both declare, or what is named, by the limits that are asked for
-pub record IsCompared (words : PairWords) (first second : List SharedEntry) (c : Compared) : Type 0 where
+-- the output and all that both declare, or what is named, by the limits that are asked for, of the second program, which has this text
+pub record IsCompared (words : PairWords) (first second : List SharedEntry) (text : List ℕ) (c : Compared) : Type 0 where
   pub there : uncommon_name words.only first second ≡ None
   pub output : c.output ≡ is_chosen words.only (codes "output")
   pub ranges : c.ranges.items ≡ ranges_of words.only first second
-  pub time : c.limits.time ≡ words.most_time
-  pub work : c.limits.work ≡ words.most_work
+  pub limits : AreLimits words text c.limits
 
 -- ---- the inputs
 
@@ -77,8 +77,10 @@ IsFoundOn holds p q c words bound f = (is : List (List ℤ)) × AreInputs holds 
 pub record IsPaired (holds : List ℕ → Option (List ℕ) → Type 0) (words : PairWords) (f : FoundPair) : Type 0 where
   pub first : IsProgramIn holds words.first f.first
   pub second : IsProgramIn holds words.second f.second
+  pub text : List ℕ
+  pub held : holds words.second.name.now (Some text)
   pub compared : Compared
-  pub is_compared : IsCompared words f.first.layout f.second.layout compared
+  pub is_compared : IsCompared words f.first.layout f.second.layout text compared
   pub found : IsFoundOn holds f.first f.second compared words.inputs words.bound f.comparison
 
 -- ---- why nothing is
@@ -127,13 +129,18 @@ abbrev pub IsRefusedPair : (List ℕ → Option (List ℕ) → Type 0) → Input
 IsRefusedPair holds words p q h =
     StopsAtWords holds words h ⊎ ((values : ℕ) × AreMost holds words p values × IsTooLong p q values h.stop h.about)
 
--- behind both files: at what is to be compared, at an input, or at the runs
+-- a limit has no number by the text of the second program
+abbrev pub StopsAtLimits : (List ℕ → Option (List ℕ) → Type 0) → PairWords → Halted → Type 0
+StopsAtLimits holds words h = (text : List ℕ) × holds words.second.name.now (Some text) × HaveNoLimits words text h
+
+-- behind both files: at what is to be compared, at a limit, at an input, or at the runs
 pub record StopsBehindBoth (holds : List ℕ → Option (List ℕ) → Type 0) (words : PairWords) (h : Halted) : Type 0 where
   pub first : Checked
   pub second : Checked
   pub is_first : IsProgramIn holds words.first first
   pub is_second : IsProgramIn holds words.second second
-  pub refused : IsUncommonIn words first.layout second.layout h.stop h.about ⊎ IsRefusedPair holds words.inputs first second h
+  pub refused : IsUncommonIn words first.layout second.layout h.stop h.about
+      ⊎ (StopsAtLimits holds words h ⊎ IsRefusedPair holds words.inputs first second h)
 
 -- why nothing is found: for the first file, for the second, or behind both
 abbrev pub StopsAtPair : (List ℕ → Option (List ℕ) → Type 0) → PairWords → Halted → Type 0

@@ -21,7 +21,7 @@ use call_progress::Watch;
 use command_requests::{ProgramFile, Request, RunWords, Verb};
 use memory_texts::unknown_name;
 use pram_trees::Layout;
-use program_runs::{compile_program, run_code};
+use program_runs::{compile_program, outcome_of_code};
 use program_texts::{Refusal, Stop};
 use rule_comparison::{Comparison, compare_rules};
 use std::alloc::Global;
@@ -140,8 +140,8 @@ fn find_code_run<'a, R: Threads + Wait + Sync, S: Sources>(
     check_names(code.code().layout(), words)?;
     let input = load_opening(alloc, sources, words.opening, code.code().layout())?;
     let (options, reserve) = (words.options, words.reserve);
-    match run_code(rt, alloc, &code, &input, options, reserve, &OpenGate) {
-        Ok((outcome, _counts)) => Ok(FoundCode {
+    match outcome_of_code(rt, alloc, &code, &input, options, reserve, &OpenGate) {
+        Ok(outcome) => Ok(FoundCode {
             code,
             shown: words.shown,
             outcome,

@@ -6,6 +6,7 @@ mod exploring;
 mod finding;
 mod found;
 mod halted;
+mod limiting;
 mod loaded;
 mod loading;
 mod opening;

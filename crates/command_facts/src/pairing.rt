@@ -6,23 +6,26 @@ ghost use Rattle.std.specs.Option.{option_map};
 ghost use Rattle.system_files.specs.Files.{IsSame};
 ghost use Rattle.memory_texts.specs.Chosen.{parts};
 ghost use Rattle.pram_model.specs.Layout.{total_size};
+ghost use Rattle.pram_tokens.specs.Plain.{IsPlain};
 ghost use Rattle.small_scopes.specs.Scopes.{inputs_of};
 ghost use Rattle.comparisons.specs.Common.{common_named};
 ghost use Rattle.comparisons.specs.Found as pairs;
 ghost use Rattle.comparisons.specs.Found.{drawn_inputs};
 ghost use Rattle.comparisons.specs.declared.refusal.Side as rust;
 ghost use Rattle.command_facts.specs.Held.{StopsAtProgram};
+ghost use Rattle.command_facts.specs.Limits.{HaveNoLimits};
 ghost use Rattle.command_facts.specs.Pairs as spec;
 ghost use Rattle.command_facts.specs.Refused.{IsProgramIn};
 
 use crate::found::FoundPair;
 use crate::halted::Halted;
+use crate::limiting::limits_of;
 use crate::loading::load_program;
 use crate::pair_inputs::load_inputs;
 use command_requests::{DrawnWords, FewInputs, InputFile, InputWords, PairWords, ProgramFile};
 use comparisons::{
-    CommonRange, Compared, Comparison, ComparisonRefusal, Limits, Side, common_ranges,
-    compare_drawn, compare_inputs, compare_scope, longest, named_range,
+    CommonRange, Compared, Comparison, ComparisonRefusal, Side, common_ranges, compare_drawn,
+    compare_inputs, compare_scope, longest, named_range,
 };
 use diagnoses::About;
 use memory_texts::{Choice, is_chosen};
@@ -44,6 +47,22 @@ fn load<'a, S: Sources>(
 {
     let loaded = load_program(alloc, sources, file)?;
     Ok(loaded.program)
+}
+
+// The same, with the text that the file holds.
+fn load_with_text<'a, S: Sources>(
+    alloc: Global,
+    file: &ProgramFile<'a>,
+    sources: &mut S,
+) -> Result<(Program, Vec<u8>), Halted<'a>>
+    ensures loaded { IfOk result (λ l. IsProgramIn (S.Sources.holds sources.old) file.now l.0) }
+    ensures held { IfOk result (λ l. S.Sources.holds sources.old file.now.name.now (Some l.1.items)) }
+    ensures plain { IfOk result (λ l. IsPlain l.1.items) }
+    ensures refused { IfErr result (StopsAtProgram (S.Sources.holds sources.old file.now.name.now) file.now) }
+    ensures same { IsSame (S.Sources.holds sources.new) (S.Sources.holds sources.old) }
+{
+    let loaded = load_program(alloc, sources, file)?;
+    Ok((loaded.program, loaded.source.bytes))
 }
 
 // Whether a name is neither that of the output nor of a declaration that both have.
@@ -116,24 +135,18 @@ fn ranges_of(
     }
 }
 
-fn limit_of(most: Option<u32>) -> Option<u64>
-    ensures { result ≡ most }
-{
-    match most {
-        None => None,
-        Some(most) => Some(u64::from(most)),
-    }
-}
-
-// What of the runs is compared.
+// What of the runs is compared, and the limits of the second, whose program has this text.
 fn compared_of<'a>(
     alloc: Global,
     words: &PairWords<'a>,
     first: &Layout,
     second: &Layout,
+    text: &[u8],
 ) -> Result<Compared, Halted<'a>>
-    ensures compared { IfOk result (spec.IsCompared words.now first.now second.now) }
-    ensures refused { IfErr result (λ h. spec.IsUncommonIn words.now first.now second.now h.stop h.about) }
+    requires plain { IsPlain text.now }
+    ensures compared { IfOk result (spec.IsCompared words.now first.now second.now text.now) }
+    ensures refused { IfErr result (λ h. spec.IsUncommonIn words.now first.now second.now h.stop h.about
+        ⊎ HaveNoLimits words.now text.now h) }
 {
     if let Some(name) = uncommon_name(first, second, words.only) {
         return Err(Halted::from(Stop::Number(name)));
@@ -141,13 +154,11 @@ fn compared_of<'a>(
     let Ok(ranges) = ranges_of(alloc, first, second, words.only) else {
         return Err(Halted::from(Stop::Refused(Refusal::OutOfMemory)));
     };
+    let limits = limits_of(alloc, words, text)?;
     Ok(Compared {
         output: is_chosen(words.only, b"output"),
         ranges,
-        limits: Limits {
-            time: limit_of(words.most_time),
-            work: limit_of(words.most_work),
-        },
+        limits,
     })
 }
 
@@ -283,8 +294,8 @@ pub(crate) fn find_pair<'a, S: Sources>(
     ensures refused { IfErr result (spec.StopsAtPair (S.Sources.holds sources.old) words.now) }
 {
     let first = load(alloc, &words.first, sources)?;
-    let second = load(alloc, &words.second, sources)?;
-    let compared = compared_of(alloc, words, first.layout(), second.layout())?;
+    let (second, text) = load_with_text(alloc, &words.second, sources)?;
+    let compared = compared_of(alloc, words, first.layout(), second.layout(), &text)?;
     let comparison = compare_on(alloc, &first, &second, &compared, words, sources)?;
     Ok(FoundPair {
         first,

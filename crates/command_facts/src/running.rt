@@ -12,7 +12,7 @@ use crate::tracing::trace_of;
 use command_requests::{CostWords, RunWords, Verb};
 use exchange_counts::Counts;
 use pram_check::Program;
-use program_runs::run_program;
+use program_runs::{outcome_of_program, run_program};
 use program_texts::{Refusal, mean_program};
 use std::alloc::Global;
 use std::sync::Wait;
@@ -129,7 +129,10 @@ pub(crate) fn facts_of<R: Threads + Wait + Sync>(
         Verb::Cost => cost(alloc, program, input, words),
         Verb::Steps => steps(alloc, program, input, words),
         Verb::Run => {
-            let (outcome, _counts) = by_workers(rt, alloc, program, input, words)?;
+            let (options, reserve) = (words.options, words.reserve);
+            let outcome = outcome_of_program(
+                rt, alloc, program, input, options, reserve, &OpenGate,
+            )?;
             Ok((outcome, Facts::Nothing))
         }
         Verb::Trace => trace(rt, alloc, program, input, words),

@@ -13,10 +13,10 @@ pub struct PairWords<'a> {
     /// What of runs that end is compared: the output and what both programs declare, or of these what has a name among these, of which
     /// `output` is that of the output.
     pub only: Choice<'a>,
-    /// The most statements that a run of the second program may take to its end.
-    pub most_time: Option<u32>,
+    /// The most statements that a run of the second program may take to its end: a number, or an expression of its sizes.
+    pub most_time: Option<&'a str>,
     /// The most work that it may take.
-    pub most_work: Option<u32>,
+    pub most_work: Option<&'a str>,
     /// The most statements that are run.
     pub bound: u32,
 }

@@ -40,12 +40,12 @@ pub(crate) fn over_pair<'a>(alloc: Global, words: &Subcommand) -> Result<Command
         .help("Compares what has these names alone, as a,output");
     let time = Arg::new(alloc, TIME_AT_MOST)
         .long(TIME_AT_MOST)
-        .value_name("N")
-        .help("The most time that FILE2 may take to its end");
+        .value_name("E")
+        .help("The most time that FILE2 may take to its end, as 40 or 4*log(n)+10 of its sizes");
     let work = Arg::new(alloc, WORK_AT_MOST)
         .long(WORK_AT_MOST)
-        .value_name("N")
-        .help("The most work that FILE2 may take to its end");
+        .value_name("E")
+        .help("The most work that FILE2 may take to its end, the same");
     let command = scoped(alloc, over_file(alloc, words)?.arg(second)?)?;
     with_inputs(alloc, bounded(alloc, command)?)?
         .arg(only)?

@@ -14,7 +14,6 @@ use command_requests::{DrawnWords, InputFile, InputWords, MOST_DRAWN, PairWords,
 use drawn_inputs::{Drawing, read_interval};
 use memory_texts::Choice;
 use program_texts::Stop;
-use run_options::read_number;
 use std::alloc::{AllocError, Global};
 
 // What is told where a call has none of the ways to give inputs, a part of one, or two.
@@ -70,19 +69,6 @@ fn input_words<'a>(alloc: Global, words: &ArgMatches<'a>) -> Result<InputWords<'
     }
 }
 
-// A limit, if the command line has one.
-fn limit_of<'a>(words: &ArgMatches<'a>, option: &str) -> Result<Option<u32>, Stop<'a>>
-    ensures { IfErr result IsOfWords }
-{
-    match words.get_str(option) {
-        None => Ok(None),
-        Some(word) => match read_number(word) {
-            Some(most) => Ok(Some(most)),
-            None => Err(Stop::Number(word)),
-        },
-    }
-}
-
 /// On which inputs the programs of these two files are run, and what of their runs is compared.
 pub(crate) fn pair_words<'a>(
     alloc: Global,
@@ -94,8 +80,6 @@ pub(crate) fn pair_words<'a>(
 {
     let bound = number_of(words, BOUND)?;
     let inputs = input_words(alloc, words)?;
-    let most_time = limit_of(words, TIME_AT_MOST)?;
-    let most_work = limit_of(words, WORK_AT_MOST)?;
     let only = match words.get_str(ONLY) {
         None => Choice::All,
         Some(names) => Choice::Named(names),
@@ -105,8 +89,8 @@ pub(crate) fn pair_words<'a>(
         second,
         inputs,
         only,
-        most_time,
-        most_work,
+        most_time: words.get_str(TIME_AT_MOST),
+        most_work: words.get_str(WORK_AT_MOST),
         bound,
     })
 }

@@ -108,8 +108,8 @@ What is written:
 --flow              a picture of the flow of data between cells: steps
 --only NAMES        a flow between these declarations alone, as a,b: steps;
                     or compares these alone, as a,output: compare
---time-at-most N    tells where FILE2 takes more time: compare
---work-at-most N    or more work: compare
+--time-at-most E    tells where FILE2 takes more time: compare
+--work-at-most E    or more work: compare
 --bsp G,L           what exchanges cost, G a word of h, L an exchange: trace
 --outcome           behind the exchanges what run writes: trace
 --listing LISTING   a listing in place of FILE: export

@@ -26,7 +26,7 @@ Exit status: 0 all end, 1 one faults, 2 it was refused, 3 none faults and one
 met the bound.
 ";
 
-pub(crate) const COMPARE: [u8; 1406] =
+pub(crate) const COMPARE: [u8; 1466] =
     *b"pramc compare FILE FILE2: runs two programs on the same inputs.
 
 It says on how many inputs both come to the same: both end with the same output
@@ -51,8 +51,9 @@ Which inputs, by one of these lines:
 What is compared, else the output, and what both declare with the same bounds:
 
 --only NAMES        what has these names alone, as a,output
---time-at-most N    of a run of FILE2 that ends: the most time
---work-at-most N    and the most work
+--time-at-most E    of a run of FILE2 that ends: the most time, as 40,
+                    or by its sizes, as 4*log(n)+10
+--work-at-most E    and the most work
 
 --bound N           the most statements that are run, else 1000000
 --size NAME=VALUE   another number for a size that both declare, as n=16

@@ -64,8 +64,8 @@ fn wanted(given: Given) -> &'static [u8]
         Given::Permutations => b"a number from 1 to 10",
         Given::Under => b"erew, crew, common, priority or sum",
         Given::Count => b"a number from 1 to 1000000",
-        Given::TimeAtMost => b"a number from 0 to 4294967295",
-        Given::WorkAtMost => b"a number from 0 to 4294967295",
+        Given::TimeAtMost => b"a number, or an expression of the sizes of FILE2, as 4*log(n)+10",
+        Given::WorkAtMost => b"a number, or an expression of the sizes of FILE2, as 4*log(n)+10",
         Given::Size => {
             b"NAME=VALUE, once for each size that the program declares, VALUE from 0 to 9223372036854775807"
         }
