@@ -79,7 +79,7 @@ fn exchanges(alloc: Global, header: [u64; 4], words: &[u64]) -> Option<u32> {
     let Ok(map) = Identity::new(8, 2) else {
         return None;
     };
-    let Ok(worker) = CountedWorker::new(alloc, code, &map, 2, 0, &[9, 8]) else {
+    let Ok(worker) = CountedWorker::new(alloc, code, &map, 2, 0, &[9, 8], true) else {
         return None;
     };
     let most = worker.local.buffers.reply.len();

@@ -5,10 +5,10 @@ ghost use Rattle.address_map.specs.Lawful.{Shape};
 ghost use Rattle.pram_model.specs.declared.rule.Rule.TheVariants.{Crew};
 ghost use Rattle.write_rules.specs.Verdict.{verdict_of};
 ghost use Rattle.superstep_machine.specs.Run.{IsBspOutcome};
-ghost use Rattle.superstep_machine.specs.Trace.{AreBspExchanges};
 ghost use Rattle.bsp_verify.specs.WellFormed.{IsWellFormed};
 ghost use Rattle.worker_exchange.specs.Equipped.{most_words, IsRunnable};
 ghost use Rattle.bsp_machine.specs.Opening.{IsRoom};
+ghost use Rattle.bsp_machine.specs.Ended.{AreExchanges};
 ghost use Rattle.run_tests.specs.Callers.{Opens, IsNewSeat, HasPlayed};
 
 use crate::listing::{TRACE, verified};
@@ -68,10 +68,10 @@ fn open_both<M: AddressMap>(
     ensures first { IfSome result (λ both. Opens code.now (M.shape map.now) input.now 0 both.0) }
     ensures second { IfSome result (λ both. Opens code.now (M.shape map.now) input.now 1 both.1) }
 {
-    let Ok(first) = CountedWorker::new(alloc, code, map, 2, 0, input) else {
+    let Ok(first) = CountedWorker::new(alloc, code, map, 2, 0, input, true) else {
         return None;
     };
-    let Ok(second) = CountedWorker::new(alloc, code, map, 2, 1, input) else {
+    let Ok(second) = CountedWorker::new(alloc, code, map, 2, 1, input, true) else {
         return None;
     };
     Some((first, second))
@@ -171,7 +171,7 @@ fn gather_both<M: AddressMap>(
     first: (RowSeat, CountedWorker),
     second: (RowSeat, CountedWorker),
     room: Room,
-) -> Option<(Outcome, Counts)>
+) -> Option<(Outcome, Option<Counts>)>
     requires runnable { IsRunnable code.now (M.shape map.now) }
     requires parts { (M.shape map.now).parts ≡ 2 }
     requires workers { turnstile.workers ≡ 2 }
@@ -179,7 +179,7 @@ fn gather_both<M: AddressMap>(
     requires second { HasPlayed turnstile code.now (M.shape map.now) bound input.now 1 second.0 second.1 }
     requires room { IsRoom code.now (M.shape map.now) room.end }
     ensures outcome { IfSome result (λ found. IsBspOutcome code.now (M.shape map.now) input.now bound (verdict_of found.0)) }
-    ensures counts { IfSome result (λ found. AreBspExchanges code.now (M.shape map.now) input.now bound (verdict_of found.0) found.1) }
+    ensures counts { IfSome result (λ found. AreExchanges code.now (M.shape map.now) input.now bound (verdict_of found.0) found.1) }
 {
     let Room {
         mut seats,
@@ -204,11 +204,11 @@ fn run_by_hand<R: Threads + Wait + Sync, M: AddressMap + Sync>(
     map: &M,
     input: &[i64],
     bound: u32,
-) -> Option<(Outcome, Counts)>
+) -> Option<(Outcome, Option<Counts>)>
     requires formed { IsWellFormed code.now }
     requires rule { code.now.rule ≡ Crew }
     ensures outcome { IfSome result (λ found. IsBspOutcome code.now (M.shape map.now) input.now bound (verdict_of found.0)) }
-    ensures counts { IfSome result (λ found. AreBspExchanges code.now (M.shape map.now) input.now bound (verdict_of found.0) found.1) }
+    ensures counts { IfSome result (λ found. AreExchanges code.now (M.shape map.now) input.now bound (verdict_of found.0) found.1) }
 {
     let room = room_of(alloc, code)?;
     let (first, second) = open_both(alloc, code, map, input)?;
@@ -234,7 +234,7 @@ fn run_crew<R: Threads + Wait + Sync, M: AddressMap + Sync>(
     map: &M,
     input: &[i64],
     bound: u32,
-) -> Option<(Outcome, Counts)>
+) -> Option<(Outcome, Option<Counts>)>
     requires formed { IsWellFormed code.now }
 {
     match code.rule() {
@@ -248,7 +248,7 @@ fn is_broadcast<R: Threads + Wait + Sync>(rt: &R, alloc: Global) -> Option<bool>
     let map = Identity::new(8, 2).ok()?;
     let (outcome, counts) = run_crew(rt, alloc, verified.code(), &map, &[9, 8], 2)?;
     let mut out = Buffer::new(alloc);
-    write_trace(&counts, &[], &mut out).ok()?;
+    write_trace(&counts?, &[], &mut out).ok()?;
     let has_ended = match &outcome {
         Outcome::Ended { output, memory } => {
             output.is_empty() && memory.as_slice() == [9, 8, 9, 9, 9, 9].as_slice()
