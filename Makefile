@@ -1,6 +1,6 @@
 # The crates are proved, built and tested by the toolchain's command `rt`.
 
-.PHONY: all check test examples bench refusals fuzz memory memory-table hostile unthreaded page-test editor-test mpi-test dist dist-test clean install uninstall
+.PHONY: all check test examples bench refusals wrong-bodies fuzz memory memory-table hostile unthreaded page-test editor-test mpi-test dist dist-test clean install uninstall
 
 sources := $(shell find crates -name out -prune -o \( -name '*.rt' -o -name '*.antt' \) -print) crates.txt
 
@@ -20,7 +20,8 @@ check:
 	rt all check
 
 # The merge gate: the scripts of gate/, the plans of the examples, the callers that must not compile; then every proof from nothing, every
-# must-fail edit, every test and program; then the examples, the documents and hostile use, of the program that this built.
+# must-fail edit, every test and program; then the examples, the documents and hostile use, of the program that this built. The wrong bodies
+# that it leaves out (`make wrong-bodies`) are only looked at.
 test:
 	python3 gate/crates.py
 	python3 gate/definitions.py
@@ -31,6 +32,7 @@ test:
 	python3 gate/mpi.py
 	python3 gate/scale.py
 	python3 gate/build_test.py
+	python3 gate/wrong_bodies.py
 	bash gate/plans.sh
 	set -e; for check in crates/*/refusals/check.sh; do bash $$check; done
 	bash gate/prove.sh
@@ -46,6 +48,12 @@ bench:
 # Shows that callers which must not compile are refused.
 refusals:
 	set -e; for check in crates/*/refusals/check.sh; do bash $$check; done
+
+NAMES ?=
+
+# Has the prover refuse the wrong bodies that the gate leaves out, of the crates NAMES or of all.
+wrong-bodies:
+	python3 gate/wrong_bodies.py try $(NAMES)
 
 SEED ?= 1
 COUNT ?= 500
