@@ -31,18 +31,15 @@ def rules():
 
 def commands():
     """The options of each command, with the names of their values, and the name of what the command is over."""
-    text = source("command_words/src/grammar.rt") + source("command_words/src/pair_grammar.rt")
-    words = dict(re.findall(r'const (\w+): &str = "([^"]*)";', text))
-    names = dict(re.findall(r'const (\w+): Subcommand = Subcommand \{\n    name: "(\w+)"', text))
-    makers = {}
-    for maker, body in re.findall(r"^(?:pub\(crate\) )?fn (\w+)<'a>\(.*?\{\n(.*?)^\}", text, re.M | re.S):
-        found = re.findall(r'\.long\((\w+)\)(?:\s*\.value_name\("([^"]*)"\))?', body)
-        below = [makers[it] for it in makers if f"{it}(alloc, " in body]
-        makers[maker] = {words[option]: value for option, value in found}
-        for it in below:
-            makers[maker].update(it)
-    found = re.findall(r"\.subcommand\(((?:\w+\(alloc, )+)&(\w+)\)", text)
-    return {names[of]: {word: it for maker in around.split("(alloc, ")[:-1] for word, it in makers[maker].items()} for around, of in found}
+    text = source("command_words/src/options.rt")
+    words = dict(re.findall(r'const (\w+): &str =\s*"([^"]*)";', text))
+    groups = {}
+    for group, body in re.findall(r"const (\w+): &\[CommandOption\] = &\[(.*?)^\}?\];", text, re.M | re.S):
+        found = re.findall(r'name: (\w+),\s*follows: Follows::\w+(?:\(\s*"([^"]*)")?', body)
+        groups[group] = {words[option]: value for option, value in found}
+    table = source("command_words/src/subcommands.rt")
+    found = re.findall(r'Subcommand \{\s*name: "(\w+)".*?options: &\[(.*?)\],', table, re.S)
+    return {name: {word: it for group in re.findall(r"\w+", used) for word, it in groups[group].items()} for name, used in found}
 
 
 def subjects():

@@ -3,11 +3,12 @@
 
 mod command_line;
 mod grammar;
-mod pair_grammar;
+mod options;
 mod pair_reading;
 mod reading;
 mod run_reading;
 mod scope_reading;
+mod subcommands;
 
 pub use command_line::CommandLine;
 pub use reading::read_words;

@@ -3,7 +3,7 @@
 ghost use Rattle.std.specs.Prelude.{IfErr};
 ghost use Rattle.command_requests.specs.Words.{IsOfWords};
 
-use crate::grammar::{
+use crate::options::{
     BOUND, CELLS, COUNT, INPUT, ONLY, PERMUTATIONS, RANDOM, SEED, TIME_AT_MOST, VALUES,
     WORK_AT_MOST,
 };

@@ -4,9 +4,10 @@ ghost use Rattle.std.specs.Prelude.{◌≡◌, IfErr, map};
 ghost use Rattle.std.specs.String.{string_bytes};
 ghost use Rattle.command_requests.specs.Words.{AsksForVersion, IsOfWords};
 
-use crate::grammar::{
+use crate::grammar::grammar;
+use crate::options::{
     BSP, FILE, FLOW, FORMAT, HTML, LINES, LISTING_FILE, OUTCOME, SCHEDULE, SECOND, SIZE, SVG,
-    SWEEP, WORD, grammar,
+    SWEEP, WORD,
 };
 use crate::pair_reading::pair_words;
 use crate::run_reading::run_words;

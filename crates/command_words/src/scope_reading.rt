@@ -3,7 +3,7 @@
 ghost use Rattle.std.specs.Prelude.{◌≤◌, IfOk, IfErr};
 ghost use Rattle.command_requests.specs.Words.{IsOfWords};
 
-use crate::grammar::{CELLS, PERMUTATIONS, UNDER, VALUES};
+use crate::options::{CELLS, PERMUTATIONS, UNDER, VALUES};
 use clap::ArgMatches;
 use command_requests::{FewInputs, MOST_CELLS, MOST_INPUTS, MOST_ORDERED, ScopeWords, read_rule};
 use drawn_inputs::read_interval;

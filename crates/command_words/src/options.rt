@@ -1,0 +1,346 @@
+//! The options of the program, by their names, with what its help says of them.
+
+/// What stands behind an option.
+#[derive(Clone, Copy)]
+pub(crate) enum Follows {
+    Nothing,
+    Word(&'static str),
+    // a word, and this one where the option is left out
+    WordOr(&'static str, &'static str),
+    // a word that may begin with a hyphen, as a number below zero
+    Signed(&'static str),
+    // a word, and another where the option is given again
+    Words(&'static str),
+}
+
+/// An option, and what its help says.
+#[derive(Clone, Copy)]
+pub(crate) struct CommandOption {
+    pub(crate) name: &'static str,
+    pub(crate) follows: Follows,
+    pub(crate) help: &'static str,
+}
+
+pub(crate) const FILE: &str = "FILE";
+
+pub(crate) const SECOND: &str = "FILE2";
+
+pub(crate) const WORD: &str = "WORD";
+
+pub(crate) const BOUND: &str = "bound";
+
+pub(crate) const INPUT: &str = "input";
+
+pub(crate) const WORKERS: &str = "workers";
+
+pub(crate) const MAP: &str = "map";
+
+pub(crate) const RESERVE: &str = "reserve";
+
+pub(crate) const SCHEDULE: &str = "schedule";
+
+pub(crate) const LINES: &str = "lines";
+
+pub(crate) const FROM: &str = "from";
+
+pub(crate) const TO: &str = "to";
+
+pub(crate) const LOCALS: &str = "locals";
+
+pub(crate) const OUTCOME: &str = "outcome";
+
+pub(crate) const BSP: &str = "bsp";
+
+pub(crate) const SVG: &str = "svg";
+
+pub(crate) const HTML: &str = "html";
+
+pub(crate) const FLOW: &str = "flow";
+
+pub(crate) const FORMAT: &str = "format";
+
+pub(crate) const SIZE: &str = "size";
+
+pub(crate) const MEMORY: &str = "memory";
+
+pub(crate) const RANDOM: &str = "random";
+
+pub(crate) const SEED: &str = "seed";
+
+pub(crate) const ONLY: &str = "only";
+
+pub(crate) const SHOW: &str = "show";
+
+pub(crate) const QUIET: &str = "quiet";
+
+pub(crate) const SWEEP: &str = "sweep";
+
+pub(crate) const CELLS: &str = "cells";
+
+pub(crate) const VALUES: &str = "values";
+
+pub(crate) const PERMUTATIONS: &str = "permutations";
+
+pub(crate) const UNDER: &str = "under";
+
+pub(crate) const LISTING_FILE: &str = "listing";
+
+pub(crate) const COUNT: &str = "count";
+
+pub(crate) const TIME_AT_MOST: &str = "time-at-most";
+
+pub(crate) const WORK_AT_MOST: &str = "work-at-most";
+
+const EXPLAINED: &str = "explain";
+
+/// Explains a refusal or a fault.
+pub(crate) const EXPLAIN: &[CommandOption] = &[CommandOption {
+    name: EXPLAINED,
+    follows: Follows::Nothing,
+    help: "Explains a refusal or a fault on standard error",
+}];
+
+/// Numbers for the sizes of a text.
+pub(crate) const SIZES: &[CommandOption] = &[CommandOption {
+    name: SIZE,
+    follows: Follows::Words("NAME=VALUE"),
+    help: "A number for a size of the text, in place of its default",
+}];
+
+/// How it is told.
+pub(crate) const FORMATS: &[CommandOption] = &[CommandOption {
+    name: FORMAT,
+    follows: Follows::WordOr("FORMAT", "text"),
+    help: "How it is told: text, or json for programs that read; of check also gnu, for editors",
+}];
+
+/// How long it runs.
+pub(crate) const BOUNDED: &[CommandOption] = &[CommandOption {
+    name: BOUND,
+    follows: Follows::WordOr("N", "1000000"),
+    help: "The most statements that are run",
+}];
+
+/// What the cells hold at first.
+pub(crate) const OPENED: &[CommandOption] = &[
+    CommandOption {
+        name: INPUT,
+        follows: Follows::Word("FILE"),
+        help: "A file with the values of the first cells",
+    },
+    CommandOption {
+        name: MEMORY,
+        follows: Follows::Word("FILE"),
+        help: "A file with values of cells by their names, as a[1..4] = 4 3 2 1",
+    },
+    CommandOption {
+        name: RANDOM,
+        follows: Follows::Signed("LO..HI"),
+        help: "Draws the values of all cells from this interval",
+    },
+    CommandOption {
+        name: SEED,
+        follows: Follows::Word("S"),
+        help: "Of two draws with one seed all values are the same; 1 where none is given",
+    },
+];
+
+/// What is written of the memory.
+pub(crate) const SHOWN: &[CommandOption] = &[
+    CommandOption {
+        name: SHOW,
+        follows: Follows::Word("NAMES"),
+        help: "Writes these shared declarations alone, as a,b",
+    },
+    CommandOption {
+        name: QUIET,
+        follows: Follows::Nothing,
+        help: "Writes no memory",
+    },
+];
+
+/// What is counted of a run.
+pub(crate) const COUNTED: &[CommandOption] = &[
+    CommandOption {
+        name: SCHEDULE,
+        follows: Follows::Word("P"),
+        help: "Counts the rounds on P processors too, P from 1",
+    },
+    CommandOption {
+        name: LINES,
+        follows: Follows::Nothing,
+        help: "Counts for each line of the program too",
+    },
+    CommandOption {
+        name: SWEEP,
+        follows: Follows::Word("NAME=SIZES"),
+        help: "Counts at each size, as n=4,8,16 or n=4..64*2 or n=10..50+10; --format csv makes a table",
+    },
+    CommandOption {
+        name: SVG,
+        follows: Follows::Nothing,
+        help: "Draws time and work against the sizes of a sweep, as SVG",
+    },
+];
+
+/// Which statements of a run are told, and what of them.
+pub(crate) const TOLD: &[CommandOption] = &[
+    CommandOption {
+        name: FROM,
+        follows: Follows::WordOr("K", "1"),
+        help: "The first statement that is told, counted from 1",
+    },
+    CommandOption {
+        name: TO,
+        follows: Follows::WordOr("K", "4294967295"),
+        help: "The last statement that is told",
+    },
+    CommandOption {
+        name: LOCALS,
+        follows: Follows::Nothing,
+        help: "Tells of variables, locals and printed numbers too",
+    },
+];
+
+/// Pictures of the statements, and a page of them.
+pub(crate) const DRAWN: &[CommandOption] = &[
+    CommandOption {
+        name: SVG,
+        follows: Follows::Nothing,
+        help: "Draws them all, as SVG",
+    },
+    CommandOption {
+        name: FLOW,
+        follows: Follows::Nothing,
+        help: "Draws the flow of data between the shared cells, as SVG",
+    },
+    CommandOption {
+        name: ONLY,
+        follows: Follows::Word("NAMES"),
+        help: "Draws the flow between these shared declarations alone, as a,b",
+    },
+    CommandOption {
+        name: HTML,
+        follows: Follows::Nothing,
+        help: "Makes a page that steps through them all",
+    },
+];
+
+/// Who runs it.
+pub(crate) const WORKED: &[CommandOption] = &[
+    CommandOption {
+        name: WORKERS,
+        follows: Follows::WordOr("P", "4"),
+        help: "The number of workers, 1 to 32",
+    },
+    CommandOption {
+        name: MAP,
+        follows: Follows::WordOr("MAP", "identity"),
+        help: "Where cells lie: identity, or affine:A,B with A odd",
+    },
+    CommandOption {
+        name: RESERVE,
+        follows: Follows::Word("ITEMS,EXCHANGES"),
+        help: "Takes all memory first, for so many printed numbers and exchanges",
+    },
+];
+
+/// What is told of the exchanges.
+pub(crate) const TRACED: &[CommandOption] = &[
+    CommandOption {
+        name: SVG,
+        follows: Follows::Nothing,
+        help: "Draws them, as SVG",
+    },
+    CommandOption {
+        name: OUTCOME,
+        follows: Follows::Nothing,
+        help: "Tells the run's outcome behind them",
+    },
+    CommandOption {
+        name: LINES,
+        follows: Follows::Nothing,
+        help: "Tells of each the line of the statement that it serves",
+    },
+    CommandOption {
+        name: BSP,
+        follows: Follows::Word("G,L"),
+        help: "Tells what they cost: for each G times its h, and L",
+    },
+];
+
+/// A scope of inputs.
+pub(crate) const SCOPED: &[CommandOption] = &[
+    CommandOption {
+        name: CELLS,
+        follows: Follows::Word("K"),
+        help: "Tries all inputs of K values, K up to 1048576",
+    },
+    CommandOption {
+        name: VALUES,
+        follows: Follows::Signed("LO..HI"),
+        help: "The values are those of this interval, for at most 100000000 inputs",
+    },
+    CommandOption {
+        name: PERMUTATIONS,
+        follows: Follows::Word("K"),
+        help: "Tries all orders of the numbers 1 to K in their place, K up to 10",
+    },
+];
+
+/// Under which rule it is tried.
+pub(crate) const RULED: &[CommandOption] = &[CommandOption {
+    name: UNDER,
+    follows: Follows::Word("RULE"),
+    help: "Tries them under this rule in place of that of the text",
+}];
+
+/// A listing in the place of a program.
+pub(crate) const LISTED: &[CommandOption] = &[CommandOption {
+    name: LISTING_FILE,
+    follows: Follows::Word("LISTING"),
+    help: "Writes this listing of superstep code in place of a program",
+}];
+
+/// The inputs on which two programs are compared.
+pub(crate) const TRIED: &[CommandOption] = &[
+    CommandOption {
+        name: INPUT,
+        follows: Follows::Words("FILE"),
+        help: "Tries the values of this file, and of each more that is given so",
+    },
+    CommandOption {
+        name: RANDOM,
+        follows: Follows::Signed("LO..HI"),
+        help: "Tries values of this interval for all cells of FILE, drawn at random",
+    },
+    CommandOption {
+        name: COUNT,
+        follows: Follows::Word("C"),
+        help: "Draws so many inputs, 1 to 1000000",
+    },
+    CommandOption {
+        name: SEED,
+        follows: Follows::Word("S"),
+        help: "The seed of the first, 1 where none is given; the next has the next seed",
+    },
+];
+
+/// What is compared of two programs, and their limits.
+pub(crate) const COMPARED: &[CommandOption] = &[
+    CommandOption {
+        name: ONLY,
+        follows: Follows::Word("NAMES"),
+        help: "Compares what has these names alone, as a,output",
+    },
+    CommandOption {
+        name: TIME_AT_MOST,
+        follows: Follows::Word("E"),
+        help: "The most time that FILE2 may take to its end, as 40 or 4*log(n)+10 of its sizes",
+    },
+    CommandOption {
+        name: WORK_AT_MOST,
+        follows: Follows::Word("E"),
+        help: "The most work that FILE2 may take to its end, the same",
+    },
+];

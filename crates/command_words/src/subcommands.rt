@@ -1,0 +1,165 @@
+//! The subcommands of the program, with their options and what its help says of them.
+
+use crate::options::{
+    BOUNDED, COMPARED, COUNTED, CommandOption, DRAWN, EXPLAIN, FILE, FORMATS, LISTED, OPENED, RULED,
+    SCOPED, SECOND, SHOWN, SIZES, TOLD, TRACED, TRIED, WORD, WORKED,
+};
+
+/// A word of a subcommand in its place, and what the help says of it.
+#[derive(Clone, Copy)]
+pub(crate) struct Place {
+    pub(crate) name: &'static str,
+    pub(crate) is_required: bool,
+    pub(crate) help: &'static str,
+}
+
+/// A subcommand: what it is over, its options in the order of its help, and what that says.
+#[derive(Clone, Copy)]
+pub(crate) struct Subcommand {
+    pub(crate) name: &'static str,
+    pub(crate) about: &'static str,
+    pub(crate) places: &'static [Place],
+    pub(crate) options: &'static [&'static [CommandOption]],
+    pub(crate) example: &'static str,
+}
+
+const PROGRAM: &str = "The text of a PRAM program";
+
+const OVER_PROGRAM: &[Place] = &[Place {
+    name: FILE,
+    is_required: true,
+    help: PROGRAM,
+}];
+
+const OVER_SOME_PROGRAM: &[Place] = &[Place {
+    name: FILE,
+    is_required: false,
+    help: PROGRAM,
+}];
+
+const OVER_PROGRAMS: &[Place] = &[
+    Place {
+        name: FILE,
+        is_required: true,
+        help: PROGRAM,
+    },
+    Place {
+        name: SECOND,
+        is_required: true,
+        help: "The text of the program that it is compared with",
+    },
+];
+
+const OVER_LISTING: &[Place] = &[Place {
+    name: FILE,
+    is_required: true,
+    help: "A listing of superstep code",
+}];
+
+const OVER_SUBJECT: &[Place] = &[Place {
+    name: WORD,
+    is_required: false,
+    help: "A refusal, as E6, a fault, as read-conflict, a command, or language or options",
+}];
+
+/// All subcommands.
+pub(crate) const SUBCOMMANDS: &[Subcommand] = &[
+    Subcommand {
+        name: "check",
+        about: "Says whether the program is accepted",
+        places: OVER_PROGRAM,
+        options: &[EXPLAIN, SIZES, FORMATS],
+        example: "Example: pramc check examples/sum.pram\nMore: pramc explain check",
+    },
+    Subcommand {
+        name: "plan",
+        about: "Writes the superstep code of the program",
+        places: OVER_PROGRAM,
+        options: &[EXPLAIN, SIZES],
+        example: "Example: pramc plan examples/sum.pram > sum.bsp\nMore: pramc explain plan",
+    },
+    Subcommand {
+        name: "meaning",
+        about: "Runs the program by its definition",
+        places: OVER_PROGRAM,
+        options: &[EXPLAIN, BOUNDED, OPENED, SHOWN, SIZES, FORMATS],
+        example: "Example: pramc meaning examples/tree_sum.pram --input examples/tree_sum.in\nMore: pramc explain meaning",
+    },
+    Subcommand {
+        name: "cost",
+        about: "Counts time, work, shared accesses and exchanges of the run, beside its outcome",
+        places: OVER_PROGRAM,
+        options: &[EXPLAIN, BOUNDED, OPENED, COUNTED, SIZES, FORMATS],
+        example: "Example: pramc cost examples/tree_sum.pram --input examples/tree_sum.in --schedule 2\nMore: pramc explain cost",
+    },
+    Subcommand {
+        name: "steps",
+        about: "Tells the run statement by statement, and then its outcome",
+        places: OVER_PROGRAM,
+        options: &[EXPLAIN, BOUNDED, OPENED, TOLD, DRAWN, SIZES, FORMATS],
+        example: "Example: pramc steps examples/tree_sum.pram --input examples/tree_sum.in --from 3 --to 7\nMore: pramc explain steps",
+    },
+    Subcommand {
+        name: "rules",
+        about: "Compares what the program comes to under each rule",
+        places: OVER_PROGRAM,
+        options: &[EXPLAIN, BOUNDED, OPENED, SIZES, FORMATS],
+        example: "Example: pramc rules examples/maximum.pram --input examples/maximum.in\nMore: pramc explain rules",
+    },
+    Subcommand {
+        name: "run",
+        about: "Compiles the program and runs it",
+        places: OVER_PROGRAM,
+        options: &[EXPLAIN, BOUNDED, OPENED, WORKED, SHOWN, SIZES, FORMATS],
+        example: "Example: pramc run examples/tree_sum.pram --input examples/tree_sum.in --workers 2\nMore: pramc explain run",
+    },
+    Subcommand {
+        name: "trace",
+        about: "Writes the exchanges of the same run",
+        places: OVER_PROGRAM,
+        options: &[EXPLAIN, BOUNDED, OPENED, WORKED, TRACED, SIZES, FORMATS],
+        example: "Example: pramc trace examples/tree_sum.pram --input examples/tree_sum.in --workers 2\nMore: pramc explain trace",
+    },
+    Subcommand {
+        name: "explore",
+        about: "Runs the program by its definition on every input of a small scope",
+        places: OVER_PROGRAM,
+        options: &[EXPLAIN, SCOPED, BOUNDED, RULED, SIZES, FORMATS],
+        example: "Example: pramc explore examples/tree_sum.pram --size n=2 --cells 2 --values 0..3\nMore: pramc explain explore",
+    },
+    Subcommand {
+        name: "compare",
+        about: "Runs two programs by their definition on the same inputs",
+        places: OVER_PROGRAMS,
+        options: &[EXPLAIN, SCOPED, BOUNDED, TRIED, COMPARED, SIZES, FORMATS],
+        example: "Example: pramc compare examples/maximum.pram examples/maximum_doubly_log.pram --size n=4 --permutations 4 --only output\nMore: pramc explain compare",
+    },
+    Subcommand {
+        name: "expand",
+        about: "Writes the text that its sizes give",
+        places: OVER_PROGRAM,
+        options: &[EXPLAIN, SIZES],
+        example: "Example: pramc expand examples/tree_sum.pram --size n=16\nMore: pramc explain expand",
+    },
+    Subcommand {
+        name: "export",
+        about: "Writes the superstep code of the program as C over MPI",
+        places: OVER_SOME_PROGRAM,
+        options: &[EXPLAIN, LISTED, SIZES],
+        example: "Example: pramc export examples/sum.pram > sum.c\nMore: pramc explain export",
+    },
+    Subcommand {
+        name: "exec",
+        about: "Runs a listing",
+        places: OVER_LISTING,
+        options: &[EXPLAIN, BOUNDED, OPENED, WORKED, SHOWN, FORMATS],
+        example: "Example: pramc exec sum.bsp --workers 2 --map affine:5,3\nMore: pramc explain exec",
+    },
+    Subcommand {
+        name: "explain",
+        about: "Says what a refusal, a fault or a command is, with an example",
+        places: OVER_SUBJECT,
+        options: &[],
+        example: "Example: pramc explain E6\nMore: pramc explain",
+    },
+];
