@@ -2,11 +2,7 @@
 #![tactic(auto)]
 
 #[cfg(test)]
-mod acts;
-#[cfg(test)]
 mod calls;
-#[cfg(test)]
-mod costs;
 #[cfg(test)]
 mod cut_off;
 #[cfg(test)]
