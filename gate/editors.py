@@ -38,8 +38,10 @@ def commands():
         found = re.findall(r'name: (\w+),\s*follows: Follows::\w+(?:\(\s*"([^"]*)")?', body)
         groups[group] = {words[option]: value for option, value in found}
     table = source("command_words/src/subcommands.rt")
-    found = re.findall(r'Subcommand \{\s*name: "(\w+)".*?options: &\[(.*?)\],', table, re.S)
-    return {name: {word: it for group in re.findall(r"\w+", used) for word, it in groups[group].items()} for name, used in found}
+    of = dict(re.findall(r"Group::(\w+) => (\w+),", text))
+    table = source("command_words/src/subcommands.rt")
+    found = re.findall(r'Subcommand \{\s*name: "(\w+)".*?groups: &\[(.*?)\],', table, re.S)
+    return {name: {word: it for group in re.findall(r"::(\w+)", used) for word, it in groups[of[group]].items()} for name, used in found}
 
 
 def subjects():

@@ -1,6 +1,6 @@
 //! The grammar of command lines, for the parser, by the tables of subcommands and options.
 
-use crate::options::{CommandOption, Follows};
+use crate::options::{CommandOption, Follows, options_of};
 use crate::subcommands::{Place, SUBCOMMANDS, Subcommand};
 use clap::{Arg, ArgAction, Command};
 use command_requests::VERSION;
@@ -20,6 +20,16 @@ fn option<'a>(alloc: Global, words: &CommandOption) -> Arg<'a> {
     }
 }
 
+// What the parser is told of a word in its place.
+fn argument<'a>(alloc: Global, words: &Place) -> Arg<'a> {
+    let arg = Arg::new(alloc, words.name).help(words.help);
+    if words.is_required {
+        arg.required(true)
+    } else {
+        arg
+    }
+}
+
 fn with_places<'a>(
     alloc: Global,
     command: Command<'a>,
@@ -27,10 +37,7 @@ fn with_places<'a>(
 ) -> Result<Command<'a>, AllocError> {
     let mut command = command;
     for place in places {
-        let arg = Arg::new(alloc, place.name)
-            .required(place.is_required)
-            .help(place.help);
-        command = command.arg(arg)?;
+        command = command.arg(argument(alloc, place))?;
     }
     Ok(command)
 }
@@ -52,8 +59,8 @@ fn subcommand<'a>(alloc: Global, words: &Subcommand) -> Result<Command<'a>, Allo
         .about(words.about)
         .after_help(words.example);
     let mut command = with_places(alloc, command, words.places)?;
-    for choices in words.options {
-        command = with_options(alloc, command, choices)?;
+    for group in words.groups {
+        command = with_options(alloc, command, options_of(*group))?;
     }
     Ok(command)
 }

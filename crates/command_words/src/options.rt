@@ -21,6 +21,43 @@ pub(crate) struct CommandOption {
     pub(crate) help: &'static str,
 }
 
+/// Options that stand together.
+#[derive(Clone, Copy)]
+pub(crate) enum Group {
+    // explains a refusal or a fault
+    Explain,
+    // numbers for the sizes of a text
+    Sizes,
+    // how it is told
+    Formats,
+    // how long it runs
+    Bounded,
+    // what the cells hold at first
+    Opened,
+    // what is written of the memory
+    Shown,
+    // what is counted of a run
+    Counted,
+    // which statements of a run are told, and what of them
+    Told,
+    // pictures of the statements, and a page of them
+    Drawn,
+    // who runs it
+    Worked,
+    // what is told of the exchanges
+    Traced,
+    // a scope of inputs
+    Scoped,
+    // under which rule it is tried
+    Ruled,
+    // a listing in the place of a program
+    Listed,
+    // the inputs on which two programs are compared
+    Tried,
+    // what is compared of two programs, and their limits
+    Compared,
+}
+
 pub(crate) const FILE: &str = "FILE";
 
 pub(crate) const SECOND: &str = "FILE2";
@@ -93,36 +130,31 @@ pub(crate) const WORK_AT_MOST: &str = "work-at-most";
 
 const EXPLAINED: &str = "explain";
 
-/// Explains a refusal or a fault.
-pub(crate) const EXPLAIN: &[CommandOption] = &[CommandOption {
+const EXPLAIN: &[CommandOption] = &[CommandOption {
     name: EXPLAINED,
     follows: Follows::Nothing,
     help: "Explains a refusal or a fault on standard error",
 }];
 
-/// Numbers for the sizes of a text.
-pub(crate) const SIZES: &[CommandOption] = &[CommandOption {
+const SIZES: &[CommandOption] = &[CommandOption {
     name: SIZE,
     follows: Follows::Words("NAME=VALUE"),
     help: "A number for a size of the text, in place of its default",
 }];
 
-/// How it is told.
-pub(crate) const FORMATS: &[CommandOption] = &[CommandOption {
+const FORMATS: &[CommandOption] = &[CommandOption {
     name: FORMAT,
     follows: Follows::WordOr("FORMAT", "text"),
     help: "How it is told: text, or json for programs that read; of check also gnu, for editors",
 }];
 
-/// How long it runs.
-pub(crate) const BOUNDED: &[CommandOption] = &[CommandOption {
+const BOUNDED: &[CommandOption] = &[CommandOption {
     name: BOUND,
     follows: Follows::WordOr("N", "1000000"),
     help: "The most statements that are run",
 }];
 
-/// What the cells hold at first.
-pub(crate) const OPENED: &[CommandOption] = &[
+const OPENED: &[CommandOption] = &[
     CommandOption {
         name: INPUT,
         follows: Follows::Word("FILE"),
@@ -145,8 +177,7 @@ pub(crate) const OPENED: &[CommandOption] = &[
     },
 ];
 
-/// What is written of the memory.
-pub(crate) const SHOWN: &[CommandOption] = &[
+const SHOWN: &[CommandOption] = &[
     CommandOption {
         name: SHOW,
         follows: Follows::Word("NAMES"),
@@ -159,8 +190,7 @@ pub(crate) const SHOWN: &[CommandOption] = &[
     },
 ];
 
-/// What is counted of a run.
-pub(crate) const COUNTED: &[CommandOption] = &[
+const COUNTED: &[CommandOption] = &[
     CommandOption {
         name: SCHEDULE,
         follows: Follows::Word("P"),
@@ -183,8 +213,7 @@ pub(crate) const COUNTED: &[CommandOption] = &[
     },
 ];
 
-/// Which statements of a run are told, and what of them.
-pub(crate) const TOLD: &[CommandOption] = &[
+const TOLD: &[CommandOption] = &[
     CommandOption {
         name: FROM,
         follows: Follows::WordOr("K", "1"),
@@ -202,8 +231,7 @@ pub(crate) const TOLD: &[CommandOption] = &[
     },
 ];
 
-/// Pictures of the statements, and a page of them.
-pub(crate) const DRAWN: &[CommandOption] = &[
+const DRAWN: &[CommandOption] = &[
     CommandOption {
         name: SVG,
         follows: Follows::Nothing,
@@ -226,8 +254,7 @@ pub(crate) const DRAWN: &[CommandOption] = &[
     },
 ];
 
-/// Who runs it.
-pub(crate) const WORKED: &[CommandOption] = &[
+const WORKED: &[CommandOption] = &[
     CommandOption {
         name: WORKERS,
         follows: Follows::WordOr("P", "4"),
@@ -245,8 +272,7 @@ pub(crate) const WORKED: &[CommandOption] = &[
     },
 ];
 
-/// What is told of the exchanges.
-pub(crate) const TRACED: &[CommandOption] = &[
+const TRACED: &[CommandOption] = &[
     CommandOption {
         name: SVG,
         follows: Follows::Nothing,
@@ -269,8 +295,7 @@ pub(crate) const TRACED: &[CommandOption] = &[
     },
 ];
 
-/// A scope of inputs.
-pub(crate) const SCOPED: &[CommandOption] = &[
+const SCOPED: &[CommandOption] = &[
     CommandOption {
         name: CELLS,
         follows: Follows::Word("K"),
@@ -288,22 +313,19 @@ pub(crate) const SCOPED: &[CommandOption] = &[
     },
 ];
 
-/// Under which rule it is tried.
-pub(crate) const RULED: &[CommandOption] = &[CommandOption {
+const RULED: &[CommandOption] = &[CommandOption {
     name: UNDER,
     follows: Follows::Word("RULE"),
     help: "Tries them under this rule in place of that of the text",
 }];
 
-/// A listing in the place of a program.
-pub(crate) const LISTED: &[CommandOption] = &[CommandOption {
+const LISTED: &[CommandOption] = &[CommandOption {
     name: LISTING_FILE,
     follows: Follows::Word("LISTING"),
     help: "Writes this listing of superstep code in place of a program",
 }];
 
-/// The inputs on which two programs are compared.
-pub(crate) const TRIED: &[CommandOption] = &[
+const TRIED: &[CommandOption] = &[
     CommandOption {
         name: INPUT,
         follows: Follows::Words("FILE"),
@@ -326,8 +348,7 @@ pub(crate) const TRIED: &[CommandOption] = &[
     },
 ];
 
-/// What is compared of two programs, and their limits.
-pub(crate) const COMPARED: &[CommandOption] = &[
+const COMPARED: &[CommandOption] = &[
     CommandOption {
         name: ONLY,
         follows: Follows::Word("NAMES"),
@@ -344,3 +365,25 @@ pub(crate) const COMPARED: &[CommandOption] = &[
         help: "The most work that FILE2 may take to its end, the same",
     },
 ];
+
+/// The options of a group, in the order of the help.
+pub(crate) fn options_of(group: Group) -> &'static [CommandOption] {
+    match group {
+        Group::Explain => EXPLAIN,
+        Group::Sizes => SIZES,
+        Group::Formats => FORMATS,
+        Group::Bounded => BOUNDED,
+        Group::Opened => OPENED,
+        Group::Shown => SHOWN,
+        Group::Counted => COUNTED,
+        Group::Told => TOLD,
+        Group::Drawn => DRAWN,
+        Group::Worked => WORKED,
+        Group::Traced => TRACED,
+        Group::Scoped => SCOPED,
+        Group::Ruled => RULED,
+        Group::Listed => LISTED,
+        Group::Tried => TRIED,
+        Group::Compared => COMPARED,
+    }
+}
