@@ -1,11 +1,11 @@
 -- Before the first instruction anything may come.
-use Rattle.std.proofs.Common.{◌≡◌, ℕ, ◌≤◌, List, ℤ, [], length, map, ap, arith}
+use Rattle.std.proofs.Common.{◌≡◌, ℕ, ◌≤◌, List, ℤ, [], length, arith}
 use Rattle.std.specs.Prelude.{vec_len}
 use Rattle.address_map.specs.Lawful.{Shape}
 use Rattle.superstep_code.specs.Code.{SuperstepCode}
 use Rattle.superstep_machine.specs.Run.{opening, setting}
 use Rattle.bsp_machine.specs.declared.counted.CountedWorker.{CountedWorker}
-use Rattle.bsp_machine.specs.Workers.{share_told}
+use Rattle.bsp_machine.proofs.TallyLemmas.{none_told}
 use Rattle.bsp_machine.specs.Opening.{IsFresh}
 use Rattle.code_tests.specs.Flood.{CanBeFlooded}
 
@@ -25,7 +25,7 @@ fresh_flooded code m input x room words f two is few =
           worker = λ alive. f.worker;
           shown = λ alive n low. f.shown 9 n;
           going = λ on. f.going 9;
-          counted = λ alive n low. ap (map share_told) f.none;
+          counted = λ alive n low. none_told x.counts f.none f.none_made;
           items = λ alive. f.items;
           reserved = λ alive. f.reserved;
         };
