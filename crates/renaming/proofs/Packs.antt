@@ -1,5 +1,5 @@
 -- Packed code is the code, but for the numbers, and runs as that does.
-use Rattle.std.proofs.Common.{◌≡◌, ℕ, ◌<◌, ◌≤◌, ◌⊎◌, inl, inr, ⊎_elim, ℤ, Result, Ok, Err, refl, sym, ap, ◌∙◌, subst, arith}
+use Rattle.std.proofs.Common.{◌≡◌, ℕ, zero, suc, ◌<◌, ◌≤◌, ◌⊎◌, inl, inr, ⊎_elim, ℤ, Result, Ok, Err, refl, sym, ap, ◌∙◌, subst, arith}
 use Rattle.std.specs.Prelude.{IfOk}
 use Rattle.superstep_instructions.specs.declared.instr.Side.{Side}
 use Rattle.superstep_instructions.specs.declared.instr.Side.TheVariants.{Uniform, Private}
@@ -13,7 +13,7 @@ use Rattle.renaming.specs.Renamed.{IsOneToOne, with_names}
 use Rattle.renaming.specs.Named.{IsNamedIn}
 use Rattle.renaming.specs.declared.numbers.Numbers.{Numbers}
 use Rattle.renaming.specs.Numbers.{number_of, register_of, AreNumbers, HaveNumbers}
-use Rattle.renaming.specs.Packed.{IsPacked, RunsAlike}
+use Rattle.renaming.specs.Packed.{IsPacked, NoneIsThereUnnamed, RunsAlike}
 use Rattle.renaming.proofs.Runs.{outcome_is, worker_is, ready_is}
 use Rattle.renaming.proofs.Formed.{formed_again}
 
@@ -89,3 +89,10 @@ module _ (code packed : SuperstepCode) (is : IsPacked code packed) where
 
   pub runs_alike : RunsAlike code packed
   runs_alike = subst (RunsAlike code) (sym is.is) runs
+
+pub none_unnamed : NoneIsThereUnnamed
+none_unnamed code packed is none = nothing packed.private_registers (λ n l. none (is.l n) (is.private_alone n l))
+  where
+    nothing : (n : ℕ) → ((k : ℕ) → k < n → ⊥) → n ≡ 0
+    nothing zero h = refl
+    nothing (suc n) h = absurd (h n (omega arith))

@@ -5,6 +5,7 @@ use Rattle.superstep_instructions.specs.declared.instr.Side.TheVariants.{Uniform
 use Rattle.superstep_instructions.specs.Code.{SuperstepCode}
 use Rattle.superstep_machine.specs.Run.{is_over, outcome_by, ready, setting}
 use Rattle.bsp_verify.specs.Runs.{worker_after}
+use Rattle.bsp_verify.specs.WellFormed.{IsWellFormed}
 use Rattle.renaming.specs.Renamed.{IsOneToOne, with_names}
 use Rattle.renaming.specs.Named.{IsNamedIn}
 
@@ -31,3 +32,16 @@ pub record RunsAlike (code packed : SuperstepCode) : Type 0 where
   pub output : (m : Shape) (bound n : ℕ) (input : List ℤ) (exchanges w : ℕ) →
       (ready (setting packed m bound n) w (worker_after (setting packed m bound n) input exchanges w)).state.worker.uniform.output
       ≡ (ready (setting code m bound n) w (worker_after (setting code m bound n) input exchanges w)).state.worker.uniform.output
+
+-- ---- laws
+
+abbrev pub PackedCodeIsFormed : Type 0
+PackedCodeIsFormed = (code packed : SuperstepCode) → IsPacked code packed → IsWellFormed code → IsWellFormed packed
+
+abbrev pub PackedCodeRunsAlike : Type 0
+PackedCodeRunsAlike = (code packed : SuperstepCode) → IsPacked code packed → RunsAlike code packed
+
+-- however many the code declares
+abbrev pub NoneIsThereUnnamed : Type 0
+NoneIsThereUnnamed = (code packed : SuperstepCode) → IsPacked code packed → ((r : ℕ) → IsNamedIn Private code.instructions r → ⊥) →
+    packed.private_registers ≡ 0

@@ -4,6 +4,7 @@
 mod named;
 mod numbers;
 mod packing;
+pub mod packing_laws;
 mod renamed;
 
 pub use packing::pack;

@@ -16,8 +16,8 @@ fn of(asked: Side, side: Side, register: u16) -> Option<u16>
     }
 }
 
-// The registers of one side, of an instruction that works on that.
-fn named_of_side(asked: Side, instr: Instr) -> [Option<u16>; 3]
+/// The registers of a side that an instruction names.
+pub(crate) fn named(asked: Side, instr: Instr) -> [Option<u16>; 3]
     ensures { result ≡ spec.named asked instr }
 {
     match instr {
@@ -99,11 +99,4 @@ fn named_of_side(asked: Side, instr: Instr) -> [Option<u16>; 3]
         ],
         _ => [None, None, None],
     }
-}
-
-/// The registers of a side that an instruction names.
-pub(crate) fn named(asked: Side, instr: Instr) -> [Option<u16>; 3]
-    ensures { result ≡ spec.named asked instr }
-{
-    named_of_side(asked, instr)
 }

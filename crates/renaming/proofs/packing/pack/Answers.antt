@@ -16,7 +16,6 @@ returns-in-Ok-clause-alike c =
 pub unreachable-requires : goal.unreachable-requires
 unreachable-requires c =
     let is = subst (λ (code : SuperstepCode). IsPacked code c.in_ok-left.left) c.code.ensures.value c.in_ok-left.ensures in
-    let e = c.in-Err-NotVerified-default in
     let refused = subst (λ (fault : VerifyFault). IsRefusal c.in_ok-left.left fault) c.in-Err-NotVerified-default.field-0-0-is
     c.in-Err-NotVerified-default.ensures.refused in
     refused.refused (well_formed c.args.code.now c.in_ok-left.left is c.code.ensures.stands)

@@ -7,7 +7,6 @@ use Rattle.renaming.proofs.numbers.Numbers.give_all.Goals as goal
 
 pub loop-k-preserved : goal.loop-k-preserved
 loop-k-preserved c =
-    let xs = c.args.instructions.now in
     let i : Instr = get_or c.args.instructions.now c.loop-k.k (Mark 0) in
     named_more c.args.side c.args.instructions.now c.loop-k.k i
     (slice_get-get_or c.args.instructions.now c.loop-k.k (Mark 0) c.loop-k-test.true) c.loop-k.invariant c.give_named.ensures

@@ -9,11 +9,9 @@ use Rattle.renaming.proofs.numbers.Numbers.give_named.Goals.{in-Some, in_default
 
 pub loop-k-preserved : goal.loop-k-preserved
 loop-k-preserved c =
-    let names : List (Option ℕ) = named c.args.side c.args.instr in
-    let k = c.loop-k.k in
     let read = ap (λ (ns : List (Option ℕ)). get_or ns c.loop-k.k None) (sym c.named-names.ensures) in
     elim c.match-names-k.branch [
-        in-Some w ↦
+      | in-Some w ↦
           subst (λ (y : Numbers). HaveNumbers (λ r. IsAmongBelow (c.loop-k.k + 1) r (named c.args.side c.args.instr)) c.args.self.now y)
           (sym w.self-is)
           (among_more (named c.args.side c.args.instr) c.loop-k.k w.in-Some.register
