@@ -259,6 +259,12 @@ unfolding IsFault
 is_no_map good options no.BadWorkers h choice = h
 is_no_map good options no.BadMap h choice = (h.0, λ c. h.1 (choice c))
 
+-- what is refused without a reserve is so with one
+pub refused_too : (code : SuperstepCode) (input : List ℤ) (options : Options) (reserve : Option Reserve) (refusal : Refusal) →
+    IsCodeRefused code input options refusal → IsCodeRefusedWith code input options reserve refusal
+refused_too code input options None refusal h = h
+refused_too code input options (Some reserve) refusal h = inl h
+
 -- ---- values of 64 bits
 
 is_value : (z : ℤ) → FitsSigned w64 z → IsValue z
