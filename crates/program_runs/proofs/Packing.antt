@@ -1,5 +1,5 @@
 -- A run of packed code is a run of the code.
-use Rattle.std.proofs.Common.{◌≡◌, ℕ, ◌+◌, ◌*◌, ◌<◌, ◌≤◌, List, length, ℤ, subst, sym, refl, ap, ◌∙◌, Result, Ok, Err, Option, Some, None, ◌⊎◌, inl, inr, ⊎_elim}
+use Rattle.std.proofs.Common.{◌≡◌, ℕ, ◌+◌, ◌*◌, ◌<◌, ◌≤◌, List, length, ℤ, subst, sym, refl, ap, ◌∙◌, Result, Ok, Err, Option, Some, None, inl, inr, ⊎_elim}
 use Rattle.std.specs.Prelude.{IfOk, IfErr}
 use Rattle.std.proofs.lemmas.List.{length-map}
 use Rattle.pram_model.specs.Layout.{SharedEntry, total_size}

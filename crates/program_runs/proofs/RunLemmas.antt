@@ -1,5 +1,5 @@
 -- A run of compiled code is the program's.
-use Rattle.std.proofs.Common.{rules, ◌≡◌, ℕ, ◌≤◌, List, length, ℤ, subst, sym, refl, Result, Ok, Err, Option, Some, None, ◌⊎◌, inl, inr}
+use Rattle.std.proofs.Common.{rules, ◌≡◌, ℕ, ◌≤◌, List, length, ℤ, subst, sym, refl, Result, Ok, Err, Option, Some, None, inl, inr}
 use Rattle.std.proofs.Common.{⊎_elim, ap, IfOk, FitsSigned, w64, slice_index_or, arith, ◌<◌, pos, suc, [], ◌∷◌}
 use Rattle.std.specs.Prelude.{IfErr}
 use Rattle.pram_model.specs.Layout.{total_size}
@@ -7,7 +7,7 @@ use Rattle.address_map.specs.Lawful.{Shape}
 use Rattle.write_rules.specs.Verdict.{Verdict}
 use Rattle.superstep_instructions.specs.Code.{SuperstepCode}
 use Rattle.superstep_machine.specs.Run.{IsBspOutcome}
-use Rattle.superstep_machine.specs.Trace.{AreBspExchanges, Exchange}
+use Rattle.superstep_machine.specs.Trace.{Exchange}
 use Rattle.flat_machine.specs.Flatness.{IsMapFor}
 use Rattle.pram_check.specs.Checked.{Checked}
 use Rattle.pram_meaning.specs.Values.{AreValues, IsValue}
