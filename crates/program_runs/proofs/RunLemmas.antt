@@ -1,5 +1,5 @@
 -- A run of compiled code is the program's.
-use Rattle.std.proofs.Common.{rules, ◌≡◌, ℕ, ◌≤◌, List, length, ℤ, subst, sym, refl, Result, Ok, Err, Option, Some, None, ◌⊎◌, inl, inr}
+use Rattle.std.proofs.Common.{rules, ◌≡◌, ℕ, ◌≤◌, List, length, ℤ, subst, sym, refl, Result, Ok, Err, Option, Some, None, inl, inr}
 use Rattle.std.proofs.Common.{⊎_elim, ap, IfOk, FitsSigned, w64, slice_index_or, arith, ◌<◌, pos, suc, [], ◌∷◌}
 use Rattle.std.specs.Prelude.{IfErr}
 use Rattle.pram_model.specs.Layout.{total_size}
@@ -7,7 +7,7 @@ use Rattle.address_map.specs.Lawful.{Shape}
 use Rattle.write_rules.specs.Verdict.{Verdict}
 use Rattle.superstep_instructions.specs.Code.{SuperstepCode}
 use Rattle.superstep_machine.specs.Run.{IsBspOutcome}
-use Rattle.superstep_machine.specs.Trace.{AreBspExchanges, Exchange}
+use Rattle.superstep_machine.specs.Trace.{Exchange}
 use Rattle.flat_machine.specs.Flatness.{IsMapFor}
 use Rattle.pram_check.specs.Checked.{Checked}
 use Rattle.pram_meaning.specs.Values.{AreValues, IsValue}
@@ -258,6 +258,12 @@ pub is_no_map : (good : Type 0) (options : Options) (fault : MapFault) → IsFau
 unfolding IsFault
 is_no_map good options no.BadWorkers h choice = h
 is_no_map good options no.BadMap h choice = (h.0, λ c. h.1 (choice c))
+
+-- what is refused without a reserve is so with one
+pub refused_too : (code : SuperstepCode) (input : List ℤ) (options : Options) (reserve : Option Reserve) (refusal : Refusal) →
+    IsCodeRefused code input options refusal → IsCodeRefusedWith code input options reserve refusal
+refused_too code input options None refusal h = h
+refused_too code input options (Some reserve) refusal h = inl h
 
 -- ---- values of 64 bits
 

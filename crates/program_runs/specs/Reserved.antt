@@ -1,5 +1,5 @@
 -- Runs by workers with a reserve, or without.
-use Rattle.std.specs.Prelude.{◌≡◌, ◌⊎◌, ℕ, ◌≤◌, List, length, ℤ, Option, None, Some, Result, Ok, Err}
+use Rattle.std.specs.Prelude.{◌≡◌, ◌⊎◌, ℕ, ◌≤◌, List, length, ℤ, Option, None, Some, Result, Err}
 use Rattle.pram_model.specs.Layout.{total_size}
 use Rattle.address_map.specs.Lawful.{Shape}
 use Rattle.write_rules.specs.Verdict.{Verdict}

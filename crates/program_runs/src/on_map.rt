@@ -1,15 +1,15 @@
 //! A run by the workers of a map.
 
-ghost use Rattle.std.specs.Prelude.{◌≡◌, true, List, ℤ, Option, IfOk, IfErr, IsSome};
+ghost use Rattle.std.specs.Prelude.{◌≡◌, true, List, ℤ, Option, IfOk, IfErr, IfSome, IsNone, IsSome};
 ghost use Rattle.superstep_instructions.specs.Code.{SuperstepCode};
 ghost use Rattle.address_map.specs.Lawful.{IsLawful};
-ghost use Rattle.address_map.specs.Outcome.{IsWorkers};
+ghost use Rattle.address_map.specs.Outcome.{IsCells, IsWorkers};
 ghost use Rattle.run_options.specs.declared.options.Options.{Options as RunOptions};
 ghost use Rattle.pram_model.specs.Layout.{total_size};
 ghost use Rattle.write_rules.specs.Verdict.{verdict_of};
 ghost use Rattle.run_options.specs.Places.{IsLeastPower};
 ghost use Rattle.run_options.specs.declared.reserve.Reserve.{Reserve as Given};
-ghost use Rattle.program_runs.specs.Runs.{IsChoice, IsMapOf, IsNoMap};
+ghost use Rattle.program_runs.specs.Runs.{IsChoice, IsCodeRefused, IsMapOf, IsNoMap};
 ghost use Rattle.superstep_machine.specs.Trace.{Exchange};
 ghost use Rattle.program_runs.specs.Reserved.{IsCodeRefusedWith, IsCodeRunKept, IsCodeRunWith};
 
@@ -18,8 +18,9 @@ use bsp_machine::RunRefusal;
 use bsp_verify::Verified;
 use exchange_counts::Counts;
 use program_texts::Refusal;
+use renaming::pack;
 use run_options::{MapChoice, Options, Reserve, Terms, places};
-use std::alloc::Global;
+use std::alloc::{AllocError, Global};
 use std::sync::Wait;
 use std::thread::Threads;
 use workers::{Gate, run_keeping};
@@ -128,9 +129,8 @@ pub fn run_code<R: Threads + Wait + Sync, G: Gate + Sync>(
     Ok((outcome, counts.unwrap()))
 }
 
-/// The same run, of which only the outcome is wanted: nothing is kept of an exchange, so that on the way memory is asked for by the output
-/// alone. It is refused as `run_code` is.
-pub fn outcome_of_code<R: Threads + Wait + Sync, G: Gate + Sync>(
+// The same run, of which only the outcome is wanted.
+pub(crate) fn outcome_as_it_stands<R: Threads + Wait + Sync, G: Gate + Sync>(
     rt: &R,
     alloc: Global,
     code: &Verified,
@@ -145,4 +145,56 @@ pub fn outcome_of_code<R: Threads + Wait + Sync, G: Gate + Sync>(
 {
     let (outcome, _none) = run_by_map(rt, alloc, code, input, options, reserve, false, gate)?;
     Ok(outcome)
+}
+
+// Why there is no map of the options, if there is none.
+fn map_fault(cells: u32, options: Options) -> Option<MapFault>
+    requires { IsCells cells }
+    ensures none { IsNone result → IsWorkers options.workers × IsChoice options.map }
+    ensures some { IfSome result (λ fault. IsNoMap options fault) }
+{
+    let workers = options.workers;
+    match options.map {
+        MapChoice::Identity => match Identity::new(cells, workers) {
+            Ok(_) => None,
+            Err(fault) => Some(fault),
+        },
+        MapChoice::Affine { factor, shift } => match Affine::new(cells, workers, factor, shift) {
+            Ok(_) => None,
+            Err(fault) => Some(fault),
+        },
+    }
+}
+
+// Why code isn't run where memory was refused before anything was looked at: want of memory is told where nothing else is wrong.
+fn refused_memory(code: &Verified, input: &[i64], options: Options) -> Refusal
+    ensures { IsCodeRefused code.now input.now options result }
+{
+    let cells = code.code().layout().cells();
+    match map_fault(places(cells), options) {
+        Some(fault) => refusal_of(fault),
+        None if input.len() > cells as usize => Refusal::InputTooLong,
+        None => Refusal::OutOfMemory,
+    }
+}
+
+/// The same run, of which only the outcome is wanted: nothing is kept of an exchange, so that on the way memory is asked for by the output
+/// alone. Registers take memory where an instruction names them, and not where they are only declared. It is refused as `run_code` is.
+pub fn outcome_of_code<R: Threads + Wait + Sync, G: Gate + Sync>(
+    rt: &R,
+    alloc: Global,
+    code: &Verified,
+    input: &[i64],
+    options: Options,
+    reserve: Option<Reserve>,
+    gate: &G,
+) -> Result<Outcome, Refusal>
+    ensures run { IfOk result (λ outcome. (exchanges : List Exchange)
+        × IsCodeRunWith code.now input.now options reserve (verdict_of outcome) exchanges) }
+    ensures refused { IfErr result (IsCodeRefusedWith code.now input.now options reserve) }
+{
+    match pack(alloc, code) {
+        Ok(packed) => outcome_as_it_stands(rt, alloc, &packed, input, options, reserve, gate),
+        Err(AllocError) => Err(refused_memory(code, input, options)),
+    }
 }

@@ -1,0 +1,4 @@
+pub mod Renamed
+pub mod Named
+pub mod Numbers
+pub mod Packed
