@@ -12,3 +12,4 @@ pub mod Rules
 pub mod PairParts
 pub mod PairInputs
 pub mod SweptRows
+pub mod Steps

@@ -1,6 +1,7 @@
 -- What a call finds, or why it finds nothing.
-use Rattle.std.specs.Prelude.{◌≡◌, ◌⊎◌, ℕ, nat_lt, Bool, true, false, if◌then◌else◌, List, Option, Some, None, Result, Ok, Err}
+use Rattle.std.specs.Prelude.{◌≡◌, ◌⊎◌, ◌≤◌, ℕ, length, nat_lt, Bool, true, false, if◌then◌else◌, List, Option, Some, None, Result, Ok, Err}
 use Rattle.std.specs.List.{list_any}
+use Rattle.pram_model.specs.Layout.{total_size}
 use Rattle.sized_texts.specs.Pieces.{Expansion}
 use Rattle.superstep_instructions.specs.Code.{SuperstepCode}
 use Rattle.program_runs.specs.Compiled.{IsCompiledFrom}
@@ -23,7 +24,7 @@ use Rattle.command_facts.specs.declared.found.Found.TheVariants as found
 use Rattle.command_facts.specs.declared.halted.Halted.{Halted}
 use Rattle.bsp_verify.specs.WellFormed.{IsWellFormed}
 use Rattle.command_facts.specs.Held.{IsExpansionIn, IsListingIn, IsTextIn, StopsAtListing, StopsAtProgram, StopsAtText}
-use Rattle.command_facts.specs.Found.{IsCodeFound, IsComparisonFound, IsLoaded, IsRunFound}
+use Rattle.command_facts.specs.Found.{IsCodeFound, IsComparisonFound, IsLoaded, IsRunFound, IsStepsFound}
 use Rattle.command_facts.specs.Refused.{RefusesCodeRun, RefusesRun, StopsAtCode}
 use Rattle.comparisons.specs.Found as comparisons
 use Rattle.command_facts.specs.Pairs.{IsPaired, StopsAtPair}
@@ -44,7 +45,7 @@ FindsOf holds verb.Export file words (found.Exported code) = IsCodeOfFile holds 
 FindsOf holds verb.Rules file words (found.Compared c) = IsComparisonFound holds file words c
 FindsOf holds verb.Meaning file words (found.Run r) = IsRunFound holds verb.Meaning file words r
 FindsOf holds verb.Cost file words (found.Run r) = IsRunFound holds verb.Cost file words r
-FindsOf holds verb.Steps file words (found.Run r) = IsRunFound holds verb.Steps file words r
+FindsOf holds verb.Steps file words (found.Stepped s) = IsStepsFound holds file words s
 FindsOf holds verb.Run file words (found.Run r) = IsRunFound holds verb.Run file words r
 FindsOf holds verb.Trace file words (found.Run r) = IsRunFound holds verb.Trace file words r
 FindsOf holds _ file words _ = ⊥
@@ -60,6 +61,16 @@ Finds holds (request.Pair words) (found.Paired f) = IsPaired holds words f
 Finds holds (request.Listing file words) (found.Executed c) = IsCodeFound holds file.now words c
 Finds holds (request.ListingInC file) (found.Exported code) = IsListingIn (holds file.now) code × IsWellFormed code
 Finds holds _ _ = ⊥
+
+-- What was found is known whole. A run that is to be told as it goes is not.
+abbrev pub IsSettled : Found → Type 0
+IsSettled (found.Stepped s) = ⊥
+IsSettled _ = Unit {0}
+
+-- The input of a run that is to be told as it goes has no more values than there are cells.
+abbrev pub FitsIn : Found → Type 0
+FitsIn (found.Stepped s) = length s.input.items ≤ total_size s.loaded.program.layout
+FitsIn _ = Unit {0}
 
 -- a size at which the run faults or is refused
 abbrev pub is_bad : Ending → Bool
@@ -93,7 +104,7 @@ status_of_differing (Some d) = status.Faulted
 abbrev pub status_of_pair : comparisons.Found → Status
 status_of_pair f = status_of_differing f.first
 
--- the exit status that goes with what was found
+-- The exit status that goes with what was found. A run that is still to be told has that of its outcome.
 abbrev pub status_of_found : Found → Status
 status_of_found (found.Run r) = status_of r.outcome
 status_of_found (found.Executed c) = status_of c.outcome

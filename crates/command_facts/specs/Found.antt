@@ -1,11 +1,12 @@
 -- What calls find of programs, of their runs and of listings.
-use Rattle.std.specs.Prelude.{◌≡◌, ◌≤◌, ℕ, ℤ, Bool, true, false, List, [], codes, length, map, Option, Some, None, ◌+◌, ◌/◌}
+use Rattle.std.specs.Prelude.{◌≡◌, ◌≤◌, ℕ, ℤ, Bool, true, false, List, [], codes, length, Option, Some, None, ◌+◌, ◌/◌}
 use Rattle.pram_model.specs.Layout.{SharedEntry, total_size}
 use Rattle.pram_check.specs.Checked.{Checked}
 use Rattle.superstep_machine.specs.Trace.{Exchange}
 use Rattle.bsp_verify.specs.WellFormed.{IsWellFormed}
 use Rattle.superstep_instructions.specs.Code.{SuperstepCode}
 use Rattle.write_rules.specs.Verdict.{verdict_of, Verdict, Ended, Faulted, GoesOn}
+use Rattle.write_rules.specs.declared.outcome.Outcome.{Outcome}
 use Rattle.program_texts.specs.Report.{IsMeaningOf, IsProgramOf}
 use Rattle.work_time.specs.declared.cost.Cost.{Cost}
 use Rattle.work_time.specs.Steps.{run_steps}
@@ -18,7 +19,7 @@ use Rattle.exchange_lines.specs.Lines.{AreLinesOf}
 use Rattle.program_texts.specs.Shown.{fault_text}
 use Rattle.program_runs.specs.Compiled.{IsCodeOf}
 use Rattle.program_runs.specs.Reserved.{IsCodeRunWith, IsProgramRunWith}
-use Rattle.step_entries.specs.Entries.{entry_is}
+use Rattle.step_entries.specs.Entries.{Entry}
 use Rattle.step_journal.specs.Entries.{run_entries}
 use Rattle.drawn_inputs.specs.Drawn.{drawn}
 use Rattle.memory_texts.specs.Chosen.{unknown_name}
@@ -31,6 +32,7 @@ use Rattle.command_facts.specs.declared.found.Facts.{Facts}
 use Rattle.command_facts.specs.declared.found.Facts.TheVariants as facts
 use Rattle.command_facts.specs.declared.found.FoundCode.{FoundCode}
 use Rattle.command_facts.specs.declared.found.FoundRun.{FoundRun}
+use Rattle.command_facts.specs.declared.found.FoundSteps.{FoundSteps}
 use Rattle.command_facts.specs.declared.loaded.Loaded.{Loaded}
 use Rattle.diagnoses.specs.Sources.{text_in}
 use Rattle.command_requests.specs.declared.request.ProgramFile.{ProgramFile}
@@ -85,10 +87,9 @@ ending_text layout (Ended output memory) = codes "ended"
 ending_text layout (Faulted fault output) = fault_text layout fault
 ending_text layout (GoesOn output) = codes "goes on"
 
--- What is found beside the verdict of a program's run on an input: of its cost, its statements or its exchanges.
+-- What is found beside the verdict of a program's run on an input: of its cost or its exchanges.
 abbrev pub AreFactsOf : Verb → Checked → List ℤ → RunWords → Verdict → Facts → Type 0
 AreFactsOf verb.Cost program input words v (facts.Cost c) = IsCostOf program input words.options.bound words.costs.schedule c
-AreFactsOf verb.Steps program input words v (facts.Steps entries) = map entry_is entries.items ≡ run_entries program input words.options.bound
 AreFactsOf verb.Trace program input words v (facts.Exchanges t) =
     IsProgramRunWith program input words.options words.reserve v t.counts
     × AreLinesAsked words.trace.lines program input words.options.bound t.lines.items × (t.ends.items ≡ ending_text program.layout v)
@@ -100,6 +101,7 @@ AreFactsOf verb.Plan program input words v facts.Nothing = Unit {0}
 AreFactsOf verb.Export program input words v facts.Nothing = Unit {0}
 AreFactsOf verb.Rules program input words v facts.Nothing = Unit {0}
 AreFactsOf verb.Expand program input words v facts.Nothing = Unit {0}
+AreFactsOf verb.Steps program input words v facts.Nothing = Unit {0}
 AreFactsOf _ program input words v _ = ⊥
 
 -- The declarations that are to be shown are there.
@@ -115,6 +117,26 @@ pub record IsRunFound (holds : List ℕ → Option (List ℕ) → Type 0) (verb 
   pub there : AreThere r.loaded.program.layout words
   pub meaning : IsMeaningOf r.loaded.program r.input.items words.options.bound (verdict_of r.outcome)
   pub facts : AreFactsOf verb r.loaded.program r.input.items words (verdict_of r.outcome) r.facts
+
+-- The file's program is to be run on the call's input, which has no more values than there are cells.
+pub record IsStepsFound (holds : List ℕ → Option (List ℕ) → Type 0) (file : ProgramFile) (words : RunWords) (s : FoundSteps) : Type 0 where
+  pub loaded : IsLoaded (holds file.name.now) file s.loaded
+  pub given : IsOpening holds s.loaded.program.layout words.opening s.input.items
+  pub asked : s.words ≡ words
+  pub there : AreThere s.loaded.program.layout words
+  pub fits : length s.input.items ≤ total_size s.loaded.program.layout
+
+-- what is told of that run within the bound
+abbrev pub entries_of : FoundSteps → List Entry
+entries_of s = run_entries s.loaded.program s.input.items s.words.options.bound
+
+-- what it comes to
+abbrev pub IsOutcomeOf : FoundSteps → Outcome → Type 0
+IsOutcomeOf s o = IsMeaningOf s.loaded.program s.input.items s.words.options.bound (verdict_of o)
+
+-- the run, once it has come to this
+abbrev pub with_outcome : FoundSteps → Outcome → FoundRun
+with_outcome s o = record { loaded = s.loaded; input = s.input; words = s.words; outcome = o; facts = facts.Nothing }
 
 -- how the file's program comes out under each rule, on the call's input within its bound
 pub record IsComparisonFound (holds : List ℕ → Option (List ℕ) → Type 0) (file : ProgramFile) (words : RunWords) (c : Comparison)

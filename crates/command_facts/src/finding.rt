@@ -3,12 +3,12 @@
 ghost use Rattle.std.specs.Prelude.{◌≡◌, ◌⊎◌, IfOk, IfErr};
 ghost use Rattle.system_files.specs.Files.{IsSame};
 ghost use Rattle.command_facts.specs.Calls.{Finds, FindsOf, IsCodeOfFile, Refuses, RefusesOf};
-ghost use Rattle.command_facts.specs.Found.{AreThere, IsCodeFound, IsComparisonFound, IsLoaded, IsOpening, IsRunFound};
+ghost use Rattle.command_facts.specs.Found.{AreThere, IsCodeFound, IsComparisonFound, IsLoaded, IsOpening, IsRunFound, IsStepsFound};
 ghost use Rattle.command_facts.specs.Refused.{IsUnknownIn, RefusesCodeRun, RefusesRun, StopsAtCode, StopsBehindProgram};
 ghost use Rattle.command_facts.specs.Held.{StopsAtProgram};
 
 use crate::exploring::find_scope;
-use crate::found::{Found, FoundCode, FoundRun};
+use crate::found::{Found, FoundCode, FoundRun, FoundSteps};
 use crate::halted::{Halted, halted_run};
 use crate::loaded::Loaded;
 use crate::loading::{load_listing, load_program, load_text};
@@ -125,6 +125,28 @@ pub(crate) fn find_run<'a, R: Threads + Wait + Sync, S: Sources>(
     }
 }
 
+// A run of the file's program that is still to be told.
+fn find_steps<'a, S: Sources>(
+    alloc: Global,
+    file: &ProgramFile<'a>,
+    words: RunWords<'a>,
+    sources: &mut S,
+) -> Result<FoundSteps<'a>, Halted<'a>>
+    ensures found { IfOk result (IsStepsFound (S.Sources.holds sources.old) file.now words.entry) }
+    ensures refused { IfErr result (RefusesRun (S.Sources.holds sources.old) Verb.Steps file.now words.entry) }
+{
+    let (loaded, input) = load_given(alloc, file, words, sources)?;
+    let (values, cells) = (input.len(), loaded.program.layout().cells());
+    if values > cells as usize {
+        return Err(halted_run(Refusal::InputTooLong, values, cells));
+    }
+    Ok(FoundSteps {
+        loaded,
+        input,
+        words,
+    })
+}
+
 // A run of the file's code.
 fn find_code_run<'a, R: Threads + Wait + Sync, S: Sources>(
     rt: &R,
@@ -174,7 +196,8 @@ fn find_of<'a, R: Threads + Wait + Sync, S: Sources>(
             let comparison = find_comparison(alloc, file, words, sources)?;
             Ok(Found::Compared(comparison))
         }
-        Verb::Meaning | Verb::Cost | Verb::Steps | Verb::Run | Verb::Trace => {
+        Verb::Steps => Ok(Found::Stepped(find_steps(alloc, file, words, sources)?)),
+        Verb::Meaning | Verb::Cost | Verb::Run | Verb::Trace => {
             let run = find_run(rt, alloc, verb, file, words, sources)?;
             Ok(Found::Run(run))
         }
@@ -187,7 +210,8 @@ fn find_of<'a, R: Threads + Wait + Sync, S: Sources>(
 /// sizes (E19, P1 for one that the text doesn't declare, E2), and what it comes to by them (E3 to E10); of a listing P2, E2, E15, E14; a name
 /// that is to be shown and isn't declared (P1); the input's file and its text (P2, E1 to E3), or a memory's, of which also a name that isn't
 /// declared (E6) and too many values (E11) are told; the number of workers (E13), the map (E12), and the number of the input's values (E11); and with
-/// a reserve whether the run comes past it (E18). E16 comes where memory was refused.
+/// a reserve whether the run comes past it (E18). E16 comes where memory was refused. A run that is told statement by statement is judged
+/// so and not yet run: who tells it runs it.
 pub fn find<'a, R: Threads + Wait + Sync, S: Sources, V: Watch>(
     rt: &R,
     alloc: Global,

@@ -1,5 +1,8 @@
 //! What calls find.
 
+ghost use Rattle.std.specs.Prelude.{◌≡◌};
+ghost use Rattle.command_facts.specs.Found.{with_outcome};
+
 use crate::loaded::Loaded;
 use bsp_verify::Verified;
 use command_requests::{Form, RunWords};
@@ -12,7 +15,6 @@ use memory_texts::Choice;
 use pram_check::Program;
 use rule_comparison::Comparison;
 use sized_texts::Sweep;
-use step_entries::Entry;
 use sweep_texts::{Growths, SizeRow};
 use work_time::Cost;
 use write_rules::Outcome;
@@ -24,8 +26,6 @@ pub enum Facts {
     Nothing,
     /// What it costs.
     Cost(Cost),
-    /// What is told of its statements.
-    Steps(Vec<Entry>),
     /// Its exchanges.
     Exchanges(FoundTrace),
 }
@@ -48,6 +48,30 @@ pub struct FoundRun<'a> {
     pub words: RunWords<'a>,
     pub outcome: Outcome,
     pub facts: Facts,
+}
+
+/// A run of a program that is still to be told, statement by statement as it goes: the program with its text, the input's values, which are
+/// no more than its cells, and how it is asked for.
+#[derive(Drop)]
+pub struct FoundSteps<'a> {
+    pub loaded: Loaded<'a>,
+    pub input: Vec<i64>,
+    pub words: RunWords<'a>,
+}
+
+impl<'a> FoundSteps<'a> {
+    /// The run, once it has come to this.
+    pub fn with_outcome(self, outcome: Outcome) -> FoundRun<'a>
+        ensures run { result ≡ with_outcome self.entry outcome }
+    {
+        FoundRun {
+            loaded: self.loaded,
+            input: self.input,
+            words: self.words,
+            outcome,
+            facts: Facts::Nothing,
+        }
+    }
 }
 
 /// A run of a listing's code: the code, which declarations are shown, and the outcome.
@@ -105,6 +129,8 @@ pub enum Found<'a> {
     Compared(Comparison),
     /// A program was run.
     Run(FoundRun<'a>),
+    /// A program is to be run, and told as it runs.
+    Stepped(FoundSteps<'a>),
     /// A program was run at several sizes.
     Swept(FoundSweep),
     /// A program was run on every input of a scope.

@@ -18,7 +18,9 @@ mod sweeping;
 mod tracing;
 
 pub use finding::find;
-pub use found::{Facts, Found, FoundCode, FoundPair, FoundRun, FoundScope, FoundSweep, FoundTrace};
+pub use found::{
+    Facts, Found, FoundCode, FoundPair, FoundRun, FoundScope, FoundSteps, FoundSweep, FoundTrace,
+};
 pub use halted::Halted;
 pub use loaded::Loaded;
 pub use status::status_of;

@@ -17,7 +17,6 @@ use program_texts::{Refusal, mean_program};
 use std::alloc::Global;
 use std::sync::Wait;
 use std::thread::Threads;
-use step_journal::steps_of;
 use work_time::cost_of;
 use workers::OpenGate;
 use write_rules::Outcome;
@@ -62,21 +61,6 @@ fn cost(
     let schedule = processors_of(words.costs);
     let (outcome, cost) = cost_of(alloc, program, input, words.options.bound, schedule)?;
     Ok((outcome, Facts::Cost(cost)))
-}
-
-// The outcome by the definition, and what is told of that run, statement by statement.
-fn steps(
-    alloc: Global,
-    program: &Program,
-    input: &[i64],
-    words: RunWords<'_>,
-) -> Result<(Outcome, Facts), Refusal>
-    ensures meaning { IfOk result (λ f. IsMeaningOf program.now input.now words.entry.options.bound (verdict_of f.0)) }
-    ensures facts { IfOk result (λ f. spec.AreFactsOf Verb.Steps program.now input.now words.entry (verdict_of f.0) f.1) }
-    ensures stopped { IfErr result (refused.IsRunRefusedBy Verb.Steps program.now input.now words.entry) }
-{
-    let (outcome, entries) = steps_of(alloc, program, input, words.options.bound)?;
-    Ok((outcome, Facts::Steps(entries)))
 }
 
 // The outcome by workers, and the exchanges.
@@ -127,7 +111,6 @@ pub(crate) fn facts_of<R: Threads + Wait + Sync>(
 {
     match verb {
         Verb::Cost => cost(alloc, program, input, words),
-        Verb::Steps => steps(alloc, program, input, words),
         Verb::Run => {
             let (options, reserve) = (words.options, words.reserve);
             let outcome = outcome_of_program(
@@ -136,7 +119,12 @@ pub(crate) fn facts_of<R: Threads + Wait + Sync>(
             Ok((outcome, Facts::Nothing))
         }
         Verb::Trace => trace(rt, alloc, program, input, words),
-        Verb::Meaning | Verb::Check | Verb::Plan | Verb::Export | Verb::Rules | Verb::Expand =>
-            mean(alloc, program, input, words),
+        Verb::Meaning
+        | Verb::Check
+        | Verb::Plan
+        | Verb::Export
+        | Verb::Rules
+        | Verb::Expand
+        | Verb::Steps => mean(alloc, program, input, words),
     }
 }

@@ -95,7 +95,7 @@ fn status_of_pair(comparison: &Comparison) -> Status
     }
 }
 
-/// The exit status that goes with what was found, however it is told.
+/// The exit status that goes with what was found, however it is told. That of a run that is still to be told comes with its outcome.
 pub fn status_of(found: &Found<'_>) -> Status
     ensures { result ≡ spec.status_of_found found.now }
 {
@@ -103,6 +103,7 @@ pub fn status_of(found: &Found<'_>) -> Status
         Found::Run(run) => Status::of(&run.outcome),
         Found::Executed(run) => Status::of(&run.outcome),
         Found::Swept(swept) => status_of_rows(&swept.rows),
+        Found::Stepped(_) => Status::Done,
         Found::Version => Status::Done,
         Found::Explanation(_) => Status::Done,
         Found::Accepted(_) => Status::Done,

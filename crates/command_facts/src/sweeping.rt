@@ -92,7 +92,7 @@ fn ending_of(alloc: Global, run: &FoundRun<'_>) -> Result<Ending, AllocError>
     match &run.facts {
         Facts::Cost(cost) => ending_by(alloc, run.loaded.program.layout(), &run.outcome, cost),
         // What a run costs was asked for.
-        Facts::Nothing | Facts::Steps(_) | Facts::Exchanges(_) => Err(AllocError),
+        Facts::Nothing | Facts::Exchanges(_) => Err(AllocError),
     }
 }
 

@@ -1,12 +1,11 @@
 -- The facts by which what was found is told as JSON.
-use Rattle.std.specs.Prelude.{◌≡◌, ◌⊎◌, ℕ, List, [], ◌∷◌, Option, Some, None, Result, Ok, Err, codes, map}
+use Rattle.std.specs.Prelude.{◌≡◌, ◌⊎◌, ℕ, List, [], ◌∷◌, Option, Some, None, Result, Ok, Err, codes}
 use Rattle.superstep_machine.specs.Trace.{Exchange}
 use Rattle.tracer.specs.Cost.{bsp_cost, in_128_bits}
 use Rattle.serde_json.specs.Data.{Data}
 use Rattle.json_lines.specs.Lines.{IsJson}
 use Rattle.text_out.specs.Out.{OutState, StopsIn, with_bytes}
 use Rattle.write_rules.specs.Verdict.{verdict_of}
-use Rattle.step_entries.specs.Entries.{entry_is}
 use Rattle.program_texts.specs.declared.from_text.Refusal.TheVariants as refusal
 use Rattle.program_texts.specs.declared.status.Status.{Status}
 use Rattle.program_texts.specs.declared.stop.Stop.{Stop}
@@ -26,7 +25,6 @@ use Rattle.json_texts.specs.ExplorationFacts.{exploration_facts}
 use Rattle.json_texts.specs.OutcomeFacts.{chosen_facts}
 use Rattle.json_texts.specs.PairFacts.{pair_facts}
 use Rattle.json_texts.specs.RuleFacts.{comparison_facts}
-use Rattle.json_texts.specs.StepFacts.{steps_facts}
 use Rattle.json_texts.specs.SweepFacts.{sweep_facts}
 use Rattle.json_texts.specs.TraceFacts.{trace_facts}
 
@@ -35,14 +33,11 @@ abbrev pub cost_asked : Option (ℕ × ℕ) → List Exchange → Option ℕ
 cost_asked None es = None
 cost_asked (Some rates) es = in_128_bits (bsp_cost rates.0 rates.1 es)
 
--- a run of a program: its outcome, what it costs, its statements between the numbers that are asked for, or its exchanges
+-- a run of a program: its outcome, what it costs, or its exchanges
 abbrev pub run_facts : FoundRun → Facts → List Data
 run_facts r facts.Nothing = chosen_facts r.words.shown r.loaded.program.layout (verdict_of r.outcome) ∷ []
 run_facts r (facts.Cost c) =
     cost_facts r.loaded.program.layout (verdict_of r.outcome) c r.words.costs.schedule r.words.costs.lines ∷ []
-run_facts r (facts.Steps entries) =
-    steps_facts r.loaded.program.layout r.loaded.program.tree (verdict_of r.outcome) (map entry_is entries.items) r.words.steps.from
-    r.words.steps.to
 run_facts r (facts.Exchanges t) =
     trace_facts t.lines.items (cost_asked r.words.trace.rates t.counts) t.counts (verdict_of r.outcome)
 
@@ -50,7 +45,8 @@ run_facts r (facts.Exchanges t) =
 abbrev pub code_facts : FoundCode → Data
 code_facts c = chosen_facts c.shown c.code.layout (verdict_of c.outcome)
 
--- the facts of what was found; texts, code, explanations and the version are not told as JSON
+-- The facts of what was found. Texts, code, explanations and the version are not told as JSON, and a run that is told as it goes has none
+-- yet.
 abbrev pub AreFactsOf : Found → List Data → Type 0
 AreFactsOf (found.Accepted l) told = told ≡ accepted_facts l.program ∷ []
 AreFactsOf (found.Compared c) told = told ≡ comparison_facts c ∷ []

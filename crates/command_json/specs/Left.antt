@@ -6,14 +6,19 @@ use Rattle.diagnoses.specs.declared.about.About.{About}
 use Rattle.diagnoses.specs.declared.about.About.TheVariants as about
 use Rattle.diagnoses.specs.RefusedLines.{stop_as_it_stands}
 use Rattle.program_texts.specs.declared.from_text.Refusal.TheVariants as refusal
+use Rattle.write_rules.specs.declared.outcome.Outcome.{Outcome}
+use Rattle.program_texts.specs.Status.{status_of}
 use Rattle.program_texts.specs.declared.status.Status.{Status}
 use Rattle.program_texts.specs.declared.status.Status.TheVariants as status
 use Rattle.program_texts.specs.declared.stop.Stop.{Stop}
 use Rattle.program_texts.specs.declared.stop.Stop.TheVariants as stop
 use Rattle.command_requests.specs.declared.request.Request.{Request}
 use Rattle.command_facts.specs.declared.found.Found.{Found}
+use Rattle.command_facts.specs.declared.found.Found.TheVariants as found
+use Rattle.command_facts.specs.declared.found.FoundSteps.{FoundSteps}
 use Rattle.command_facts.specs.declared.halted.Halted.{Halted}
 use Rattle.command_facts.specs.Calls.{Finds, IsStop, status_of_found}
+use Rattle.command_facts.specs.Found.{IsOutcomeOf}
 use Rattle.command_facts.specs.Written.{IsReported}
 use Rattle.json_texts.specs.MessageFacts.{refusal_facts}
 use Rattle.json_texts.specs.RefusalFacts.{stop_facts}
@@ -21,6 +26,7 @@ use Rattle.refusal_messages.specs.Messages.{Message}
 use Rattle.command_messages.specs.Messages.{IsMessageFor}
 use Rattle.diagnoses.specs.Stops.{bytes_in, name_in}
 use Rattle.command_json.specs.Facts.{IsJsonOf, WritesFound}
+use Rattle.command_json.specs.Stepped.{IsCutOff, all_facts}
 
 -- ---- standard error
 
@@ -48,11 +54,16 @@ IsRefusalSaid words why a old new = IsRefusalTold words why a old new ⊎ IsMemo
 -- ---- both streams
 
 -- After what was found is told, with the exit status: its facts stand on standard output, whole, and nothing on standard error; or why not.
-pub data LeavesFound (words : List (List ℕ)) (found : Found) (out out_new err err_new : OutState) : Status → Type 0 where
-  Told : (text : List ℕ) → IsJsonOf found text → out_new ≡ with_bytes out text → err_new ≡ err
-      → LeavesFound words found out out_new err err_new (status_of_found found)
-  CutOff : (why : Stop) → WritesFound found out out_new (Err why) → IsRefusalSaid words why about.Nothing err err_new
-      → LeavesFound words found out out_new err err_new status.Refused
+pub data LeavesFound (words : List (List ℕ)) (f : Found) (out out_new err err_new : OutState) : Status → Type 0 where
+  Told : (text : List ℕ) → IsJsonOf f text → out_new ≡ with_bytes out text → err_new ≡ err
+      → LeavesFound words f out out_new err err_new (status_of_found f)
+  CutOff : (why : Stop) → WritesFound f out out_new (Err why) → IsRefusalSaid words why about.Nothing err err_new
+      → LeavesFound words f out out_new err err_new status.Refused
+  -- a run is told statement by statement as it goes: the outcome is that of the program, and it gives the status
+  ToldAsItRan : (s : FoundSteps) (o : Outcome) (text : List ℕ) → f ≡ found.Stepped s → IsOutcomeOf s o → IsJson (all_facts s o) text
+      → out_new ≡ with_bytes out text → err_new ≡ err → LeavesFound words f out out_new err err_new (status_of o)
+  BrokenOff : (s : FoundSteps) (why : Stop) → f ≡ found.Stepped s → IsCutOff s out out_new why
+      → IsRefusalSaid words why about.Nothing err err_new → LeavesFound words f out out_new err err_new status.Refused
 
 -- After a call. What was found is of all that the files hold which the request names. What is refused is told on standard error, once, and
 -- nothing is on standard output then.

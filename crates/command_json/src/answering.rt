@@ -1,13 +1,16 @@
 //! How the program answers a request in JSON.
 
-ghost use Rattle.std.specs.Prelude.{◌<◌, ◌^◌, map};
+ghost use Rattle.std.specs.Prelude.{◌<◌, ◌≤◌, ◌^◌, length, map};
 ghost use Rattle.std.specs.String.{string_bytes};
+ghost use Rattle.pram_model.specs.Layout.{total_size};
+ghost use Rattle.command_facts.specs.Calls.{FitsIn, IsSettled};
 ghost use Rattle.command_json.specs.Left.{LeavesFound, LeavesJson};
 
 use crate::reporting::report;
+use crate::stepping::write_stepped;
 use crate::telling::write_found;
 use call_progress::Watch;
-use command_facts::{Found, Halted, find};
+use command_facts::{Found, FoundSteps, Halted, find};
 use command_requests::Request;
 use program_texts::{Status, Stop};
 use std::alloc::Global;
@@ -15,6 +18,29 @@ use std::sync::Wait;
 use std::thread::Threads;
 use system_files::Sources;
 use text_out::Out;
+
+// A run of a program is told as it runs.
+fn tell_steps<O: Out, E: Out>(
+    alloc: Global,
+    words: &[String],
+    steps: &FoundSteps<'_>,
+    out: &mut O,
+    err: &mut E,
+) -> Status
+    requires fits { length steps.now.input.items ≤ total_size steps.now.loaded.program.layout }
+    requires out { (O.Out.state out.old).failures < 2 ^ 62 }
+    requires err { (E.Out.state err.old).failures < 2 ^ 62 }
+    ensures leaves { LeavesFound (map string_bytes words.now) (Found.Stepped steps.now) (O.Out.state out.old) (O.Out.state out.new)
+        (E.Out.state err.old) (E.Out.state err.new) result }
+{
+    match write_stepped(alloc, steps, out) {
+        Ok(outcome) => Status::of(&outcome),
+        Err(stop) => {
+            report(alloc, err, words, &Halted::from(stop));
+            Status::Refused
+        }
+    }
+}
 
 // What was found is told.
 fn tell<O: Out, E: Out>(
@@ -24,6 +50,7 @@ fn tell<O: Out, E: Out>(
     out: &mut O,
     err: &mut E,
 ) -> Status
+    requires settled { IsSettled found.now }
     requires out { (O.Out.state out.old).failures < 2 ^ 62 }
     requires err { (E.Out.state err.old).failures < 2 ^ 62 }
     ensures leaves { LeavesFound (map string_bytes words.now) found.now (O.Out.state out.old) (O.Out.state out.new)
@@ -38,7 +65,29 @@ fn tell<O: Out, E: Out>(
     }
 }
 
+// Either.
+#[tactic(auto, using(command_facts::proofs::Steps::settled))]
+fn tell_found<O: Out, E: Out>(
+    alloc: Global,
+    words: &[String],
+    found: &Found<'_>,
+    out: &mut O,
+    err: &mut E,
+) -> Status
+    requires fits { FitsIn found.now }
+    requires out { (O.Out.state out.old).failures < 2 ^ 62 }
+    requires err { (E.Out.state err.old).failures < 2 ^ 62 }
+    ensures leaves { LeavesFound (map string_bytes words.now) found.now (O.Out.state out.old) (O.Out.state out.new)
+        (E.Out.state err.old) (E.Out.state err.new) result }
+{
+    match found {
+        Found::Stepped(steps) => tell_steps(alloc, words, steps, out, err),
+        settled => tell(alloc, words, settled, out, err),
+    }
+}
+
 // A request that was read.
+#[tactic(auto, using(command_facts::proofs::Steps::found_fits))]
 fn answer_request<R: Threads + Wait + Sync, S: Sources, V: Watch, O: Out, E: Out>(
     rt: &R,
     alloc: Global,
@@ -55,7 +104,7 @@ fn answer_request<R: Threads + Wait + Sync, S: Sources, V: Watch, O: Out, E: Out
         (O.Out.state out.old) (O.Out.state out.new) (E.Out.state err.old) (E.Out.state err.new) result }
 {
     match find(rt, alloc, request, sources, watch) {
-        Ok(found) => tell(alloc, words, &found, out, err),
+        Ok(found) => tell_found(alloc, words, &found, out, err),
         Err(halted) => {
             report(alloc, err, words, &halted);
             Status::Refused
@@ -67,7 +116,8 @@ fn answer_request<R: Threads + Wait + Sync, S: Sources, V: Watch, O: Out, E: Out
 ///
 /// `check`, `meaning`, `cost`, `rules`, `explore`, `compare`, `run` and `exec` write one object; `steps` and `trace` an object a line, and on the last line how the run
 /// came out. What is refused is one object on `err`, with what there is to say of it, and there nothing else is written: what [`find`](command_facts::find) refuses, E17
-/// where standard output failed, and E16 where memory was refused. `expand`, `plan`, `export`, `explain` and the version are not told as JSON
+/// where standard output failed, and E16 where memory was refused; behind whole lines of the first statements, where a run is told
+/// statement by statement. `expand`, `plan`, `export`, `explain` and the version are not told as JSON
 /// (P1).
 pub fn answer_in_json<'a, R: Threads + Wait + Sync, S: Sources, V: Watch, O: Out, E: Out>(
     rt: &R,

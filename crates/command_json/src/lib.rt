@@ -3,6 +3,7 @@
 
 mod answering;
 mod reporting;
+mod stepping;
 mod telling;
 mod writing;
 

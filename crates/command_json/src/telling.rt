@@ -19,9 +19,9 @@ use command_facts::{
 use exchange_counts::Counts;
 use json_texts::{
     json_accepted, json_comparison, json_cost, json_exploration, json_outcome, json_pair,
-    json_steps, json_sweep, json_trace,
+    json_sweep, json_trace,
 };
-use program_texts::{Status, Stop};
+use program_texts::{Refusal, Status, Stop};
 use std::alloc::{AllocError, Global};
 use text_out::Out;
 use tracer::{Rates, bsp_cost};
@@ -67,11 +67,6 @@ fn run_text(alloc: Global, run: &FoundRun<'_>) -> Result<String, AllocError>
         Facts::Cost(cost) => {
             let (schedule, lines) = (words.costs.schedule, words.costs.lines);
             json_cost(alloc, layout, outcome, cost, schedule, lines)
-        }
-        Facts::Steps(entries) => {
-            let (first, last) = (words.steps.from as usize, words.steps.to as usize);
-            let tree = run.loaded.program.tree();
-            json_steps(alloc, layout, tree, outcome, entries, first, last)
         }
     }
 }
@@ -125,6 +120,8 @@ fn text_of<'a>(alloc: Global, found: &Found<'_>) -> Result<String, Stop<'a>>
         Found::Explored(found) => Ok(scope_text(alloc, found)?),
         Found::Paired(pair) => Ok(pair_text(alloc, pair)?),
         Found::Executed(run) => Ok(code_text(alloc, run)?),
+        // It is told as it runs.
+        Found::Stepped(_) => Err(Stop::Refused(Refusal::OutOfMemory)),
         Found::Version => Err(Stop::Number(JSON)),
         Found::Explanation(_) => Err(Stop::Number(JSON)),
         Found::Expanded(_) => Err(Stop::Number(JSON)),

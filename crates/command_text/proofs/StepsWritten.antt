@@ -1,52 +1,188 @@
--- What tells a run statement by statement is the text that is asked for.
-use Rattle.std.proofs.Common.{◌≡◌, ℕ, List, inl, inr, refl, ⊎_elim, subst, sym}
-use Rattle.std.specs.Prelude.{Result, Ok, Err}
-use Rattle.text_out.specs.Out.{OutState, StopsIn}
+-- What tells a run statement by statement is the text that is asked for, or a beginning of it.
+use Rattle.std.proofs.Common.{◌≡◌, ◌++◌, ◌≤◌, ℕ, ℤ, List, refl, ⊎_elim, subst, sym}
+use Rattle.std.specs.Prelude.{Result, Ok, Err, IsErrAnd, length}
+use Rattle.pram_model.specs.Layout.{SharedEntry, total_size}
+use Rattle.pram_trees.specs.Program.{ProgramTree}
+use Rattle.text_out.specs.Out.{OutState, StopsIn, with_bytes}
+use Rattle.text_out.proofs.Writing.{stops_behind, writes_then}
+use Rattle.write_rules.specs.Verdict.{verdict_of}
+use Rattle.write_rules.specs.declared.outcome.Outcome.{Outcome}
+use Rattle.pram_meaning.specs.Outcome.{IsOutcome}
 use Rattle.step_entries.specs.Entries.{Entry}
+use Rattle.step_journal.specs.Between.{between}
+use Rattle.step_journal.specs.Entries.{run_entries}
+use Rattle.step_streams.specs.Streamed.{HasStreamed}
+use Rattle.step_streams.specs.declared.failure.StreamFailure.{StreamFailure}
+use Rattle.step_pictures.specs.Picture.{part_of, picture}
+use Rattle.step_texts.specs.declared.telling.Telling.{Telling}
+use Rattle.program_texts.specs.Shown.{shown}
+use Rattle.program_texts.specs.Status.{status_of}
 use Rattle.program_texts.specs.declared.from_text.Refusal.TheVariants as refusal
 use Rattle.program_texts.specs.declared.status.Status.{Status}
 use Rattle.program_texts.specs.declared.stop.Stop.{Stop}
 use Rattle.program_texts.specs.declared.stop.Stop.TheVariants as stop
 use Rattle.command_requests.specs.declared.form.Form.{Form}
 use Rattle.command_requests.specs.declared.form.Form.TheVariants as form
+use Rattle.command_facts.specs.declared.found.Found.TheVariants as found
 use Rattle.command_facts.specs.declared.found.FoundRun.{FoundRun}
+use Rattle.command_facts.specs.declared.found.FoundSteps.{FoundSteps}
+use Rattle.command_facts.specs.Found.{IsOutcomeOf, entries_of, with_outcome}
 use Rattle.command_facts.specs.Written.{Wrote, WroteSome}
-use Rattle.command_facts.proofs.Writing.{wrote_some}
 use Rattle.command_text.specs.declared.terminal.Terminal.{Terminal}
-use Rattle.command_text.specs.Texts.{AreStepsText, IsFlow, IsInWords, IsPageOf, TakesMemory, picture_text}
+use Rattle.command_text.specs.Stepped.{IsCutIn, IsCutOff, IsTellingOf, IsToldBy, IsToldRun, IsToldText, lines_of, InLines, InText, Untold}
+use Rattle.command_text.specs.Explained.{IsRunExplained}
+use Rattle.command_text.specs.Left.{LeavesFound, ToldAsItRan}
+use Rattle.command_text.specs.Steps.{IsTelling}
+use Rattle.command_text.specs.Texts.{AreStepsText, picture_text}
 
--- what was written of one kind is of another
-pub wrote_of : (ends : Status) (Needs Wants : Type 0) (Is To : List ℕ → Type 0) (old new : OutState) (r : Result Status Stop) →
-    (Needs → Wants) → ((text : List ℕ) → Is text → To text) → WroteSome ends Needs Is old new r → WroteSome ends Wants To old new r
-wrote_of ends Needs Wants Is To old new (Ok s) f g w = (w.0, (w.1.0, g w.1.0 w.1.1, w.1.2))
-wrote_of ends Needs Wants Is To old new (Err why) f g w = ⊎_elim
-    (λ (a : (why ≡ stop.WriteFailed) × ((text : List ℕ) × Is text × StopsIn old new text)). inl (a.0, (a.1.0, g a.1.0 a.1.1, a.1.2)))
-    (λ (b : (why ≡ stop.Refused refusal.OutOfMemory) × Needs × (new ≡ old)). inr (b.0, f b.1, b.2)) w
+module _ (on : Terminal) (s : FoundSteps) (old : OutState) where
+  -- a run that is cut off is told by no outcome
+  pub cut_told : (new : OutState) (r : Result Outcome Stop) (why : Stop) → IsErrAnd r (λ e. e ≡ why) → IsCutOff on s old new why →
+      IsToldBy on s old new r
+  cut_told new (Ok o) why is cut = absurd is
+  cut_told new (Err e) why is cut = subst (IsCutOff on s old new) (sym is) cut
 
-module _ (on : Terminal) (run : FoundRun) (entries : List Entry) (f : Form) (ends : Status) (old new : OutState) (r : Result Status Stop) where
-  as_asked : (text : List ℕ) → (b : Form) → f ≡ b → AreStepsText b on run entries text → AreStepsText f on run entries text
-  as_asked text b asked is = subst (λ s. AreStepsText s on run entries text) (sym asked) is
+  pub cut_run : (new : OutState) (r : Result FoundRun Stop) (why : Stop) → IsErrAnd r (λ e. e ≡ why) → IsCutOff on s old new why →
+      IsToldRun on s old new r
+  cut_run new (Ok run) why is cut = absurd is
+  cut_run new (Err e) why is cut = subst (IsCutOff on s old new) (sym is) cut
 
-  -- drawn
-  pub wrote_picture : f ≡ form.Picture → Wrote ends (picture_text run entries) old new r →
-      WroteSome ends (TakesMemory f) (AreStepsText f on run entries) old new r
-  wrote_picture asked w = wrote_some ends (TakesMemory f) (AreStepsText f on run entries) (picture_text run entries) old new r
-      (as_asked (picture_text run entries) form.Picture asked refl) w
+  -- the text in the form that is asked for
+  as_asked : (f : Form) (o : Outcome) (text : List ℕ) → s.words.form ≡ f → AreStepsText f on (with_outcome s o) (entries_of s) text →
+      IsToldText on s o text
+  as_asked f o text asked is = subst (λ f. AreStepsText f on (with_outcome s o) (entries_of s) text) (sym asked) is
 
-  -- the flow of data
-  pub wrote_flow : f ≡ form.Flow → WroteSome ends (Unit {0}) (IsFlow run entries) old new r →
-      WroteSome ends (TakesMemory f) (AreStepsText f on run entries) old new r
-  wrote_flow asked w = wrote_of ends (Unit {0}) (TakesMemory f) (IsFlow run entries) (AreStepsText f on run entries) old new r
-      (λ _. inr asked) (λ text is. as_asked text form.Flow asked is) w
+  -- ---- a text that was written when the run was over
 
-  -- as a page
-  pub wrote_page : f ≡ form.Page → WroteSome ends (Unit {0}) (IsPageOf run entries) old new r →
-      WroteSome ends (TakesMemory f) (AreStepsText f on run entries) old new r
-  wrote_page asked w = wrote_of ends (Unit {0}) (TakesMemory f) (IsPageOf run entries) (AreStepsText f on run entries) old new r
-      (λ _. inl asked) (λ text is. as_asked text form.Page asked is) w
+  -- for want of memory nothing stands there
+  pub unwritten : (new : OutState) (why : Stop) → why ≡ stop.Refused refusal.OutOfMemory → new ≡ old → IsCutOff on s old new why
+  unwritten new why is same = subst (IsCutOff on s old new) (sym is) (Untold same)
 
-  -- in words
-  pub wrote_words : f ≡ form.Words → ((text : List ℕ) × IsInWords on run entries text × Wrote ends text old new r) →
-      WroteSome ends (TakesMemory f) (AreStepsText f on run entries) old new r
-  wrote_words asked w = wrote_some ends (TakesMemory f) (AreStepsText f on run entries) w.0 old new r
-      (as_asked w.0 form.Words asked w.1) w.2
+  module _ (f : Form) (asked : s.words.form ≡ f) (o : Outcome) (comes : IsOutcomeOf s o) where
+    -- all of a text
+    pub whole : (new : OutState) (text : List ℕ) → AreStepsText f on (with_outcome s o) (entries_of s) text → new ≡ with_bytes old text →
+        IsToldBy on s old new (Ok o)
+    whole new text is written = (comes, (text, as_asked f o text asked is, written))
+
+    stopped : (new : OutState) (why : Stop) (text : List ℕ) → AreStepsText f on (with_outcome s o) (entries_of s) text →
+        (why ≡ stop.WriteFailed) × StopsIn old new text → IsCutOff on s old new why
+    stopped new why text is cut = subst (IsCutOff on s old new) (sym cut.0) (InText o text comes (as_asked f o text asked is) cut.1)
+
+    -- a text that is known
+    pub cut_in_text : (new : OutState) (ends : Status) (why : Stop) (text : List ℕ) →
+        AreStepsText f on (with_outcome s o) (entries_of s) text → Wrote ends text old new (Err why) → IsCutOff on s old new why
+    cut_in_text new ends why text is w = stopped new why text is w
+
+    -- one of a kind
+    pub whole_of_kind : (new : OutState) (ends given : Status) → WroteSome ends (Unit {0})
+        (AreStepsText f on (with_outcome s o) (entries_of s)) old new (Ok given) → IsToldBy on s old new (Ok o)
+    whole_of_kind new ends given w = whole new w.1.0 w.1.1 w.1.2
+
+    pub cut_of_kind : (new : OutState) (ends : Status) (why : Stop) → WroteSome ends (Unit {0})
+        (AreStepsText f on (with_outcome s o) (entries_of s)) old new (Err why) → IsCutOff on s old new why
+    cut_of_kind new ends why w = ⊎_elim
+        (λ (a : (why ≡ stop.WriteFailed) × ((text : List ℕ) × AreStepsText f on (with_outcome s o) (entries_of s) text
+        × StopsIn old new text)). stopped new why a.1.0 a.1.1 (a.0, a.1.2))
+        (λ (b : (why ≡ stop.Refused refusal.OutOfMemory) × Unit {0} × (new ≡ old)). unwritten new why b.0 b.2) w
+
+  -- ---- in words
+
+  module _ (telling : Telling) (asked : s.words.form ≡ form.Words) (is : IsTellingOf on s telling) where
+    -- the lines, and the outcome behind them
+    in_words : (o : Outcome) → IsToldText on s o (lines_of s telling (entries_of s) ++ shown s.loaded.program.layout (verdict_of o))
+    in_words o = as_asked form.Words o (lines_of s telling (entries_of s) ++ shown s.loaded.program.layout (verdict_of o)) asked
+        (telling, is, refl)
+
+    pub cut_in_lines : (new : OutState) (why : Stop) → IsCutIn s telling old new why → IsCutOff on s old new why
+    cut_in_lines new why cut = InLines why telling asked is cut
+
+    module _ (o : Outcome) (comes : IsOutcomeOf s o) (mid new : OutState) (lines : mid ≡ with_bytes old (lines_of s telling (entries_of s)))
+        (ends : Status) where
+      pub told_in_words : (given : Status) → Wrote ends (shown s.loaded.program.layout (verdict_of o)) mid new (Ok given) →
+          IsToldBy on s old new (Ok o)
+      told_in_words given w = (
+        comes,
+        (
+          lines_of s telling (entries_of s) ++ shown s.loaded.program.layout (verdict_of o),
+          in_words o,
+          writes_then old mid new (lines_of s telling (entries_of s)) (shown s.loaded.program.layout (verdict_of o)) lines w.1,
+        ),
+      )
+
+      pub cut_in_outcome : (why : Stop) → Wrote ends (shown s.loaded.program.layout (verdict_of o)) mid new (Err why) →
+          IsCutOff on s old new why
+      cut_in_outcome why w = subst (IsCutOff on s old new) (sym w.0)
+          (InText o (lines_of s telling (entries_of s) ++ shown s.loaded.program.layout (verdict_of o)) comes (in_words o)
+          (stops_behind old mid new (lines_of s telling (entries_of s)) (shown s.loaded.program.layout (verdict_of o)) lines w.1))
+
+-- ---- parts as they were put together
+
+-- what was streamed by the values that were handed over
+pub streamed_by : (s : FoundSteps) (telling : Telling) (old new : OutState) (given : List ℤ) (r q : Result Outcome StreamFailure) →
+    given ≡ s.input.items → r ≡ q →
+    HasStreamed old new (lines_of s telling) (run_entries s.loaded.program given s.words.options.bound) r →
+    HasStreamed old new (lines_of s telling) (entries_of s) q
+streamed_by s telling old new given r q same is h =
+    subst (λ (i : List ℤ). HasStreamed old new (lines_of s telling) (run_entries s.loaded.program i s.words.options.bound) q) same
+    (subst (HasStreamed old new (lines_of s telling) (run_entries s.loaded.program given s.words.options.bound)) is h)
+
+pub outcome_by : (s : FoundSteps) (o : Outcome) (given : List ℤ) → given ≡ s.input.items →
+    length s.input.items ≤ total_size s.loaded.program.layout →
+    IsOutcome s.loaded.program given s.words.options.bound (verdict_of o) → IsOutcomeOf s o
+outcome_by s o given same fits is = record {
+  fits = fits;
+  outcome = subst (λ (i : List ℤ). IsOutcome s.loaded.program i s.words.options.bound (verdict_of o)) same is;
+}
+
+-- how statements are told
+pub telling_by : (on : Terminal) (s : FoundSteps) (text : List ℕ) (tree : ProgramTree) (telling : Telling) →
+    text ≡ s.loaded.source.bytes.items → tree ≡ s.loaded.program.tree → IsTelling on text s.words.steps.locals tree telling →
+    IsTellingOf on s telling
+telling_by on s text tree telling same_text same_tree is =
+    subst (λ (t : ProgramTree). IsTelling on s.loaded.source.bytes.items s.words.steps.locals t telling) same_tree
+    (subst (λ (t : List ℕ). IsTelling on t s.words.steps.locals tree telling) same_text is)
+
+-- the outcome, by its declarations
+pub outcome_as : (s : FoundSteps) (o : Outcome) (layout : List SharedEntry) (ends : Status) (mid new : OutState) (r : Result Status Stop) →
+    layout ≡ s.loaded.program.layout → Wrote ends (shown layout (verdict_of o)) mid new r →
+    Wrote ends (shown s.loaded.program.layout (verdict_of o)) mid new r
+outcome_as s o layout ends mid new r same w = subst (λ (l : List SharedEntry). Wrote ends (shown l (verdict_of o)) mid new r) same w
+
+-- the picture of an excerpt
+pub picture_as : (s : FoundSteps) (o : Outcome) (layout : List SharedEntry) (text : List ℕ) (whole : ℕ) (es : List Entry) (ends : Status)
+    (old new : OutState) (r : Result Status Stop) → layout ≡ s.loaded.program.layout → text ≡ s.loaded.source.bytes.items →
+    whole ≡ length (entries_of s) → es ≡ between s.words.steps.from s.words.steps.to (entries_of s) →
+    Wrote ends (picture layout text (part_of s.words.steps.from whole) es) old new r →
+    Wrote ends (picture_text (with_outcome s o) (entries_of s)) old new r
+picture_as s o layout text whole es ends old new r same_layout same_text same_whole same w =
+    subst (λ (l : List SharedEntry). Wrote ends (picture l s.loaded.source.bytes.items (part_of s.words.steps.from (length (entries_of s)))
+    (between s.words.steps.from s.words.steps.to (entries_of s))) old new r) same_layout
+    (subst (λ (t : List ℕ). Wrote ends (picture layout t (part_of s.words.steps.from (length (entries_of s)))
+    (between s.words.steps.from s.words.steps.to (entries_of s))) old new r) same_text
+    (subst (λ (n : ℕ). Wrote ends (picture layout text (part_of s.words.steps.from n)
+    (between s.words.steps.from s.words.steps.to (entries_of s))) old new r) same_whole
+    (subst (λ (es : List Entry). Wrote ends (picture layout text (part_of s.words.steps.from whole) es) old new r) same w)))
+
+-- a text of a kind, of the run as it was put together
+pub kind_as : (P : FoundRun → List Entry → List ℕ → Type 0) (s : FoundSteps) (o : Outcome) (run : FoundRun) (es : List Entry)
+    (ends : Status) (old new : OutState) (r : Result Status Stop) → run ≡ with_outcome s o → es ≡ entries_of s →
+    WroteSome ends (Unit {0}) (P run es) old new r → WroteSome ends (Unit {0}) (P (with_outcome s o) (entries_of s)) old new r
+kind_as P s o run es ends old new r same_run same w =
+    subst (λ (x : FoundRun). WroteSome ends (Unit {0}) (P x (entries_of s)) old new r) same_run
+    (subst (λ (es : List Entry). WroteSome ends (Unit {0}) (P run es) old new r) same w)
+
+-- the run, as it came back
+pub run_as : (on : Terminal) (s : FoundSteps) (o : Outcome) (run : FoundRun) (old new : OutState) → run ≡ with_outcome s o →
+    IsToldBy on s old new (Ok o) → IsToldRun on s old new (Ok run)
+run_as on s o run old new same told = subst (λ (x : FoundRun). IsToldRun on s old new (Ok x)) (sym same) (refl, told)
+
+-- ---- both streams
+
+pub leaves_run : (on : Terminal) (words : List (List ℕ)) (s : FoundSteps) (run : FoundRun) (out out_new err err_new : OutState)
+    (ends : Status) →
+    IsToldRun on s out out_new (Ok run) → IsRunExplained on.errors run run.outcome err err_new → ends ≡ status_of run.outcome →
+    LeavesFound on words (found.Stepped s) out out_new err err_new ends
+leaves_run on words s run out out_new err err_new ends told explained is =
+    subst (LeavesFound on words (found.Stepped s) out out_new err err_new) (sym is)
+    (ToldAsItRan s run.outcome told.1.1.0 refl told.1.0 told.1.1.1 told.1.1.2
+    (subst (λ (x : FoundRun). IsRunExplained on.errors x run.outcome err err_new) told.0 explained))

@@ -1,26 +1,38 @@
 -- What a call leaves on its streams.
 use Rattle.std.specs.Prelude.{◌≡◌, ℕ, List, Option, Result, Ok, Err}
 use Rattle.text_out.specs.Out.{OutState, with_bytes}
+use Rattle.write_rules.specs.declared.outcome.Outcome.{Outcome}
+use Rattle.program_texts.specs.Status.{status_of}
 use Rattle.program_texts.specs.declared.status.Status.{Status}
 use Rattle.program_texts.specs.declared.status.Status.TheVariants as status
 use Rattle.program_texts.specs.declared.stop.Stop.{Stop}
 use Rattle.diagnoses.specs.declared.about.About.TheVariants as about
 use Rattle.command_requests.specs.declared.request.Request.{Request}
 use Rattle.command_facts.specs.declared.found.Found.{Found}
+use Rattle.command_facts.specs.declared.found.Found.TheVariants as found
+use Rattle.command_facts.specs.declared.found.FoundSteps.{FoundSteps}
 use Rattle.command_facts.specs.declared.halted.Halted.{Halted}
 use Rattle.command_facts.specs.Calls.{Finds, IsStop, status_of_found}
+use Rattle.command_facts.specs.Found.{IsOutcomeOf, with_outcome}
 use Rattle.command_text.specs.declared.terminal.Terminal.{Terminal}
-use Rattle.command_text.specs.Explained.{IsExplained, IsRefusalReported}
+use Rattle.command_text.specs.Explained.{IsExplained, IsRefusalReported, IsRunExplained}
 use Rattle.command_facts.specs.Written.{WroteSome}
-use Rattle.command_text.specs.Texts.{IsTextOf, NeedsMemory}
+use Rattle.command_text.specs.Stepped.{IsCutOff, IsToldText}
+use Rattle.command_text.specs.Texts.{IsTextOf}
 
 -- Both streams after what was found is told, with the exit status: it stands on standard output, whole, and on standard error nothing, but
--- a fault where that is to be explained; or standard output failed in it, or memory for it was refused, and that is told.
-pub data LeavesFound (on : Terminal) (words : List (List ℕ)) (found : Found) (out out_new err err_new : OutState) : Status → Type 0 where
-  Told : (text : List ℕ) → IsTextOf on found text → out_new ≡ with_bytes out text → IsExplained on.errors found err err_new
-      → LeavesFound on words found out out_new err err_new (status_of_found found)
-  CutOff : (why : Stop) → WroteSome (status_of_found found) (NeedsMemory found) (IsTextOf on found) out out_new (Err why)
-      → IsRefusalReported on words why about.Nothing err err_new → LeavesFound on words found out out_new err err_new status.Refused
+-- a fault where that is to be explained; or standard output failed in it, and that is told.
+pub data LeavesFound (on : Terminal) (words : List (List ℕ)) (f : Found) (out out_new err err_new : OutState) : Status → Type 0 where
+  Told : (text : List ℕ) → IsTextOf f text → out_new ≡ with_bytes out text → IsExplained on.errors f err err_new
+      → LeavesFound on words f out out_new err err_new (status_of_found f)
+  CutOff : (why : Stop) → WroteSome (status_of_found f) ⊥ (IsTextOf f) out out_new (Err why)
+      → IsRefusalReported on words why about.Nothing err err_new → LeavesFound on words f out out_new err err_new status.Refused
+  -- a run is told statement by statement as it goes: the outcome is that of the program, and it gives the status
+  ToldAsItRan : (s : FoundSteps) (o : Outcome) (text : List ℕ) → f ≡ found.Stepped s → IsOutcomeOf s o → IsToldText on s o text
+      → out_new ≡ with_bytes out text → IsRunExplained on.errors (with_outcome s o) o err err_new
+      → LeavesFound on words f out out_new err err_new (status_of o)
+  BrokenOff : (s : FoundSteps) (why : Stop) → f ≡ found.Stepped s → IsCutOff on s out out_new why
+      → IsRefusalReported on words why about.Nothing err err_new → LeavesFound on words f out out_new err err_new status.Refused
 
 -- Both streams after a call of these words. What was found is of all that the files hold which the request names. A refusal's line goes to
 -- standard error, and behind it what is said of it, if that is asked for; nothing is on standard output then.

@@ -4,4 +4,5 @@ pub mod Steps
 pub mod Spans
 pub mod Texts
 pub mod Explained
+pub mod Stepped
 pub mod Left

@@ -1,5 +1,5 @@
 -- The text by which what was found is told.
-use Rattle.std.specs.Prelude.{◌≡◌, ◌⊎◌, ℕ, List, [], ◌++◌, Bool, Vec, true, false, codes, decimal, map}
+use Rattle.std.specs.Prelude.{◌≡◌, ℕ, List, [], ◌++◌, Bool, Vec, true, false, codes, decimal, map}
 use Rattle.std.specs.Global.{Global}
 use Rattle.pram_model.specs.Layout.{total_size}
 use Rattle.pram_model.specs.Rules.{rule_word}
@@ -23,7 +23,7 @@ use Rattle.comparison_texts.specs.ComparisonText as pair_texts
 use Rattle.explorations.specs.Found.{found_is}
 use Rattle.exploration_texts.specs.FindingsText.{findings_text}
 use Rattle.mpi_export.specs.Program.{c_text}
-use Rattle.step_entries.specs.Entries.{Entry, entry_is}
+use Rattle.step_entries.specs.Entries.{Entry}
 use Rattle.step_texts.specs.declared.telling.Telling.{Telling}
 use Rattle.command_requests.specs.declared.form.Form.{Form}
 use Rattle.command_requests.specs.declared.form.Form.TheVariants as form
@@ -96,36 +96,24 @@ AreStepsText form.Flow on r entries text = IsFlow r entries text
 AreStepsText form.Page on r entries text = IsPageOf r entries text
 
 -- the text of a run, by what was found beside its outcome
-abbrev pub IsRunText : Terminal → FoundRun → Facts → List ℕ → Type 0
-IsRunText on r facts.Nothing text = text ≡ shown_by r.words.shown r.loaded.program.layout (verdict_of r.outcome)
-IsRunText on r (facts.Cost c) text =
+abbrev pub IsRunText : FoundRun → Facts → List ℕ → Type 0
+IsRunText r facts.Nothing text = text ≡ shown_by r.words.shown r.loaded.program.layout (verdict_of r.outcome)
+IsRunText r (facts.Cost c) text =
     text ≡ costs_text (verdict_of r.outcome) c r.words.costs.schedule r.words.costs.lines ++ outcome_text r
-IsRunText on r (facts.Steps entries) text = AreStepsText r.words.form on r (map entry_is entries.items) text
-IsRunText on r (facts.Exchanges t) text = text ≡ counts_text r.words.form r.words.trace (outcome_text r) t
+IsRunText r (facts.Exchanges t) text = text ≡ counts_text r.words.form r.words.trace (outcome_text r) t
 
--- the text of what was found
-abbrev pub IsTextOf : Terminal → Found → List ℕ → Type 0
-IsTextOf on found.Version text = text ≡ version_text
-IsTextOf on (found.Explanation subject) text = text ≡ explanation subject
-IsTextOf on (found.Accepted l) text = text ≡ accepted_line l.program
-IsTextOf on (found.Expanded s) text = text ≡ text_in s
-IsTextOf on (found.Planned code) text = text ≡ spelling code
-IsTextOf on (found.Exported code) text = text ≡ c_text code
-IsTextOf on (found.Compared c) text = text ≡ comparison_text c
-IsTextOf on (found.Explored f) text = text ≡ findings_text f.program.layout (found_is f.findings)
-IsTextOf on (found.Paired p) text = text ≡ pair_texts.comparison_text p.first.layout p.second.layout (pairs.found_is p.comparison)
-IsTextOf on (found.Run r) text = IsRunText on r r.facts text
-IsTextOf on (found.Swept s) text = text ≡ swept_text s.form s.csv s
-IsTextOf on (found.Executed c) text = text ≡ shown_by c.shown c.code.layout (verdict_of c.outcome)
-
--- only a page is put together before it is written, and what a flow is drawn by
-abbrev pub TakesMemory : Form → Type 0
-TakesMemory f = (f ≡ form.Page) ⊎ (f ≡ form.Flow)
-
-abbrev pub IsPaged : FoundRun → Facts → Type 0
-IsPaged r (facts.Steps entries) = TakesMemory r.words.form
-IsPaged r _ = ⊥
-
-abbrev pub NeedsMemory : Found → Type 0
-NeedsMemory (found.Run r) = IsPaged r r.facts
-NeedsMemory _ = ⊥
+-- The text of what was found. A run that is still to be told has none yet.
+abbrev pub IsTextOf : Found → List ℕ → Type 0
+IsTextOf found.Version text = text ≡ version_text
+IsTextOf (found.Explanation subject) text = text ≡ explanation subject
+IsTextOf (found.Accepted l) text = text ≡ accepted_line l.program
+IsTextOf (found.Expanded s) text = text ≡ text_in s
+IsTextOf (found.Planned code) text = text ≡ spelling code
+IsTextOf (found.Exported code) text = text ≡ c_text code
+IsTextOf (found.Compared c) text = text ≡ comparison_text c
+IsTextOf (found.Explored f) text = text ≡ findings_text f.program.layout (found_is f.findings)
+IsTextOf (found.Paired p) text = text ≡ pair_texts.comparison_text p.first.layout p.second.layout (pairs.found_is p.comparison)
+IsTextOf (found.Run r) text = IsRunText r r.facts text
+IsTextOf (found.Swept s) text = text ≡ swept_text s.form s.csv s
+IsTextOf (found.Stepped s) text = ⊥
+IsTextOf (found.Executed c) text = text ≡ shown_by c.shown c.code.layout (verdict_of c.outcome)

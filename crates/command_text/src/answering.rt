@@ -1,14 +1,17 @@
 //! How the program answers a request.
 
-ghost use Rattle.std.specs.Prelude.{◌<◌, ◌^◌, map};
+ghost use Rattle.std.specs.Prelude.{◌<◌, ◌≤◌, ◌^◌, length, map};
 ghost use Rattle.std.specs.String.{string_bytes};
+ghost use Rattle.pram_model.specs.Layout.{total_size};
+ghost use Rattle.command_facts.specs.Calls.{FitsIn, IsSettled};
 ghost use Rattle.command_text.specs.Left.{Leaves, LeavesFound};
 
-use crate::explaining::{explain, report};
+use crate::explaining::{explain, explain_run, report};
+use crate::stepping::write_stepped;
 use crate::telling::write_found;
 use crate::terminal::Terminal;
 use call_progress::Watch;
-use command_facts::{Found, Halted, find};
+use command_facts::{Found, FoundSteps, Halted, find};
 use command_requests::Request;
 use program_texts::{Status, Stop};
 use std::alloc::Global;
@@ -16,6 +19,33 @@ use std::sync::Wait;
 use std::thread::Threads;
 use system_files::Sources;
 use text_out::Out;
+
+// A run of a program is told as it runs.
+fn tell_steps<O: Out, E: Out>(
+    alloc: Global,
+    words: &[String],
+    on: Terminal,
+    steps: FoundSteps<'_>,
+    out: &mut O,
+    err: &mut E,
+) -> Status
+    requires fits { length steps.input.items ≤ total_size steps.loaded.program.layout }
+    requires out { (O.Out.state out.old).failures < 2 ^ 62 }
+    requires err { (E.Out.state err.old).failures < 2 ^ 62 }
+    ensures leaves { LeavesFound on (map string_bytes words.now) (Found.Stepped steps.entry) (O.Out.state out.old) (O.Out.state out.new)
+        (E.Out.state err.old) (E.Out.state err.new) result }
+{
+    match write_stepped(alloc, on, steps, out) {
+        Ok(run) => {
+            explain_run(alloc, err, &run, on.errors);
+            Status::of(&run.outcome)
+        }
+        Err(stop) => {
+            report(alloc, err, words, &Halted::from(stop), on);
+            Status::Refused
+        }
+    }
+}
 
 // What was found is told.
 fn tell<O: Out, E: Out>(
@@ -26,12 +56,13 @@ fn tell<O: Out, E: Out>(
     out: &mut O,
     err: &mut E,
 ) -> Status
+    requires settled { IsSettled found.now }
     requires out { (O.Out.state out.old).failures < 2 ^ 62 }
     requires err { (E.Out.state err.old).failures < 2 ^ 62 }
     ensures leaves { LeavesFound on (map string_bytes words.now) found.now (O.Out.state out.old) (O.Out.state out.new)
         (E.Out.state err.old) (E.Out.state err.new) result }
 {
-    match write_found(alloc, on, found, out) {
+    match write_found(found, out) {
         Ok(status) => {
             explain(alloc, err, found, on.errors);
             status
@@ -43,7 +74,30 @@ fn tell<O: Out, E: Out>(
     }
 }
 
+// Either.
+#[tactic(auto, using(command_facts::proofs::Steps::settled))]
+fn tell_found<O: Out, E: Out>(
+    alloc: Global,
+    words: &[String],
+    on: Terminal,
+    found: Found<'_>,
+    out: &mut O,
+    err: &mut E,
+) -> Status
+    requires fits { FitsIn found }
+    requires out { (O.Out.state out.old).failures < 2 ^ 62 }
+    requires err { (E.Out.state err.old).failures < 2 ^ 62 }
+    ensures leaves { LeavesFound on (map string_bytes words.now) found.entry (O.Out.state out.old) (O.Out.state out.new)
+        (E.Out.state err.old) (E.Out.state err.new) result }
+{
+    match found {
+        Found::Stepped(steps) => tell_steps(alloc, words, on, steps, out, err),
+        settled => tell(alloc, words, on, &settled, out, err),
+    }
+}
+
 // A request that was read.
+#[tactic(auto, using(command_facts::proofs::Steps::found_fits))]
 fn answer_request<R: Threads + Wait + Sync, S: Sources, V: Watch, O: Out, E: Out>(
     rt: &R,
     alloc: Global,
@@ -61,7 +115,7 @@ fn answer_request<R: Threads + Wait + Sync, S: Sources, V: Watch, O: Out, E: Out
         (O.Out.state out.old) (O.Out.state out.new) (E.Out.state err.old) (E.Out.state err.new) result }
 {
     match find(rt, alloc, request, sources, watch) {
-        Ok(found) => tell(alloc, words, on, &found, out, err),
+        Ok(found) => tell_found(alloc, words, on, found, out, err),
         Err(halted) => {
             report(alloc, err, words, &halted, on);
             Status::Refused
@@ -79,7 +133,9 @@ fn answer_request<R: Threads + Wait + Sync, S: Sources, V: Watch, O: Out, E: Out
 /// `pramc 0.1.0`.
 ///
 /// What is refused is written to `err`: P1 for the words, P2 for a file that can't be read, and E1 to E19. Besides what
-/// [`find`](command_facts::find) refuses, E17 is told where standard output failed, and E16 where memory for a page was refused.
+/// [`find`](command_facts::find) refuses, E17 is told where standard output failed, and E16 where memory was refused to a run that is told
+/// statement by statement: a line of it is written as soon as its statement has run, so the lines of the statements before stand there
+/// then, and in another form than words nothing.
 ///
 /// Where the errors are to be explained, what a reader needs follows there: the place, its line and a caret, and a
 /// sentence, of a word the option that doesn't take it and what that wants; and so of a fault, of a program's run with its line. Where

@@ -156,7 +156,8 @@ fn say_bound<E: Out>(err: &mut E, bound: u32)
     }
 }
 
-fn explain_run<E: Out>(alloc: Global, err: &mut E, run: &FoundRun<'_>, explains: bool)
+/// Writes what is said of the fault of a program's run, or that its bound was met, where that is asked for.
+pub(crate) fn explain_run<E: Out>(alloc: Global, err: &mut E, run: &FoundRun<'_>, explains: bool)
     requires err { (E.Out.state err.old).failures < 2 ^ 62 }
     ensures left { spec.IsRunExplained explains run.now run.now.outcome (E.Out.state err.old) (E.Out.state err.new) }
 {
@@ -203,6 +204,7 @@ pub(crate) fn explain<E: Out>(alloc: Global, err: &mut E, found: &Found<'_>, exp
     match found {
         Found::Run(run) => explain_run(alloc, err, run, explains),
         Found::Executed(run) => explain_code(alloc, err, run, explains),
+        Found::Stepped(_) => {}
         Found::Version => {}
         Found::Explanation(_) => {}
         Found::Accepted(_) => {}

@@ -1,29 +1,37 @@
-//! Runs of a program that are told statement by statement: in words, drawn, or as a page.
+//! Runs of a program that are told statement by statement: in words as they go, drawn, or as a page.
 
-ghost use Rattle.std.specs.Prelude.{◌<◌, ◌^◌, ℕ, List, map};
-ghost use Rattle.std.specs.String.{string_bytes};
-ghost use Rattle.text_out.specs.Out.{Writes};
-ghost use Rattle.diagnoses.specs.Sources.{text_in};
+ghost use Rattle.std.specs.Prelude.{◌≡◌, ◌<◌, ◌≤◌, ◌^◌, IfErr, IfOk, OnOk, length, map};
+ghost use Rattle.pram_model.specs.Layout.{total_size};
+ghost use Rattle.text_out.specs.Out.{with_bytes};
+ghost use Rattle.write_rules.specs.Verdict.{verdict_of};
 ghost use Rattle.flow_pictures.specs.Picture.{flow};
+ghost use Rattle.command_facts.specs.Found.{IsOutcomeOf, entries_of};
 ghost use Rattle.command_facts.specs.Written.{Wrote, WroteSome};
+ghost use Rattle.program_texts.specs.Shown.{shown};
 ghost use Rattle.program_texts.specs.Status.{status_of};
+ghost use Rattle.program_texts.specs.declared.from_text.Refusal.TheVariants.{OutOfMemory};
+ghost use Rattle.program_texts.specs.declared.stop.Stop.TheVariants.{Refused};
 ghost use Rattle.step_entries.specs.Entries.{entry_is};
-ghost use Rattle.step_pictures.specs.Picture.{picture_from};
+ghost use Rattle.step_journal.specs.Between.{between};
+ghost use Rattle.step_pictures.specs.Picture.{part_of, picture};
+ghost use Rattle.command_text.specs.Stepped as stepped;
 ghost use Rattle.command_text.specs.Steps as spec;
 ghost use Rattle.command_text.specs.Texts as texts;
 
 use crate::choosing::chosen_spans;
 use crate::paging::write_as_page;
 use crate::terminal::Terminal;
-use command_facts::FoundRun;
+use command_facts::{FoundRun, FoundSteps};
 use command_requests::{Form, StepWords};
 use flow_pictures::{CellSpan, asides_of, write_flow};
 use pram_trees::{Layout, Tree};
-use program_texts::{Status, Stop, finish, show};
+use program_texts::{Refusal, Status, Stop, finish, show};
 use std::alloc::{AllocError, Global};
 use step_entries::Entry;
-use step_pictures::write_picture;
-use step_texts::{Detail, Manner, Telling, write_steps};
+use step_journal::{Excerpt, steps_between, steps_of};
+use step_pictures::write_excerpt;
+use step_streams::{StreamFailure, stream_steps};
+use step_texts::{Detail, Manner, Telling};
 use text_out::{Out, WriteFault};
 use write_rules::Outcome;
 
@@ -62,99 +70,130 @@ fn telling_of<'t>(on: Terminal, text: &'t [u8], locals: bool, tree: &'t Tree) ->
     }
 }
 
-// The entries that are asked for, and behind them the run's outcome.
-fn write_entries_and_outcome<O: Out>(
-    out: &mut O,
-    layout: &Layout,
-    outcome: &Outcome,
-    entries: &[Entry],
+// Runs the program and writes each statement that is asked for as soon as it has run. The input fits, so that a run is refused for memory
+// alone.
+fn stream_lines<'a, O: Out>(
+    alloc: Global,
+    steps: &FoundSteps<'_>,
     telling: &Telling<'_>,
-    words: StepWords,
-) -> Result<(), WriteFault>
+    out: &mut O,
+) -> Result<Outcome, Stop<'a>>
+    requires fits { length steps.now.input.items ≤ total_size steps.now.loaded.program.layout }
     requires out { (O.Out.state out.old).failures < 2 ^ 62 }
-    ensures written { Writes (O.Out.state out.old) (O.Out.state out.new)
-        (spec.told_text layout.now telling.now outcome.now (map entry_is entries.now) words.from words.to) result }
+    ensures outcome { IfOk result (IsOutcomeOf steps.now) }
+    ensures lines { OnOk result (O.Out.state out.new
+        ≡ with_bytes (O.Out.state out.old) (stepped.lines_of steps.now telling.now (entries_of steps.now))) }
+    ensures cut { IfErr result (stepped.IsCutIn steps.now telling.now (O.Out.state out.old) (O.Out.state out.new)) }
 {
-    let (first, last) = (words.from as usize, words.to as usize);
-    write_steps(out, layout, telling, entries, first, last)?;
-    show(layout, outcome, out)
+    let (program, bound) = (&steps.loaded.program, steps.words.options.bound);
+    let (first, last) = (
+        steps.words.steps.from as usize,
+        steps.words.steps.to as usize,
+    );
+    match stream_steps(
+        alloc,
+        program,
+        &steps.input,
+        bound,
+        telling,
+        first,
+        last,
+        out,
+    ) {
+        Ok(outcome) => Ok(outcome),
+        Err(StreamFailure::WriteFailed) => Err(Stop::WriteFailed),
+        Err(StreamFailure::OutOfMemory) => Err(Stop::Refused(Refusal::OutOfMemory)),
+        Err(StreamFailure::InputTooLong) => Err(Stop::Refused(Refusal::InputTooLong)),
+    }
 }
 
-// Writes a run statement by statement, and behind that its outcome.
-fn write_told<'a, O: Out>(
-    out: &mut O,
+// The outcome, behind the lines.
+fn write_ending<'a, O: Out>(
     layout: &Layout,
     outcome: &Outcome,
-    entries: &[Entry],
-    telling: &Telling<'_>,
-    words: StepWords,
+    out: &mut O,
 ) -> Result<Status, Stop<'a>>
     requires out { (O.Out.state out.old).failures < 2 ^ 62 }
-    ensures written { Wrote (status_of outcome.now)
-        (spec.told_text layout.now telling.now outcome.now (map entry_is entries.now) words.from words.to)
+    ensures written { Wrote (status_of outcome.now) (shown layout.now (verdict_of outcome.now))
         (O.Out.state out.old) (O.Out.state out.new) result }
 {
-    write_entries_and_outcome(out, layout, outcome, entries, telling, words)?;
+    show(layout, outcome, out)?;
     finish(out, Status::of(outcome))
 }
 
-// In words.
+// In words, and behind them the outcome.
 fn write_in_words<'a, O: Out>(
+    alloc: Global,
     on: Terminal,
-    run: &FoundRun<'_>,
-    entries: &[Entry],
+    steps: &FoundSteps<'_>,
     out: &mut O,
-) -> Result<Status, Stop<'a>>
+) -> Result<Outcome, Stop<'a>>
+    requires form { steps.now.words.form ≡ Form.Words }
+    requires fits { length steps.now.input.items ≤ total_size steps.now.loaded.program.layout }
     requires out { (O.Out.state out.old).failures < 2 ^ 62 }
-    ensures written { (text : List ℕ) × texts.IsInWords on run.now (map entry_is entries.now) text
-        × Wrote (status_of run.now.outcome) text (O.Out.state out.old) (O.Out.state out.new) result }
+    ensures told { stepped.IsToldBy on steps.now (O.Out.state out.old) (O.Out.state out.new) result }
 {
-    let layout = run.loaded.program.layout();
-    let text = run.loaded.source.bytes.as_slice();
-    let tree = run.loaded.program.tree();
-    let telling = telling_of(on, text, run.words.steps.locals, tree);
-    write_told(
-        out,
-        layout,
-        &run.outcome,
-        entries,
-        &telling,
-        run.words.steps,
-    )
+    let text = steps.loaded.source.bytes.as_slice();
+    let tree = steps.loaded.program.tree();
+    let telling = telling_of(on, text, steps.words.steps.locals, tree);
+    let outcome = stream_lines(alloc, steps, &telling, out)?;
+    write_ending(steps.loaded.program.layout(), &outcome, out)?;
+    Ok(outcome)
 }
 
-// Writes a picture of statements beside the lines of this text.
+// The statements that are asked for, and how many there are in all. The input fits, so that a run is refused for memory alone.
+fn excerpt_of<'a>(alloc: Global, steps: &FoundSteps<'_>) -> Result<(Outcome, Excerpt), Stop<'a>>
+    requires fits { length steps.now.input.items ≤ total_size steps.now.loaded.program.layout }
+    ensures outcome { IfOk result (λ r. IsOutcomeOf steps.now r.0) }
+    ensures entries { IfOk result (λ r. map entry_is r.1.entries.items
+        ≡ between steps.now.words.steps.from steps.now.words.steps.to (entries_of steps.now)) }
+    ensures whole { IfOk result (λ r. r.1.whole ≡ length (entries_of steps.now)) }
+    ensures refused { IfErr result (λ stop. stop ≡ Refused OutOfMemory) }
+{
+    let (program, bound) = (&steps.loaded.program, steps.words.options.bound);
+    let words = steps.words.steps;
+    let (first, last) = (words.from as usize, words.to as usize);
+    match steps_between(alloc, program, &steps.input, bound, first, last) {
+        Ok(told) => Ok(told),
+        Err(_) => Err(Stop::Refused(Refusal::OutOfMemory)),
+    }
+}
+
+// Writes a picture of those statements beside the lines of this text.
 fn write_pictured<'a, O: Out>(
     out: &mut O,
     layout: &Layout,
     text: &[u8],
     outcome: &Outcome,
-    entries: &[Entry],
-    words: StepWords,
+    excerpt: &Excerpt,
+    from: usize,
 ) -> Result<Status, Stop<'a>>
     requires out { (O.Out.state out.old).failures < 2 ^ 62 }
     ensures written { Wrote (status_of outcome.now)
-        (picture_from layout.now text.now (map entry_is entries.now) words.from words.to)
+        (picture layout.now text.now (part_of from excerpt.now.whole) (map entry_is excerpt.now.entries.items))
         (O.Out.state out.old) (O.Out.state out.new) result }
 {
-    let (first, last) = (words.from as usize, words.to as usize);
-    write_picture(out, layout, text, entries, first, last)?;
+    write_excerpt(out, layout, text, &excerpt.entries, from, excerpt.whole)?;
     finish(out, Status::of(outcome))
 }
 
 // A picture of a run's statements.
 fn write_as_picture<'a, O: Out>(
-    run: &FoundRun<'_>,
-    entries: &[Entry],
+    alloc: Global,
+    steps: &FoundSteps<'_>,
     out: &mut O,
-) -> Result<Status, Stop<'a>>
+) -> Result<Outcome, Stop<'a>>
+    requires form { steps.now.words.form ≡ Form.Picture }
+    requires fits { length steps.now.input.items ≤ total_size steps.now.loaded.program.layout }
     requires out { (O.Out.state out.old).failures < 2 ^ 62 }
-    ensures written { Wrote (status_of run.now.outcome) (texts.picture_text run.now (map entry_is entries.now))
-        (O.Out.state out.old) (O.Out.state out.new) result }
+    ensures told { (on : Terminal) → stepped.IsToldBy on steps.now (O.Out.state out.old) (O.Out.state out.new) result }
 {
-    let layout = run.loaded.program.layout();
-    let text = run.loaded.source.bytes.as_slice();
-    write_pictured(out, layout, text, &run.outcome, entries, run.words.steps)
+    let (outcome, excerpt) = excerpt_of(alloc, steps)?;
+    let layout = steps.loaded.program.layout();
+    let text = steps.loaded.source.bytes.as_slice();
+    let from = steps.words.steps.from as usize;
+    write_pictured(out, layout, text, &outcome, &excerpt, from)?;
+    Ok(outcome)
 }
 
 // Draws the flow of data between these numbers, whose statements have their places in this text.
@@ -225,23 +264,103 @@ fn write_as_flow<'a, O: Out>(
     write_flow_by(run, entries, &asides, &only, out)
 }
 
-/// A run of a program statement by statement: drawn, as a page, or in words and then its outcome.
-pub(crate) fn write_steps_of<'a, O: Out>(
+// All statements of a run. The input fits, so that the run is refused for memory alone.
+fn run_whole<'a>(alloc: Global, steps: &FoundSteps<'_>) -> Result<(Outcome, Vec<Entry>), Stop<'a>>
+    requires fits { length steps.now.input.items ≤ total_size steps.now.loaded.program.layout }
+    ensures outcome { IfOk result (λ r. IsOutcomeOf steps.now r.0) }
+    ensures entries { IfOk result (λ r. map entry_is r.1.items ≡ entries_of steps.now) }
+    ensures refused { IfErr result (λ stop. stop ≡ Refused OutOfMemory) }
+{
+    let (program, bound) = (&steps.loaded.program, steps.words.options.bound);
+    match steps_of(alloc, program, &steps.input, bound) {
+        Ok(told) => Ok(told),
+        Err(_) => Err(Stop::Refused(Refusal::OutOfMemory)),
+    }
+}
+
+// The flow of data in a run, drawn when it is over.
+fn write_flow_behind<'a, 'b, O: Out>(
+    alloc: Global,
+    steps: FoundSteps<'b>,
+    out: &mut O,
+) -> Result<FoundRun<'b>, Stop<'a>>
+    requires form { steps.words.form ≡ Form.Flow }
+    requires fits { length steps.input.items ≤ total_size steps.loaded.program.layout }
+    requires out { (O.Out.state out.old).failures < 2 ^ 62 }
+    ensures told { (on : Terminal) → stepped.IsToldRun on steps.entry (O.Out.state out.old) (O.Out.state out.new) result }
+{
+    let (outcome, entries) = run_whole(alloc, &steps)?;
+    let run = steps.with_outcome(outcome);
+    write_as_flow(alloc, &run, &entries, out)?;
+    Ok(run)
+}
+
+// A run as a page, written when it is over.
+fn write_page_behind<'a, 'b, O: Out>(
+    alloc: Global,
+    steps: FoundSteps<'b>,
+    out: &mut O,
+) -> Result<FoundRun<'b>, Stop<'a>>
+    requires form { steps.words.form ≡ Form.Page }
+    requires fits { length steps.input.items ≤ total_size steps.loaded.program.layout }
+    requires out { (O.Out.state out.old).failures < 2 ^ 62 }
+    ensures told { (on : Terminal) → stepped.IsToldRun on steps.entry (O.Out.state out.old) (O.Out.state out.new) result }
+{
+    let (outcome, entries) = run_whole(alloc, &steps)?;
+    let run = steps.with_outcome(outcome);
+    write_as_page(alloc, &run, &entries, out)?;
+    Ok(run)
+}
+
+// A run in words, with what it came to.
+fn write_words_behind<'a, 'b, O: Out>(
     alloc: Global,
     on: Terminal,
-    run: &FoundRun<'_>,
-    entries: &[Entry],
+    steps: FoundSteps<'b>,
     out: &mut O,
-) -> Result<Status, Stop<'a>>
+) -> Result<FoundRun<'b>, Stop<'a>>
+    requires form { steps.words.form ≡ Form.Words }
+    requires fits { length steps.input.items ≤ total_size steps.loaded.program.layout }
     requires out { (O.Out.state out.old).failures < 2 ^ 62 }
-    ensures written { WroteSome (status_of run.now.outcome) (texts.TakesMemory run.now.words.form)
-        (texts.AreStepsText run.now.words.form on run.now (map entry_is entries.now))
-        (O.Out.state out.old) (O.Out.state out.new) result }
+    ensures told { stepped.IsToldRun on steps.entry (O.Out.state out.old) (O.Out.state out.new) result }
 {
-    match run.words.form {
-        Form::Words => write_in_words(on, run, entries, out),
-        Form::Picture => write_as_picture(run, entries, out),
-        Form::Flow => write_as_flow(alloc, run, entries, out),
-        Form::Page => write_as_page(alloc, run, entries, out),
+    let outcome = write_in_words(alloc, on, &steps, out)?;
+    Ok(steps.with_outcome(outcome))
+}
+
+// A picture of a run, with what it came to.
+fn write_picture_behind<'a, 'b, O: Out>(
+    alloc: Global,
+    steps: FoundSteps<'b>,
+    out: &mut O,
+) -> Result<FoundRun<'b>, Stop<'a>>
+    requires form { steps.words.form ≡ Form.Picture }
+    requires fits { length steps.input.items ≤ total_size steps.loaded.program.layout }
+    requires out { (O.Out.state out.old).failures < 2 ^ 62 }
+    ensures told { (on : Terminal) → stepped.IsToldRun on steps.entry (O.Out.state out.old) (O.Out.state out.new) result }
+{
+    let outcome = write_as_picture(alloc, &steps, out)?;
+    Ok(steps.with_outcome(outcome))
+}
+
+/// Runs a program and tells it statement by statement, in words as it runs, drawn, or as a page; and answers the run with what it came to.
+///
+/// In words a line is written as soon as its statement has run, and none is kept; of a picture those statements are kept that are asked
+/// for; of the flow of data and of a page all of them. E17 where the writer failed, E16 where memory was refused.
+pub(crate) fn write_stepped<'a, 'b, O: Out>(
+    alloc: Global,
+    on: Terminal,
+    steps: FoundSteps<'b>,
+    out: &mut O,
+) -> Result<FoundRun<'b>, Stop<'a>>
+    requires fits { length steps.input.items ≤ total_size steps.loaded.program.layout }
+    requires out { (O.Out.state out.old).failures < 2 ^ 62 }
+    ensures told { stepped.IsToldRun on steps.entry (O.Out.state out.old) (O.Out.state out.new) result }
+{
+    match steps.words.form {
+        Form::Words => write_words_behind(alloc, on, steps, out),
+        Form::Picture => write_picture_behind(alloc, steps, out),
+        Form::Flow => write_flow_behind(alloc, steps, out),
+        Form::Page => write_page_behind(alloc, steps, out),
     }
 }

@@ -1,31 +1,39 @@
-use Rattle.std.proofs.Common.{List, ℕ, map, refl, subst}
-use Rattle.pram_model.specs.Layout.{SharedEntry}
-use Rattle.pram_trees.specs.Program.{ProgramTree}
+use Rattle.std.proofs.Common.{Err, Ok}
 use Rattle.program_texts.specs.Status.{status_of}
-use Rattle.step_entries.specs.Entries.{entry_is}
-use Rattle.command_facts.specs.Written.{Wrote}
-use Rattle.command_text.specs.Steps.{IsTelling, told_text}
+use Rattle.command_text.proofs.StepsWritten.{cut_in_lines, cut_in_outcome, cut_told, outcome_as, telling_by, told_in_words}
 use Rattle.command_text.proofs.stepping.write_in_words.Goals as goal
+
+pub returns-in_err-outcome : goal.returns-in_err-outcome
+returns-in_err-outcome g c =
+    let s = c.args.steps.now in
+    let telling = telling_by c.args.on s _ _ c.telling_of-telling.result c.as_slice-text.ensures.value c.tree-tree.ensures.tree
+    c.telling_of-telling.ensures in
+    record {
+      told = cut_told c.args.on s _ _ _ c.in_err-outcome.field-0.0 c.from_residual.ensures.1
+          (cut_in_lines c.args.on s _ c.telling_of-telling.result c.requires.form telling _ _ c.in_err-outcome.ensures.cut);
+    }
+
+pub returns-in_err-write_ending : goal.returns-in_err-write_ending
+returns-in_err-write_ending g c =
+    let s = c.args.steps.now in
+    let telling = telling_by c.args.on s _ _ c.telling_of-telling.result c.as_slice-text.ensures.value c.tree-tree.ensures.tree
+    c.telling_of-telling.ensures in
+    let o = c.in_ok-outcome.outcome in
+    let w = outcome_as s o _ (status_of o) _ _ (Err _) c.layout.ensures c.in_err-write_ending.ensures.written in
+    record {
+      told = cut_told c.args.on s _ _ _ c.in_err-write_ending.field-0.0 c.from_residual-in_err-write_ending.ensures.1
+          (cut_in_outcome c.args.on s _ c.telling_of-telling.result c.requires.form telling o c.in_ok-outcome.ensures.outcome _ _
+          c.in_ok-outcome.ensures.lines (status_of o) _ w);
+    }
 
 pub returns : goal.returns
 returns g c =
-    let run = c.args.run.now in
-    let words = run.words.steps in
-    let telling = c.telling_of-telling.result in
-    let entries = map entry_is c.args.entries.now in
-    let of_text = subst (λ (t : List ℕ). IsTelling c.args.on t words.locals c.tree-tree.result.now telling) c.as_slice-text.ensures.value
+    let s = c.args.steps.now in
+    let telling = telling_by c.args.on s _ _ c.telling_of-telling.result c.as_slice-text.ensures.value c.tree-tree.ensures.tree
     c.telling_of-telling.ensures in
+    let o = c.in_ok-outcome.outcome in
+    let w = outcome_as s o _ (status_of o) _ _ (Ok _) c.layout.ensures c.in_ok-write_ending.ensures.written in
     record {
-      written = (
-        told_text run.loaded.program.layout telling run.outcome entries words.from words.to,
-        (
-          telling,
-          subst (λ (t : ProgramTree). IsTelling c.args.on run.loaded.source.bytes.items words.locals t telling) c.tree-tree.ensures.tree
-              of_text,
-          refl,
-        ),
-        subst (λ (l : List SharedEntry). Wrote (status_of run.outcome) (told_text l telling run.outcome entries words.from words.to)
-            (g.O.Out.state c.args.out.now) (g.O.Out.state c.write_told.new.out) c.write_told.result) c.layout-layout.ensures
-            c.write_told.ensures.written,
-      );
+      told = told_in_words c.args.on s _ c.telling_of-telling.result c.requires.form telling o c.in_ok-outcome.ensures.outcome _ _
+          c.in_ok-outcome.ensures.lines (status_of o) _ w;
     }

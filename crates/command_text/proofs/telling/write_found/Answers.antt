@@ -6,7 +6,7 @@ use Rattle.command_facts.specs.Written.{WroteSome}
 use Rattle.command_facts.specs.declared.found.Found.{Found}
 use Rattle.command_facts.specs.declared.found.Found.TheVariants as found
 use Rattle.command_facts.proofs.Writing.{wrote_some}
-use Rattle.command_text.specs.Texts.{IsTextOf, NeedsMemory}
+use Rattle.command_text.specs.Texts.{IsTextOf}
 use Rattle.command_text.proofs.telling.write_found.Goals as goal
 
 -- said at the found code, since its text is too long to be looked through
@@ -16,8 +16,8 @@ returns-in-Exported g c =
     let old = g.O.Out.state c.args.out.now in
     let new = g.O.Out.state c.write_export.new.out in
     record {
-      written = subst (λ (f : Found). WroteSome (status_of_found f) (NeedsMemory f) (IsTextOf c.args.on f) old new c.write_export.result)
+      written = subst (λ (f : Found). WroteSome (status_of_found f) ⊥ (IsTextOf f) old new c.write_export.result)
           (sym c.in-Exported.is)
-          (wrote_some status.Done (NeedsMemory f) (IsTextOf c.args.on f) (c_text c.code-in-Exported.result.now) old new c.write_export.result
+          (wrote_some status.Done ⊥ (IsTextOf f) (c_text c.code-in-Exported.result.now) old new c.write_export.result
           (ap c_text c.code-in-Exported.ensures.value) c.write_export.ensures.written);
     }

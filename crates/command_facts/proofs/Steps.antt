@@ -1,0 +1,84 @@
+-- Runs that are to be told as they go, and everything else that is found.
+use Rattle.std.proofs.Common.{◌≡◌, ◌≤◌, ◌<◌, ℕ, List, arith, refl, subst}
+use Rattle.std.specs.Prelude.{Option, length}
+use Rattle.pram_model.specs.Layout.{total_size}
+use Rattle.command_requests.specs.declared.request.ProgramFile.{ProgramFile}
+use Rattle.command_requests.specs.declared.request.Request.{Request}
+use Rattle.command_requests.specs.declared.request.Request.TheVariants as request
+use Rattle.command_requests.specs.declared.request.RunWords.{RunWords}
+use Rattle.command_requests.specs.declared.request.Verb.{Verb}
+use Rattle.command_requests.specs.declared.request.Verb.TheVariants as verb
+use Rattle.command_facts.specs.declared.found.Found.{Found}
+use Rattle.command_facts.specs.declared.found.Found.TheVariants as found
+use Rattle.command_facts.specs.declared.found.FoundSteps.{FoundSteps}
+use Rattle.command_facts.specs.Calls.{Finds, FindsOf, FitsIn, IsSettled}
+
+-- ---- what fits
+
+steps_fit : (holds : List ℕ → Option (List ℕ) → Type 0) (v : Verb) (file : ProgramFile) (words : RunWords) (s : FoundSteps) →
+    FindsOf holds v file words (found.Stepped s) → length s.input.items ≤ total_size s.loaded.program.layout
+steps_fit holds verb.Steps file words s is = is.fits
+steps_fit holds verb.Check file words s is = absurd is
+steps_fit holds verb.Plan file words s is = absurd is
+steps_fit holds verb.Export file words s is = absurd is
+steps_fit holds verb.Meaning file words s is = absurd is
+steps_fit holds verb.Cost file words s is = absurd is
+steps_fit holds verb.Rules file words s is = absurd is
+steps_fit holds verb.Run file words s is = absurd is
+steps_fit holds verb.Trace file words s is = absurd is
+steps_fit holds verb.Expand file words s is = absurd is
+
+asked_fit : (holds : List ℕ → Option (List ℕ) → Type 0) (r : Request) (s : FoundSteps) → Finds holds r (found.Stepped s) →
+    length s.input.items ≤ total_size s.loaded.program.layout
+asked_fit holds (request.Program v file words) s is = steps_fit holds v file words s is
+asked_fit holds request.Version s is = absurd is
+asked_fit holds (request.Explanation subject) s is = absurd is
+asked_fit holds (request.Sweep file sweep words) s is = absurd is
+asked_fit holds (request.Exploration file scope words) s is = absurd is
+asked_fit holds (request.Pair words) s is = absurd is
+asked_fit holds (request.Listing file words) s is = absurd is
+asked_fit holds (request.ListingInC file) s is = absurd is
+
+-- what a request finds fits
+pub found_fits : (holds : List ℕ → Option (List ℕ) → Type 0) (r : Request) (f : Found) → Finds holds r f → FitsIn f
+found_fits holds r (found.Stepped s) is = asked_fit holds r s is
+found_fits holds r found.Version is = tt
+found_fits holds r (found.Explanation subject) is = tt
+found_fits holds r (found.Accepted l) is = tt
+found_fits holds r (found.Expanded t) is = tt
+found_fits holds r (found.Planned code) is = tt
+found_fits holds r (found.Exported code) is = tt
+found_fits holds r (found.Compared c) is = tt
+found_fits holds r (found.Run run) is = tt
+found_fits holds r (found.Swept t) is = tt
+found_fits holds r (found.Explored t) is = tt
+found_fits holds r (found.Paired p) is = tt
+found_fits holds r (found.Executed c) is = tt
+
+-- ---- what is known whole
+
+pub settled : (f : Found) → ((s : FoundSteps) → f ≡ found.Stepped s → ⊥) → IsSettled f
+settled (found.Stepped s) none = none s refl
+settled found.Version none = tt
+settled (found.Explanation subject) none = tt
+settled (found.Accepted l) none = tt
+settled (found.Expanded t) none = tt
+settled (found.Planned code) none = tt
+settled (found.Exported code) none = tt
+settled (found.Compared c) none = tt
+settled (found.Run run) none = tt
+settled (found.Swept t) none = tt
+settled (found.Explored t) none = tt
+settled (found.Paired p) none = tt
+settled (found.Executed c) none = tt
+
+-- an input that fits has not too many values
+pub not_too_long : (values cells : ℕ) → values ≤ cells → cells < values → ⊥
+not_too_long values cells fits long = omega (arith, fits, long)
+
+-- so it is by the numbers that were compared
+pub fits_by : (values cells n m : ℕ) → values ≡ n → cells ≡ m → values ≤ cells → n ≤ m
+fits_by values cells n m v c few = subst (λ n. n ≤ m) v (subst (λ m. values ≤ m) c few)
+
+pub too_long_by : (values cells n m : ℕ) → values ≡ n → cells ≡ m → cells < values → m < n
+too_long_by values cells n m v c long = subst (λ n. m < n) v (subst (λ m. m < values) c long)

@@ -1,0 +1,81 @@
+-- What tells a run statement by statement as JSON, or a beginning of it.
+use Rattle.std.proofs.Common.{◌≡◌, ◌++◌, ◌∷◌, ◌≤◌, [], ℕ, ℤ, List, append-nil, refl, subst, sym}
+use Rattle.std.specs.Prelude.{Result, Ok, Err, IsErrAnd, length}
+use Rattle.pram_model.specs.Layout.{SharedEntry, total_size}
+use Rattle.text_out.specs.Out.{OutState, StopsIn, with_bytes}
+use Rattle.text_out.proofs.Writing.{stops_behind, writes_then}
+use Rattle.json_lines.specs.Lines.{IsJson}
+use Rattle.json_texts.specs.OutcomeFacts.{outcome_facts}
+use Rattle.json_streams.specs.StreamLaws.{json_behind}
+use Rattle.json_streams.specs.Streamed.{HasStreamedJson, StopsInFirst, WroteFirstJson, WroteJson}
+use Rattle.step_streams.specs.declared.failure.StreamFailure.{StreamFailure}
+use Rattle.write_rules.specs.Verdict.{verdict_of}
+use Rattle.write_rules.specs.declared.outcome.Outcome.{Outcome}
+use Rattle.pram_meaning.specs.Outcome.{IsOutcome}
+use Rattle.step_journal.specs.Entries.{run_entries}
+use Rattle.program_texts.specs.declared.from_text.Refusal.TheVariants as refusal
+use Rattle.program_texts.specs.declared.status.Status.{Status}
+use Rattle.program_texts.specs.declared.stop.Stop.{Stop}
+use Rattle.program_texts.specs.declared.stop.Stop.TheVariants as stop
+use Rattle.command_facts.specs.declared.found.FoundSteps.{FoundSteps}
+use Rattle.command_facts.specs.Found.{IsOutcomeOf, entries_of}
+use Rattle.command_facts.specs.Written.{Wrote}
+use Rattle.command_json.specs.Stepped.{IsCutOff, IsToldBy, all_facts, first_facts, BehindLines, InLines, InText}
+
+-- ---- what was streamed, by the values that were handed over
+
+pub streamed_by : (s : FoundSteps) (old new : OutState) (given : List ℤ) (r q : Result Outcome StreamFailure) →
+    given ≡ s.input.items → r ≡ q →
+    HasStreamedJson old new (first_facts s) (run_entries s.loaded.program given s.words.options.bound) r →
+    HasStreamedJson old new (first_facts s) (entries_of s) q
+streamed_by s old new given r q same is h =
+    subst (λ (i : List ℤ). HasStreamedJson old new (first_facts s) (run_entries s.loaded.program i s.words.options.bound) q) same
+    (subst (HasStreamedJson old new (first_facts s) (run_entries s.loaded.program given s.words.options.bound)) is h)
+
+pub outcome_by : (s : FoundSteps) (o : Outcome) (given : List ℤ) → given ≡ s.input.items →
+    length s.input.items ≤ total_size s.loaded.program.layout →
+    IsOutcome s.loaded.program given s.words.options.bound (verdict_of o) → IsOutcomeOf s o
+outcome_by s o given same fits is = record {
+  fits = fits;
+  outcome = subst (λ (i : List ℤ). IsOutcome s.loaded.program i s.words.options.bound (verdict_of o)) same is;
+}
+
+module _ (s : FoundSteps) (old : OutState) where
+  pub stopped_in_lines : (new : OutState) → StopsInFirst old new (first_facts s) (entries_of s) → IsCutOff s old new stop.WriteFailed
+  stopped_in_lines new w = InLines w.first w.rest w.text w.whole w.json w.stopped
+
+  pub behind_lines : (new : OutState) → WroteFirstJson old new (first_facts s) (entries_of s) →
+      IsCutOff s old new (stop.Refused refusal.OutOfMemory)
+  behind_lines new w = BehindLines w.first w.rest w.text w.whole w.json w.written
+
+  -- a run that is cut off is told by no outcome
+  pub cut_told : (new : OutState) (r : Result Outcome Stop) (why : Stop) → IsErrAnd r (λ e. e ≡ why) → IsCutOff s old new why →
+      IsToldBy s old new r
+  cut_told new (Ok o) why is cut = absurd is
+  cut_told new (Err e) why is cut = subst (IsCutOff s old new) (sym is) cut
+
+  -- ---- behind all lines
+
+  module _ (mid : OutState) (lines : WroteJson old mid (first_facts s (entries_of s))) where
+    -- the line of the outcome was not made
+    pub unmade : (why : Stop) → why ≡ stop.Refused refusal.OutOfMemory → IsCutOff s old mid why
+    unmade why is = subst (IsCutOff s old mid) (sym is)
+        (BehindLines (entries_of s) [] lines.text (sym (append-nil (entries_of s))) lines.json lines.written)
+
+    module _ (o : Outcome) (comes : IsOutcomeOf s o) (line : List ℕ)
+        (json : IsJson (outcome_facts s.loaded.program.layout (verdict_of o) ∷ []) line) (new : OutState) (ends : Status) where
+      joined : IsJson (all_facts s o) (lines.text ++ line)
+      joined = json_behind (first_facts s (entries_of s)) (outcome_facts s.loaded.program.layout (verdict_of o) ∷ []) lines.text line
+          lines.json json
+
+      pub told_whole : (given : Status) → Wrote ends line mid new (Ok given) → IsToldBy s old new (Ok o)
+      told_whole given w = (comes, (lines.text ++ line, joined, writes_then old mid new lines.text line lines.written w.1))
+
+      pub cut_in_outcome : (why : Stop) → Wrote ends line mid new (Err why) → IsCutOff s old new why
+      cut_in_outcome why w = subst (IsCutOff s old new) (sym w.0)
+          (InText o (lines.text ++ line) comes joined (stops_behind old mid new lines.text line lines.written w.1))
+
+-- the outcome's facts, by its declarations
+pub outcome_as : (s : FoundSteps) (o : Outcome) (layout : List SharedEntry) (line : List ℕ) → layout ≡ s.loaded.program.layout →
+    IsJson (outcome_facts layout (verdict_of o) ∷ []) line → IsJson (outcome_facts s.loaded.program.layout (verdict_of o) ∷ []) line
+outcome_as s o layout line same json = subst (λ (l : List SharedEntry). IsJson (outcome_facts l (verdict_of o) ∷ []) line) same json

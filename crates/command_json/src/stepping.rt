@@ -1,0 +1,62 @@
+//! Runs of a program that are told statement by statement as they go.
+
+ghost use Rattle.std.specs.Prelude.{◌≡◌, ◌<◌, ◌≤◌, ◌^◌, IfErr, IfOk, OnOk, length};
+ghost use Rattle.pram_model.specs.Layout.{total_size};
+ghost use Rattle.json_streams.specs.Streamed.{WroteJson};
+ghost use Rattle.command_facts.specs.Found.{IsOutcomeOf, entries_of};
+ghost use Rattle.command_json.specs.Stepped as spec;
+
+use crate::writing::write_json;
+use command_facts::FoundSteps;
+use json_streams::stream_json;
+use json_texts::json_outcome;
+use memory_texts::Choice;
+use program_texts::{Refusal, Status, Stop};
+use std::alloc::Global;
+use step_streams::StreamFailure;
+use text_out::Out;
+use write_rules::Outcome;
+
+// Runs the program and writes each statement that is asked for as soon as it has run. The input fits, so that a run is refused for memory
+// alone.
+fn stream_lines<'a, O: Out>(
+    alloc: Global,
+    steps: &FoundSteps<'_>,
+    out: &mut O,
+) -> Result<Outcome, Stop<'a>>
+    requires fits { length steps.now.input.items ≤ total_size steps.now.loaded.program.layout }
+    requires out { (O.Out.state out.old).failures < 2 ^ 62 }
+    ensures outcome { IfOk result (IsOutcomeOf steps.now) }
+    ensures lines { OnOk result (WroteJson (O.Out.state out.old) (O.Out.state out.new)
+        (spec.first_facts steps.now (entries_of steps.now))) }
+    ensures cut { IfErr result (spec.IsCutOff steps.now (O.Out.state out.old) (O.Out.state out.new)) }
+{
+    let (program, bound) = (&steps.loaded.program, steps.words.options.bound);
+    let (first, last) = (
+        steps.words.steps.from as usize,
+        steps.words.steps.to as usize,
+    );
+    match stream_json(alloc, program, &steps.input, bound, first, last, out) {
+        Ok(outcome) => Ok(outcome),
+        Err(StreamFailure::WriteFailed) => Err(Stop::WriteFailed),
+        Err(StreamFailure::OutOfMemory) => Err(Stop::Refused(Refusal::OutOfMemory)),
+        Err(StreamFailure::InputTooLong) => Err(Stop::Refused(Refusal::InputTooLong)),
+    }
+}
+
+/// Runs a program and writes its statements as lines of JSON, each as soon as it has run, and behind them what it came to. E17 where the
+/// writer failed, E16 where memory was refused, behind the lines of the statements before.
+pub(crate) fn write_stepped<'a, O: Out>(
+    alloc: Global,
+    steps: &FoundSteps<'_>,
+    out: &mut O,
+) -> Result<Outcome, Stop<'a>>
+    requires fits { length steps.now.input.items ≤ total_size steps.now.loaded.program.layout }
+    requires out { (O.Out.state out.old).failures < 2 ^ 62 }
+    ensures told { spec.IsToldBy steps.now (O.Out.state out.old) (O.Out.state out.new) result }
+{
+    let outcome = stream_lines(alloc, steps, out)?;
+    let line = json_outcome(alloc, steps.loaded.program.layout(), &outcome, Choice::All)?;
+    write_json(out, &line, Status::of(&outcome))?;
+    Ok(outcome)
+}

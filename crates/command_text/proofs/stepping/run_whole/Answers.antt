@@ -1,0 +1,13 @@
+use Rattle.std.proofs.Common.{List, ℤ, ◌≡◌, ◌∙◌, ap}
+use Rattle.step_journal.specs.Entries.{run_entries}
+use Rattle.command_text.proofs.StepsWritten.{outcome_by}
+use Rattle.command_text.proofs.stepping.run_whole.Goals as goal
+
+pub returns-in-Ok-clause-outcome : goal.returns-in-Ok-clause-outcome
+returns-in-Ok-clause-outcome c =
+    outcome_by c.args.steps.now _ _ c.deref.ensures.value c.requires.fits c.in-Ok.ensures.outcome
+
+pub returns-in-Ok-clause-entries : goal.returns-in-Ok-clause-entries
+returns-in-Ok-clause-entries c =
+    let s = c.args.steps.now in
+    c.in-Ok.ensures.entries ∙ ap (λ (i : List ℤ). run_entries s.loaded.program i s.words.options.bound) c.deref.ensures.value

@@ -1,0 +1,12 @@
+use Rattle.command_facts.proofs.Writing.{cut_off, wrote}
+use Rattle.command_text.proofs.stepping.write_ending.Goals as goal
+
+pub returns-in_err-show : goal.returns-in_err-show
+returns-in_err-show g c = record {
+  written = cut_off _ _ _ _ c.from_residual.result c.from_residual.ensures.1 c.in_err-show.ensures.written;
+}
+
+pub returns : goal.returns
+returns g c = record {
+  written = wrote _ _ _ _ _ _ c.finish.result c.of.ensures c.in_ok-show.ensures.written c.finish.ensures.ok c.finish.ensures.failed;
+}
