@@ -115,12 +115,14 @@ def refuse_one(words, expected, refused):
 
 
 def refusals_of(program, more):
-    """Each allocation of each thread and each start of one row, after the row itself. With a reserve no worker asks for memory."""
+    """Each allocation of each thread and each start of one row, after the row itself. A worker asks for memory for what is printed alone, and
+    with a reserve for none."""
     outcome = program.with_suffix(".out").read_bytes()
     words = ["run", program, "--input", program.with_suffix(".in"), "--workers", WORKERS, "--bound", "1000", *more]
     expected = call(words) if "json" in more else (status_of(outcome), outcome, b"")
     given, left, starts, _, allocations = tallied(words)
-    asks = [count > 0 for count in allocations] == [True] + ["--reserve" not in more] * WORKERS
+    prints = b"print" in program.read_bytes()
+    asks = [count > 0 for count in allocations] == [True] + [prints and "--reserve" not in more] * WORKERS
     if given != expected or left or starts != WORKERS or not asks:
         raise Wrong(f"{words}: {given}, {left} blocks are left, {starts} starts, allocations {allocations}")
     for thread, count in enumerate(allocations):
