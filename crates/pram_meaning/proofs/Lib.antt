@@ -18,7 +18,9 @@ pub mod Marks
 pub mod Groups
 pub mod Gathers
 pub mod Written
+pub mod Ascents
 pub mod Overwrites
+pub mod Apart
 pub mod Swaps
 pub mod Columns
 pub mod SoundValues

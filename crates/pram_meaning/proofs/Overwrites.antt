@@ -82,7 +82,7 @@ module _ (rule : Rule) (all front tail : List Access) (a : Access) (split : all 
         ];
       }
 
-  step : InOver rule all tail start (with_value a.cell (written rule (pos 0) (writes_for a.cell all)) now)
+  pub step : InOver rule all tail start (with_value a.cell (written rule (pos 0) (writes_for a.cell all)) now)
   step = set_value (written rule (pos 0) (writes_for a.cell all)) wrote
 
 -- ---- the loop
@@ -121,14 +121,19 @@ at_over rule xs k (o ∷ cells) (suc c) h =
     at_over rule xs (k + 1) cells c (omega arith) ∙ ap (λ n. settled p (written rule p (writes_to n xs))) (let e : k + 1 + c ≡ k + suc c =
     omega arith in e)
 
+pub over_done : (rule : Rule) (xs : List Part) (start now : List ℤ) → InOver rule (writes_made xs) [] start now →
+    now ≡ overwritten rule xs 0 start
+over_done rule xs start now b =
+    ext_get_or (pos 0) now (overwritten rule xs 0 start) (b.long ∙ sym (length_over rule xs 0 start))
+    (λ c l. let m : c < length start = (let k = b.long in omega arith) in
+    let p : ℤ = get_or start c (pos 0) in
+    b.done c m refl
+    ∙ ap (λ ws. settled p (written rule p ws)) (same_writes c xs)
+    ∙ sym (at_over rule xs 0 start c m ∙ ap (λ n. settled p (written rule p (writes_to n xs))) (let e : 0 + c ≡ c = omega arith in e)))
+
 pub over_ends : (rule : Rule) (xs : List Part) (items : List Judged) (i : ℕ) (start now : List ℤ) → InOver rule (writes_made xs)
     (drop i (writes_made xs)) start now → items ≡ judged rule (writes_made xs) → length items ≤ i → now ≡ overwritten rule xs 0 start
 over_ends rule xs items i start now b said h =
     let all : List Access = writes_made xs in
     let past : length all ≤ i = (let k = length-map all (judged_in rule all) in let l = ap length said in omega (arith, k, l)) in
-    ext_get_or (pos 0) now (overwritten rule xs 0 start) (b.long ∙ sym (length_over rule xs 0 start))
-    (λ c l. let m : c < length start = (let k = b.long in omega arith) in
-    let p : ℤ = get_or start c (pos 0) in
-    b.done c m (ap (writes_for c) (drop_all i all past))
-    ∙ ap (λ ws. settled p (written rule p ws)) (same_writes c xs)
-    ∙ sym (at_over rule xs 0 start c m ∙ ap (λ n. settled p (written rule p (writes_to n xs))) (let e : 0 + c ≡ c = omega arith in e)))
+    over_done rule xs start now (subst (λ r. InOver rule all r start now) (drop_all i all past) b)

@@ -43,7 +43,7 @@ one_verdict : (rule : Rule) (xs : List Part) (i : ℤ) (a : Attempt Effect) →
 one_verdict rule xs i (Gives t x) = cell_verdict rule xs (length t) (record { processor = i; value = x.value }) x.cell
 one_verdict rule xs i (Fails t k) = refl
 
-verdicts_are : (rule : Rule) (xs ys : List Part) →
+pub verdicts_are : (rule : Rule) (xs ys : List Part) →
     flat_map key_of (map (judged_in rule (writes_made xs)) (writes_made ys)) ≡ flat_map (λ x. write_conflict rule xs x.attempt) ys
 verdicts_are rule xs [] = refl
 verdicts_are rule xs (y ∷ ys) =

@@ -10,6 +10,7 @@ pub mod Runs
 pub mod Judging
 pub mod Accesses
 pub mod Slates
+pub mod Ascents
 pub mod Sets
 pub mod Computed
 pub mod Values

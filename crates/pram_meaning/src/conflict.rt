@@ -8,6 +8,7 @@ ghost use Rattle.pram_meaning.specs.Accesses.{is_only_reader, judged, key_of, re
 ghost use Rattle.pram_meaning.specs.Judging.{part_is};
 
 use crate::access::{Judged, collect_reads, last_position};
+use crate::ascent::{are_apart, reads_ascend};
 use crate::key::Key;
 use crate::part::Part;
 use crate::slate::Slate;
@@ -92,10 +93,10 @@ fn add_conflict(best: Option<Key>, said: &Judged) -> Option<Key>
     )
 }
 
-// The least key of the read conflicts at the position after `at`. A cell's readers have their
+// The least key of the read conflicts at the position after `at`, as the slate has them. A cell's readers have their
 // index in common just where there is one of them.
 #[tactic(auto, using(crate::proofs::Folds::each_goes, crate::proofs::Folds::each_starts, crate::proofs::Folds::each_ends))]
-fn add_conflicts_at(
+fn add_shared_at(
     alloc: Global,
     slate: &mut Slate,
     best: Option<Key>,
@@ -112,6 +113,24 @@ fn add_conflicts_at(
         best = add_conflict(best, one);
     }
     Ok(best)
+}
+
+// The least key of the read conflicts at the position after `at`. There is none where the cells ascend.
+#[tactic(auto, using(crate::proofs::Ascents::reads_quiet))]
+fn add_conflicts_at(
+    alloc: Global,
+    slate: &mut Slate,
+    best: Option<Key>,
+    parts: &[Part],
+    at: usize,
+) -> Result<Option<Key>, AllocError>
+    ensures { IfOk result (λ b. b ≡ fold lesser best
+        (flat_map shared_key (judged Rule.Common (reads_at at (map part_is parts.now))))) }
+{
+    if reads_ascend(parts, at) {
+        return Ok(best);
+    }
+    add_shared_at(alloc, slate, best, parts, at)
 }
 
 // The least key of the read conflicts, position by position.
@@ -149,9 +168,9 @@ fn add_verdict(best: Option<Key>, said: &Judged) -> Option<Key>
     }
 }
 
-// The least key of what the rule says against the writes.
+// The least key of what the rule says against the writes, as the slate has them.
 #[tactic(auto, using(crate::proofs::Folds::each_goes, crate::proofs::Folds::each_starts, crate::proofs::Written::verdicts_end))]
-fn add_writes(
+fn add_verdicts(
     alloc: Global,
     slate: &mut Slate,
     rule: Rule,
@@ -167,6 +186,23 @@ fn add_writes(
         best = add_verdict(best, one);
     }
     Ok(best)
+}
+
+// The least key of what the rule says against the writes. It says nothing where they are apart.
+fn add_writes(
+    alloc: Global,
+    slate: &mut Slate,
+    rule: Rule,
+    best: Option<Key>,
+    parts: &[Part],
+) -> Result<Option<Key>, AllocError>
+    ensures { IfOk result (λ b. b ≡ fold lesser best (flat_map (λ x. write_conflict rule (map part_is parts.now) x.attempt)
+        (map part_is parts.now))) }
+{
+    if are_apart(rule, parts) {
+        return Ok(best);
+    }
+    add_verdicts(alloc, slate, rule, best, parts)
 }
 
 fn shares(rule: Rule) -> bool

@@ -6,6 +6,7 @@
 mod access;
 pub mod action;
 mod alone;
+mod ascent;
 pub mod attempt;
 pub mod conflict;
 mod inside;

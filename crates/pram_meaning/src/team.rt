@@ -33,7 +33,7 @@ pub fn gather(alloc: Global, low: i64, count: u32, locals: usize) -> Result<Vec<
     requires { FitsSigned w64 (low +ℤ pos (count - 1)) }
     ensures { IfOk result (λ team. map member_is team.items ≡ members low count locals) }
 {
-    let mut team = Vec::new(alloc);
+    let mut team = Vec::with_capacity(alloc, count as usize)?;
     for j in 0..count {
         let own = zeros(alloc, locals)?;
         let member = Member {
@@ -50,7 +50,7 @@ pub fn gather(alloc: Global, low: i64, count: u32, locals: usize) -> Result<Vec<
 pub fn numbers_below(alloc: Global, count: u32) -> Result<Vec<u32>, AllocError>
     ensures { IfOk result (λ all. all.items ≡ numbers 0 count) }
 {
-    let mut all = Vec::new(alloc);
+    let mut all = Vec::with_capacity(alloc, count as usize)?;
     for v in 0..count {
         all.push(v)?;
     }

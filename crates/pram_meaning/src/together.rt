@@ -14,6 +14,7 @@ ghost use Rattle.pram_meaning.specs.Sets.{state_in, IsParts};
 
 use crate::access::Judged;
 use crate::action::StepAction;
+use crate::ascent::{are_apart, put_apart};
 use crate::attempt::{Failure, step_assignment};
 use crate::conflict::least_key;
 use crate::interpreter::Interpreter;
@@ -30,6 +31,9 @@ use pram_trees::Rule;
 use pram_values::is_true;
 use std::alloc::{AllocError, Global};
 use write_rules::Fault;
+
+// Few statements have more positions: so many have room without a second allocation.
+const MOST_POSITIONS: usize = 8;
 
 // A fault of a set.
 fn fault_at(key: Key, location: Location) -> Halt
@@ -67,7 +71,9 @@ impl<'a> Interpreter<'a> {
             index,
             locals,
         };
-        let mut trail = Vec::new(self.alloc);
+        let Ok(mut trail) = Vec::with_capacity(self.alloc, MOST_POSITIONS) else {
+            return None;
+        };
         let outcome = match step_assignment(&view, target, e, &mut trail) {
             Ok(effect) => Ok(effect),
             Err(Failure::Fault(kind)) => Err(kind),
@@ -94,7 +100,9 @@ impl<'a> Interpreter<'a> {
         ensures { IfSome result (λ xs. map part_is xs.items ≡ parts self.now.program.now (state_in run.now team.now.items)
             (λ s. attempt_step s target.now e.now) active.now.items) }
     {
-        let mut all = Vec::new(self.alloc);
+        let Ok(mut all) = Vec::with_capacity(self.alloc, active.len()) else {
+            return None;
+        };
         for v in active {
             let x = self.part_in(run, team, *v, target, e)?;
             if all.push(x).is_err() {
@@ -208,9 +216,9 @@ fn write_back(cells: &mut Vec<i64>, said: &Judged)
     }
 }
 
-/// The cells get what their writers leave. The error is that memory was refused.
+// The cells get what their writers leave, as the slate has it.
 #[tactic(auto, using(crate::proofs::Overwrites::over_starts, crate::proofs::Overwrites::over_goes, crate::proofs::Overwrites::over_ends))]
-pub fn overwrite(
+fn overwrite_judged(
     alloc: Global,
     slate: &mut Slate,
     rule: Rule,
@@ -224,6 +232,23 @@ pub fn overwrite(
         write_back(cells, one);
     }
     Ok(())
+}
+
+/// The cells get what their writers leave. The error is that memory was refused.
+pub fn overwrite(
+    alloc: Global,
+    slate: &mut Slate,
+    rule: Rule,
+    cells: &mut Vec<i64>,
+    parts: &[Part],
+) -> Result<(), AllocError>
+    ensures { OnOk result (cells.new.items ≡ overwritten rule (map part_is parts.now) 0 cells.old.items) }
+{
+    if are_apart(rule, parts) {
+        put_apart(cells, parts);
+        return Ok(());
+    }
+    overwrite_judged(alloc, slate, rule, cells, parts)
 }
 
 impl<'a> Interpreter<'a> {

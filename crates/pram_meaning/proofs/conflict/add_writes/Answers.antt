@@ -1,10 +1,8 @@
-use Rattle.std.proofs.Common.{map, ◌∙◌}
+use Rattle.std.proofs.Common.{map}
 use Rattle.pram_meaning.specs.Judging.{part_is}
-use Rattle.pram_meaning.proofs.Written.{verdicts_end}
+use Rattle.pram_meaning.proofs.Ascents.{writes_quiet}
 use Rattle.pram_meaning.proofs.conflict.add_writes.Goals as goal
 
-pub returns : goal.returns
-returns c =
-    verdicts_end c.args.rule (map part_is c.args.parts.now) c.deref-one-items.result.now c.loop-one.one-index c.args.best
-    c.loop-one.best
-    c.loop-one.invariant (c.deref-one-items.ensures.value ∙ c.in_ok-said.ensures) c.loop-one-test.false
+pub returns-then-are_apart : goal.returns-then-are_apart
+returns-then-are_apart c =
+    writes_quiet c.args.rule (map part_is c.args.parts.now) c.args.best (c.are_apart.ensures c.if-are_apart.true)

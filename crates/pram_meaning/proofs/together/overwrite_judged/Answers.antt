@@ -2,7 +2,7 @@ use Rattle.std.proofs.Common.{map, ◌∙◌}
 use Rattle.pram_meaning.specs.Accesses.{writes_made}
 use Rattle.pram_meaning.specs.Judging.{part_is}
 use Rattle.pram_meaning.proofs.Overwrites.{over_ends, over_goes}
-use Rattle.pram_meaning.proofs.together.overwrite.Goals as goal
+use Rattle.pram_meaning.proofs.together.overwrite_judged.Goals as goal
 
 pub loop-one-preserved : goal.loop-one-preserved
 loop-one-preserved c =
