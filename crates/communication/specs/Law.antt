@@ -1,5 +1,5 @@
 -- Work bounds communication.
-use Rattle.std.specs.Prelude.{ℕ, ◌+◌, ◌*◌, ◌≤◌, List, ℤ}
+use Rattle.std.specs.Prelude.{◌≡◌, ℕ, ◌+◌, ◌*◌, ◌≤◌, List, Some, ℤ}
 use Rattle.write_rules.specs.Verdict.{Verdict}
 use Rattle.address_map.specs.Lawful.{Shape}
 use Rattle.superstep_instructions.specs.Code.{SuperstepCode}
@@ -12,7 +12,7 @@ use Rattle.pram_check.specs.Checked.{Checked}
 use Rattle.pram_meaning.specs.Outcome.{IsOutcome}
 use Rattle.compiled_meaning.specs.PlainForm.{IsInputFor}
 use Rattle.compiled_meaning.specs.Supersteps.{IsFusedForm}
-use Rattle.work_time.specs.Communication.{inside, outside}
+use Rattle.work_time.specs.Communication.{inside, most_words, outside}
 use Rattle.work_time.specs.Cost.{reads, writes}
 
 -- For p workers: two words for each read inside pardo and three for each write there; outside, where each worker makes each read, two for
@@ -27,3 +27,8 @@ abbrev pub WorkBoundsCommunication : Type 0
 WorkBoundsCommunication = (p : Checked) (code : SuperstepCode) → IsFusedForm p code → (map : Shape) → IsMapFor code map →
     (input : List ℤ) → IsInputFor p input → (bound : ℕ) (verdict : Verdict) → IsOutcome p input bound verdict → IsFaultless verdict →
     (made : List Exchange) → AreBspExchanges code map input bound verdict made → words_sent made ≤ communication p map.parts input bound
+
+-- That is what the costs of a run tell for so many workers.
+abbrev pub CostsTellCommunication : Type 0
+CostsTellCommunication = (p : Checked) (workers : ℕ) (input : List ℤ) (bound : ℕ) →
+    most_words p (Some workers) input bound ≡ Some (communication p workers input bound)

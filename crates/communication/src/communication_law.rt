@@ -1,11 +1,12 @@
 //! The law of this crate.
 
-ghost use Rattle.communication.specs.Law.{WorkBoundsCommunication};
+ghost use Rattle.communication.specs.Law.{CostsTellCommunication, WorkBoundsCommunication};
 
 /// The code of a program, in a run that doesn't fault, by any number p of workers and any lawful map: all words
 /// that the workers send in all exchanges together are at most 2 r + 3 w + 2 p u + 3 v, for r shared reads and w
 /// shared writes inside pardo and u and v outside, as the run's costs count them; 4 in the place of each 3 where the
-/// rule is sum.
+/// rule is sum. That number is the one that `work_time::cost_of` tells for so many workers.
 pub fn work_bounds_communication()
     ensures words { WorkBoundsCommunication }
+    ensures told { CostsTellCommunication }
 {}

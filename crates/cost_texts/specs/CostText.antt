@@ -14,11 +14,20 @@ work_lines c = fact (codes "time ") c.time ++ (fact (codes "work ") c.work ++ fa
 abbrev pub access_lines : Cost → List ℕ
 access_lines c = fact (codes "reads ") c.reads ++ fact (codes "writes ") c.writes
 
--- `exchanges at most 10`, where the run doesn't fault
-abbrev pub bound_line : Verdict → Cost → List ℕ
-bound_line (Ended output memory) c = fact (codes "exchanges at most ") c.most_exchanges
-bound_line (Faulted fault output) c = []
-bound_line (GoesOn output) c = fact (codes "exchanges at most ") c.most_exchanges
+-- `words at most 25`, where a number of workers was given
+abbrev pub words_line : Option ℕ → List ℕ
+words_line None = []
+words_line (Some words) = fact (codes "words at most ") words
+
+-- `exchanges at most 10`, and the words behind it
+abbrev pub most_lines : Cost → List ℕ
+most_lines c = fact (codes "exchanges at most ") c.most_exchanges ++ words_line c.most_words
+
+-- both are told where the run doesn't fault
+abbrev pub bound_lines : Verdict → Cost → List ℕ
+bound_lines (Ended output memory) c = most_lines c
+bound_lines (Faulted fault output) c = []
+bound_lines (GoesOn output) c = most_lines c
 
 -- `rounds on 4: 17`, and what Brent's principle allows
 abbrev pub round_lines : Cost → ℕ → List ℕ
@@ -30,7 +39,7 @@ schedule_lines c (Some q) = round_lines c q
 
 -- each fact on a line of its own
 abbrev pub cost_text : Verdict → Cost → Option ℕ → List ℕ
-cost_text v c schedule = work_lines c ++ (access_lines c ++ (bound_line v c ++ schedule_lines c schedule))
+cost_text v c schedule = work_lines c ++ (access_lines c ++ (bound_lines v c ++ schedule_lines c schedule))
 
 -- `line 4 times 2 work 9 reads 8 writes 8`
 abbrev pub line_text : LineCost → List ℕ

@@ -11,9 +11,10 @@ use work_time::Cost;
 use write_rules::Outcome;
 
 /// Writes what a run with that outcome costs, one fact a line: its time, its work, its width, its
-/// reads and its writes; where it doesn't fault, the most exchanges that it takes; and where it is
-/// scheduled on some number of processors, the rounds on them and the most that Brent's principle
-/// allows. The error is that the writer failed (E17).
+/// reads and its writes; where it doesn't fault, the most exchanges that it takes, and, where the costs
+/// have it, the most words that workers send in them; and where it is scheduled on some number of
+/// processors, the rounds on them and the most that Brent's principle allows. The error is that the
+/// writer failed (E17).
 pub fn write_cost<W: Out>(
     outcome: &Outcome,
     cost: &Cost,
@@ -68,10 +69,10 @@ fn write_accesses<W: Out>(cost: &Cost, out: &mut W) -> Result<(), WriteFault>
     ])
 }
 
-// The most exchanges, where the run doesn't fault.
+// The most exchanges and words, where the run doesn't fault.
 fn write_bound<W: Out>(outcome: &Outcome, cost: &Cost, out: &mut W) -> Result<(), WriteFault>
     requires counted { (W.Out.state out.old).failures < 2 ^ 63 }
-    ensures written { Writes (W.Out.state out.old) (W.Out.state out.new) (spec.bound_line (verdict_of outcome.now) cost.now) result }
+    ensures written { Writes (W.Out.state out.old) (W.Out.state out.new) (spec.bound_lines (verdict_of outcome.now) cost.now) result }
 {
     match outcome {
         Outcome::Ended { .. } => write_most(cost, out),
@@ -81,6 +82,27 @@ fn write_bound<W: Out>(outcome: &Outcome, cost: &Cost, out: &mut W) -> Result<()
 }
 
 fn write_most<W: Out>(cost: &Cost, out: &mut W) -> Result<(), WriteFault>
+    requires counted { (W.Out.state out.old).failures < 2 ^ 63 }
+    ensures written { Writes (W.Out.state out.old) (W.Out.state out.new) (spec.most_lines cost.now) result }
+{
+    write_exchanges(cost, out)?;
+    write_words(cost.most_words, out)
+}
+
+fn write_words<W: Out>(words: Option<u128>, out: &mut W) -> Result<(), WriteFault>
+    requires counted { (W.Out.state out.old).failures < 2 ^ 63 }
+    ensures written { Writes (W.Out.state out.old) (W.Out.state out.new) (spec.words_line words) result }
+{
+    match words {
+        None => Ok(()),
+        Some(words) => {
+            let mut most = Buffer::new();
+            out.write_parts(&[b"words at most ", most.format(words).as_bytes(), b"\n"])
+        }
+    }
+}
+
+fn write_exchanges<W: Out>(cost: &Cost, out: &mut W) -> Result<(), WriteFault>
     requires counted { (W.Out.state out.old).failures < 2 ^ 63 }
     ensures written { Writes (W.Out.state out.old) (W.Out.state out.new)
         (spec.fact (codes "exchanges at most ") cost.now.most_exchanges) result }

@@ -1,5 +1,5 @@
 -- A sweep as CSV: its table of texts, and how a table is written by RFC 4180.
-use Rattle.std.specs.Prelude.{ℕ, Bool, ◌||◌, ◌==◌, if◌then◌else◌, List, [], ◌∷◌, ◌++◌, codes, decimal, map}
+use Rattle.std.specs.Prelude.{ℕ, Bool, ◌||◌, ◌==◌, if◌then◌else◌, List, [], ◌∷◌, ◌++◌, Option, Some, None, codes, decimal, map}
 use Rattle.std.specs.List.{list_any}
 use Rattle.sweep_texts.specs.declared.size_row.Counts.{Counts}
 use Rattle.sweep_texts.specs.declared.size_row.Ending.{Ending}
@@ -8,19 +8,28 @@ use Rattle.sweep_texts.specs.declared.size_row.SizeRow.{SizeRow}
 
 -- ---- the table
 
--- six counts, of which the last may be missing, and the outcome
-abbrev pub run_fields : Counts → (most outcome : List ℕ) → List (List ℕ)
-run_fields c most outcome =
-    decimal c.time ∷ decimal c.work ∷ decimal c.width ∷ decimal c.reads ∷ decimal c.writes ∷ most ∷ outcome ∷ []
+-- seven counts, of which the last two may be missing, and the outcome
+abbrev pub run_fields : Counts → (exchanges words outcome : List ℕ) → List (List ℕ)
+run_fields c exchanges words outcome =
+    decimal c.time ∷ decimal c.work ∷ decimal c.width ∷ decimal c.reads ∷ decimal c.writes ∷ exchanges ∷ words ∷ outcome ∷ []
+
+-- a number that may be missing
+abbrev pub words_field : Option ℕ → List ℕ
+words_field None = []
+words_field (Some words) = decimal words
+
+-- those of a run without a fault
+abbrev pub whole_fields : Counts → (outcome : List ℕ) → List (List ℕ)
+whole_fields c outcome = run_fields c (decimal c.most_exchanges) (words_field c.most_words) outcome
 
 abbrev pub refusal_fields : List ℕ → List (List ℕ)
-refusal_fields refusal = [] ∷ [] ∷ [] ∷ [] ∷ [] ∷ [] ∷ refusal ∷ []
+refusal_fields refusal = [] ∷ [] ∷ [] ∷ [] ∷ [] ∷ [] ∷ [] ∷ refusal ∷ []
 
--- the exchanges of a fault are not told, and of a refusal nothing but its text
+-- the exchanges and words of a fault are not told, and of a refusal nothing but its text
 abbrev pub ending_fields : Ending → List (List ℕ)
-ending_fields (Ended c) = run_fields c (decimal c.most_exchanges) (codes "ended")
-ending_fields (GoesOn c) = run_fields c (decimal c.most_exchanges) (codes "goes on")
-ending_fields (Faulted c fault) = run_fields c [] fault.items
+ending_fields (Ended c) = whole_fields c (codes "ended")
+ending_fields (GoesOn c) = whole_fields c (codes "goes on")
+ending_fields (Faulted c fault) = run_fields c [] [] fault.items
 ending_fields (Refused refusal) = refusal_fields refusal.items
 
 abbrev pub row_fields : SizeRow → List (List ℕ)
@@ -29,7 +38,8 @@ row_fields row = decimal row.size ∷ ending_fields row.ending
 -- what the columns are, behind the size
 abbrev pub column_names : List (List ℕ)
 column_names =
-    codes "time" ∷ codes "work" ∷ codes "width" ∷ codes "reads" ∷ codes "writes" ∷ codes "exchanges" ∷ codes "outcome" ∷ []
+    codes "time" ∷ codes "work" ∷ codes "width" ∷ codes "reads" ∷ codes "writes" ∷ codes "exchanges" ∷ codes "words"
+    ∷ codes "outcome" ∷ []
 
 -- a record of names, and one for each size
 abbrev pub sweep_table : List ℕ → List SizeRow → List (List (List ℕ))

@@ -1,5 +1,5 @@
 -- The text of a sweep: a line a size, and how time and work grow.
-use Rattle.std.specs.Prelude.{ℕ, ◌||◌, if◌then◌else◌, List, [], ◌∷◌, ◌++◌, codes, decimal}
+use Rattle.std.specs.Prelude.{ℕ, ◌||◌, if◌then◌else◌, List, [], ◌∷◌, ◌++◌, Option, Some, None, codes, decimal}
 use Rattle.growth_formulas.specs.GrowthText.{growth_text, is_told}
 use Rattle.sweep_texts.specs.declared.growths.Growths.{Growths}
 use Rattle.sweep_texts.specs.declared.size_row.Counts.{Counts}
@@ -17,12 +17,15 @@ counts_text c =
     codes " time " ++ (decimal c.time ++ (codes " work " ++ (decimal c.work ++ (codes " width " ++ (decimal c.width
     ++ (codes " reads " ++ (decimal c.reads ++ (codes " writes " ++ decimal c.writes))))))))
 
-abbrev pub most_text : ℕ → List ℕ → List ℕ
-most_text most how = codes " exchanges at most " ++ (decimal most ++ how)
+-- ` exchanges at most 15`, and ` words at most 25` where they are told
+abbrev pub most_text : ℕ → Option ℕ → List ℕ → List ℕ
+most_text most None how = codes " exchanges at most " ++ (decimal most ++ how)
+most_text most (Some words) how =
+    codes " exchanges at most " ++ (decimal most ++ (codes " words at most " ++ (decimal words ++ how)))
 
--- of a run without a fault also the most exchanges that it takes
+-- of a run without a fault also the most exchanges that it takes, and words
 abbrev pub run_text : Counts → List ℕ → List ℕ
-run_text c how = counts_text c ++ most_text c.most_exchanges how
+run_text c how = counts_text c ++ most_text c.most_exchanges c.most_words how
 
 abbrev pub refusal_text : List ℕ → List ℕ
 refusal_text refusal = codes " " ++ (refusal ++ codes "\n")

@@ -9,6 +9,8 @@ pub struct Counts {
     pub reads: u128,
     pub writes: u64,
     pub most_exchanges: u128,
+    /// Where a number of workers is given, the most words that they send.
+    pub most_words: Option<u128>,
 }
 
 /// How the run at a size comes out.
@@ -16,7 +18,7 @@ pub struct Counts {
 pub enum Ending {
     Ended(Counts),
     GoesOn(Counts),
-    /// With the text of the fault, as `fault read-conflict a[1] line 4`. Of its counts no exchanges are told.
+    /// With the text of the fault, as `fault read-conflict a[1] line 4`. Of its counts neither exchanges nor words are told.
     Faulted(Counts, Vec<u8>),
     /// There is no run: the text of the refusal, as `refused E11 InputTooLong`.
     Refused(Vec<u8>),

@@ -43,14 +43,31 @@ fn write_counts<W: Out>(counts: &Counts, out: &mut W) -> Result<(), WriteFault>
     ])
 }
 
-// The most exchanges, and the words behind them.
-fn write_most<W: Out>(most: u128, how: &[u8], out: &mut W) -> Result<(), WriteFault>
+// The most exchanges, the most words where they are told, and how it came out.
+fn write_most<W: Out>(
+    most: u128,
+    words: Option<u128>,
+    how: &[u8],
+    out: &mut W,
+) -> Result<(), WriteFault>
     requires counted { (W.Out.state out.old).failures < 2 ^ 63 }
     ensures written { Writes (W.Out.state out.old) (W.Out.state out.new)
-        (spec.most_text most how.now) result }
+        (spec.most_text most words how.now) result }
 {
     let mut digits = Buffer::new();
-    out.write_parts(&[b" exchanges at most ", digits.format(most).as_bytes(), how])
+    match words {
+        None => out.write_parts(&[b" exchanges at most ", digits.format(most).as_bytes(), how]),
+        Some(words) => {
+            let mut sent = Buffer::new();
+            out.write_parts(&[
+                b" exchanges at most ",
+                digits.format(most).as_bytes(),
+                b" words at most ",
+                sent.format(words).as_bytes(),
+                how,
+            ])
+        }
+    }
 }
 
 // What a run without a fault costs, and how it came out.
@@ -59,7 +76,7 @@ fn write_run<W: Out>(counts: &Counts, how: &[u8], out: &mut W) -> Result<(), Wri
     ensures written { Writes (W.Out.state out.old) (W.Out.state out.new) (spec.run_text counts.now how.now) result }
 {
     write_counts(counts, out)?;
-    write_most(counts.most_exchanges, how, out)
+    write_most(counts.most_exchanges, counts.most_words, how, out)
 }
 
 // A text to the end of its line.
@@ -141,7 +158,8 @@ fn write_growths<W: Out>(name: &[u8], growths: &Growths, out: &mut W) -> Result<
 }
 
 /// Writes what a program costs at several sizes, a line a size in the order given, as
-/// `n 8 time 17 work 28 width 8 reads 23 writes 15 exchanges at most 15 ended`, where the name is the size's; and behind the lines, where
+/// `n 8 time 17 work 28 width 8 reads 23 writes 15 exchanges at most 15 ended`, where the name is the size's, and, where a number of
+/// workers is given, with ` words at most 93` behind the exchanges; and behind the lines, where
 /// anything is told, how time and work grow, as `time 4 log n + 5`. The name and the texts of faults and refusals are written as they
 /// stand: the caller escapes bytes in them that would break the line. The error is that the writer failed (E17).
 pub fn write_sweep<W: Out>(

@@ -1,9 +1,11 @@
 -- Work bounds communication: the accesses of a run that doesn't fault take no more words than its reads and writes.
-use Rattle.std.proofs.Common.{◌≡◌, ℕ, ◌+◌, ◌*◌, ◌≤◌, List, [], ◌∷◌, ◌++◌, sym, ap, subst, arith, ℤ}
+use Rattle.std.proofs.Common.{◌≡◌, ℕ, ◌+◌, ◌*◌, ◌≤◌, List, [], ◌∷◌, ◌++◌, ◌∙◌, Option, Some, None, sym, ap, subst, arith, ℤ}
 use Rattle.std.specs.List.{AllByRecursion, flat_map}
 use Rattle.std.proofs.lemmas.List.Sums.{sum_by-cons}
+use Rattle.pram_model.specs.declared.rule.Rule.{Rule}
 use Rattle.write_rules.specs.declared.fault.Fault.{Fault}
 use Rattle.write_rules.specs.Verdict.{Verdict, Faulted}
+use Rattle.pram_check.specs.Checked.{Checked}
 use Rattle.pram_meaning.specs.Bounded.{Done, Goes, Stops, Reaches}
 use Rattle.pram_meaning.specs.Computed.{body_done, verdict_at}
 use Rattle.pram_meaning.specs.Moments.{Moment, Alone, Together, Closed, run_moments}
@@ -12,11 +14,12 @@ use Rattle.pram_meaning.proofs.OneOutcome.{outcome_is_computed}
 use Rattle.exchange_bound.specs.Accesses.{words}
 use Rattle.exchange_bound.specs.Events.{Event}
 use Rattle.work_time.specs.declared.time_step.TimeStep.{TimeStep}
-use Rattle.work_time.specs.Communication.{steps_inside, steps_outside, words_at_most, AccessesAreCounted}
-use Rattle.work_time.specs.Communication.{InsideAndOutsideAreAll}
+use Rattle.work_time.specs.Communication.{inside, most_words, outside, steps_inside, steps_outside, words_at_most, write_words}
+use Rattle.work_time.specs.Communication.{AccessesAreCounted, InsideAndOutsideAreAll}
 use Rattle.work_time.specs.Cost.{reads, writes}
 use Rattle.work_time.specs.MomentEvents.{events_at}
-use Rattle.work_time.specs.Steps.{steps_of, by_one, by_set}
+use Rattle.work_time.specs.Steps.{run_steps, steps_of, by_one, by_set}
+use Rattle.work_time.specs.Words.{AreWordsAsked, AreWordsOf}
 use Rattle.work_time.proofs.MomentEvents.{events_are_met}
 use Rattle.work_time.proofs.EvenMoments.{IsEven, of_moment}
 use Rattle.work_time.proofs.Counted.{Counts, list_counts}
@@ -103,3 +106,27 @@ both_all (Closed ∷ ms) = both_all ms
 
 pub inside_and_outside_are_all : InsideAndOutsideAreAll
 inside_and_outside_are_all p input n = both_all (run_moments p input n)
+
+-- ---- by all reads, those of them outside, and all writes
+
+words_are : (p : Checked) (workers : ℕ) (input : List ℤ) (n : ℕ) (r u w words : ℕ) → r ≡ reads (run_steps p input n) →
+    u ≡ reads (outside p input n) → w ≡ writes (run_steps p input n) → AreWordsOf p.rule workers r u w words →
+    words ≡ words_at_most p workers (write_words p.rule) input n
+words_are p workers input n r u w words er eu ew is =
+    let k = write_words p.rule in
+    let i = reads (inside p input n) in
+    let both = inside_and_outside_are_all p input n in
+    let all_reads = both.0 in
+    let split : i + u ≡ r = omega (arith, all_reads, er, eu) in
+    let h : words ≡ 2 * i + 2 * workers * u + k * w = is i split in
+    let a : 2 * workers * u ≡ 2 * workers * reads (outside p input n) = ap (λ u. 2 * workers * u) eu in
+    let b : k * w ≡ k * (writes (inside p input n) + writes (outside p input n)) = ap (λ w. k * w) (ew ∙ sym both.1) in
+    omega (arith, h, a, b)
+
+pub words_told : (p : Checked) (rule : Rule) (workers : Option ℕ) (input : List ℤ) (n : ℕ) (r u w : ℕ) (words : Option ℕ) → rule ≡ p.rule →
+    r ≡ reads (run_steps p input n) → u ≡ reads (outside p input n) → w ≡ writes (run_steps p input n) →
+    AreWordsAsked rule workers r u w words → words ≡ most_words p workers input n
+words_told p rule None input n r u w words e er eu ew is = is
+words_told p rule (Some workers) input n r u w (Some words) e er eu ew is =
+    ap Some (words_are p workers input n r u w words er eu ew (subst (λ rule. AreWordsOf rule workers r u w words) e is))
+words_told p rule (Some workers) input n r u w None e er eu ew is = absurd is

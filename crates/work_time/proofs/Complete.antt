@@ -1,5 +1,6 @@
 -- A whole run that was heard comes to the outcome, and is counted.
-use Rattle.std.proofs.Common.{◌≡◌, ℕ, List, ℤ, Result, Err, ap, sym, ◌∙◌, subst}
+use Rattle.std.proofs.Common.{◌≡◌, ℕ, List, ℤ, Result, Err, ap, sym, ◌∙◌, subst, arith}
+use Rattle.std.specs.List.{flat_map}
 use Rattle.std.specs.Bool.{⊤}
 use Rattle.pram_check.specs.Checked.{Checked}
 use Rattle.pram_meaning.specs.Bounded.{Goes, Reaches, Stops, perform_list}
@@ -18,6 +19,8 @@ use Rattle.pram_meaning.proofs.References.{opens}
 use Rattle.work_time.specs.declared.ledger.Ledger.{Ledger}
 use Rattle.work_time.specs.declared.meter.Meter.{Meter}
 use Rattle.work_time.specs.Accounts.{entered_all, met_all, opened}
+use Rattle.work_time.specs.Communication.{outside, steps_outside}
+use Rattle.work_time.specs.Cost.{reads}
 use Rattle.work_time.specs.Counted.{counted}
 use Rattle.work_time.specs.Heard.{HasCounted, with_moments}
 use Rattle.work_time.specs.Ledgers.{ledger_is}
@@ -42,6 +45,14 @@ pub run_counted : (p : Checked) (input : List ℤ) (n q : ℕ) (run : Run) (old 
 run_counted p input n q run old new o opens is =
     is ∙ ap (λ m. with_moments q (list_moments p n p.body m) (ledger_is old)) o ∙ ap (with_moments q (run_moments p input n)) opens
     ∙ ap (λ es. entered_all q (run_steps p input n) (met_all es opened)) (sym (events_are_met p input n))
+
+pub outer_reads_counted : (p : Checked) (input : List ℤ) (n : ℕ) (run : Run) (a b : Meter) → state_of run ≡ opening p input →
+    a.outer_reads ≡ 0 → HasCounted a (list_moments p n p.body (state_of run)) b → b.outer_reads ≡ reads (outside p input n)
+outer_reads_counted p input n run a b o none h =
+    let e : reads (flat_map steps_outside (list_moments p n p.body (state_of run))) ≡ reads (outside p input n) =
+    ap (λ m. reads (flat_map steps_outside (list_moments p n p.body m))) o in
+    let i = h.outer_reads in
+    omega (arith, e, none, i)
 
 -- what was heard of a run that halts, but for want of memory
 pub heard_of_fault : (r : Result (Unit {0}) Halt) (h : Halt) (k : Fault) (a b : Meter) (ms : List Moment) → r ≡ Err h → h ≡ halt.Fault k →

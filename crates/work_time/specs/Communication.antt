@@ -1,6 +1,8 @@
 -- How many words p workers send for a run, at most, by the shared reads and writes that the run's costs count: work bounds communication.
-use Rattle.std.specs.Prelude.{◌≡◌, ℕ, ◌+◌, ◌*◌, ◌≤◌, List, [], ◌∷◌, ℤ}
+use Rattle.std.specs.Prelude.{◌≡◌, ℕ, ◌+◌, ◌*◌, ◌≤◌, List, [], ◌∷◌, Option, Some, None, ℤ}
 use Rattle.std.specs.List.{flat_map}
+use Rattle.pram_model.specs.declared.rule.Rule.{Rule}
+use Rattle.pram_model.specs.declared.rule.Rule.TheVariants.{Sum}
 use Rattle.write_rules.specs.declared.fault.Fault.{Fault}
 use Rattle.write_rules.specs.Verdict.{Verdict, Faulted}
 use Rattle.pram_check.specs.Checked.{Checked}
@@ -36,6 +38,16 @@ abbrev pub words_at_most : Checked → (workers write : ℕ) → List ℤ → �
 words_at_most p workers write input n =
     (2 * reads (inside p input n) + write * writes (inside p input n))
     + (2 * workers * reads (outside p input n) + write * writes (outside p input n))
+
+-- the words of a write: the cell, the writer and the value, which has two under the rule sum
+abbrev pub write_words : Rule → ℕ
+write_words Sum = 4
+write_words rule = 3
+
+-- That for a number of workers, where one is given.
+abbrev pub most_words : Checked → (workers : Option ℕ) → List ℤ → ℕ → Option ℕ
+most_words p None input n = None
+most_words p (Some workers) input n = Some (words_at_most p workers (write_words p.rule) input n)
 
 -- In a run that doesn't fault the words of its accesses are no more than that.
 abbrev pub AccessesAreCounted : Type 0

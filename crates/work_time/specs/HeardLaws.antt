@@ -1,12 +1,15 @@
 -- What is counted of moments that are heard in a row.
-use Rattle.std.proofs.Common.{◌≡◌, ℕ, List, [], ◌∷◌, ◌++◌, refl, ap, sym, ◌∙◌}
+use Rattle.std.proofs.Common.{◌≡◌, ℕ, ◌+◌, List, [], ◌∷◌, ◌++◌, refl, ap, sym, ◌∙◌, arith}
 use Rattle.std.proofs.lemmas.Grind.{flat_map-append}
+use Rattle.std.proofs.lemmas.List.Sums.{sum_by-append}
 use Rattle.std.specs.List.{flat_map}
 use Rattle.exchange_bound.specs.Events.{Event}
 use Rattle.pram_meaning.specs.Moments.{Moment}
 use Rattle.work_time.specs.declared.meter.Meter.{Meter}
 use Rattle.work_time.specs.declared.time_step.TimeStep.{TimeStep}
 use Rattle.work_time.specs.Accounts.{Accounts, entered, entered_all, met_all}
+use Rattle.work_time.specs.Communication.{steps_outside}
+use Rattle.work_time.specs.Cost.{reads}
 use Rattle.work_time.specs.Heard.{HasCounted, with_moments}
 use Rattle.work_time.specs.Ledgers.{ledger_is}
 use Rattle.work_time.specs.MomentEvents.{events_at}
@@ -45,11 +48,18 @@ moments_through q ms ns t =
 -- ---- the laws of a listener
 
 pub counts_nothing : (a : Meter) → HasCounted a [] a
-counts_nothing a = (refl, refl)
+counts_nothing a = record { schedule = refl; ledger = refl; outer_reads = omega arith }
 
 pub counts_on : (a b c : Meter) (ms ns : List Moment) → HasCounted a ms b → HasCounted b ns c → HasCounted a (ms ++ ns) c
-counts_on a b c ms ns h k = (
-  k.0 ∙ h.0,
-  k.1 ∙ ap (λ q. with_moments q ns (ledger_is b.ledger)) h.0 ∙ ap (with_moments a.schedule ns) h.1
-      ∙ sym (moments_through a.schedule ms ns (ledger_is a.ledger)),
-)
+counts_on a b c ms ns h k =
+    let xs = flat_map steps_outside ms in
+    let ys = flat_map steps_outside ns in
+    let r : reads (flat_map steps_outside (ms ++ ns)) ≡ reads xs + reads ys =
+    ap reads (flat_map-append steps_outside ms ns) ∙ sum_by-append (λ (s : TimeStep). s.reads) xs ys in
+    let i = h.outer_reads in let j = k.outer_reads in
+    record {
+      schedule = k.schedule ∙ h.schedule;
+      ledger = k.ledger ∙ ap (λ q. with_moments q ns (ledger_is b.ledger)) h.schedule ∙ ap (with_moments a.schedule ns) h.ledger
+          ∙ sym (moments_through a.schedule ms ns (ledger_is a.ledger));
+      outer_reads = omega (arith, r, i, j);
+    }

@@ -11,4 +11,5 @@ pub mod Heard
 pub mod HeardLaws
 pub mod Counted
 pub mod RowCosts
+pub mod Words
 pub mod Timed

@@ -5,6 +5,7 @@ ghost use Rattle.pram_model.specs.Layout.{total_size};
 ghost use Rattle.write_rules.specs.Verdict.{verdict_of};
 ghost use Rattle.pram_meaning.specs.Outcome.{IsOutcome};
 ghost use Rattle.exchange_bound.specs.Bound.{exchange_bound};
+ghost use Rattle.work_time.specs.Communication as communication;
 ghost use Rattle.work_time.specs.Cost as spec;
 ghost use Rattle.work_time.specs.Steps.{run_steps};
 ghost use Rattle.work_time.specs.Time.{IsTimeWithin};
@@ -12,15 +13,17 @@ ghost use Rattle.work_time.specs.Time.{IsTimeWithin};
 use crate::line_cost::LineCost;
 use crate::row_costs::costs_by_line;
 use crate::whole::run_whole;
+use crate::words::words_asked;
 use pram_check::Program;
 use pram_meaning::MeaningRefusal;
 use std::alloc::Global;
 use write_rules::Outcome;
 
 /// What a run costs: its statements (time), one for each processor of each of them (work), the most
-/// processors at once, and its shared reads and writes; its exchange bound; and, for a number of
-/// processors, the rounds in which they do that work, beside what Brent's principle allows; and of
-/// each line that ran what it costs, in ascending order.
+/// processors at once, and its shared reads and writes; its exchange bound; for a number of workers,
+/// where one is given, the most words that they send; for a number of processors the rounds in which
+/// they do that work, beside what Brent's principle allows; and of each line that ran what it costs,
+/// in ascending order.
 #[derive(Drop)]
 pub struct Cost {
     pub time: u32,
@@ -29,16 +32,18 @@ pub struct Cost {
     pub reads: u128,
     pub writes: u64,
     pub most_exchanges: u128,
+    pub most_words: Option<u128>,
     pub rounds: u64,
     pub most_rounds: u64,
     pub lines: Vec<LineCost>,
 }
 
 /// Runs a program on an input, for at most `bound` statements, as [`pram_meaning::reference_run`]
-/// does, and says beside the outcome what the run costs; rounds are those on `schedule` processors.
+/// does, and says beside the outcome what the run costs; rounds are those on `schedule` processors,
+/// and words those of `workers`, as `IsProgramRun` of `program_runs` counts them.
 /// A statement that faults counts in time and work, and none of its accesses does; a run that
-/// faults has the bound of what it came to. E11 where there
-/// are more values than cells; E16 only where memory was refused.
+/// faults has the bounds of what it came to. E11 where there are more values than cells; E16 only
+/// where memory was refused.
 ///
 /// JáJá, An Introduction to Parallel Algorithms, chapter 1: work and time, and Brent's scheduling
 /// principle.
@@ -48,6 +53,7 @@ pub fn cost_of(
     input: &[i64],
     bound: u32,
     schedule: u32,
+    workers: Option<u32>,
 ) -> Result<(Outcome, Cost), MeaningRefusal>
     requires some { 0 < schedule }
     ensures outcome { IfOk result (λ r. IsOutcome program.now input.now bound (verdict_of r.0)) }
@@ -61,6 +67,7 @@ pub fn cost_of(
     ensures reads { IfOk result (λ r. r.1.reads ≡ spec.reads (run_steps program.now input.now bound)) }
     ensures writes { IfOk result (λ r. r.1.writes ≡ spec.writes (run_steps program.now input.now bound)) }
     ensures most_exchanges { IfOk result (λ r. r.1.most_exchanges ≡ exchange_bound program.now input.now bound) }
+    ensures most_words { IfOk result (λ r. r.1.most_words ≡ communication.most_words program.now workers input.now bound) }
     ensures rounds { IfOk result (λ r. r.1.rounds ≡ spec.rounds schedule (run_steps program.now input.now bound)) }
     ensures most_rounds { IfOk result (λ r. r.1.most_rounds ≡ r.1.work / schedule + r.1.time) }
     // Each line that ran, once, ascending.
@@ -68,7 +75,7 @@ pub fn cost_of(
     // Brent's principle.
     ensures brent { IfOk result (λ r. r.1.rounds ≤ r.1.most_rounds) }
 {
-    let (outcome, ledger) = run_whole(alloc, program, input, bound, schedule)?;
+    let (outcome, ledger, outer_reads) = run_whole(alloc, program, input, bound, schedule)?;
     let Ok(lines) = costs_by_line(alloc, &ledger.lines) else {
         return Err(MeaningRefusal::OutOfMemory);
     };
@@ -76,6 +83,9 @@ pub fn cost_of(
         return Err(MeaningRefusal::OutOfMemory);
     };
     let tally = ledger.all;
+    let Ok(most_words) = words_asked(program.rule(), workers, &tally, outer_reads) else {
+        return Err(MeaningRefusal::OutOfMemory);
+    };
     let most_rounds = tally.work / u64::from(schedule) + u64::from(tally.time);
     let cost = Cost {
         time: tally.time,
@@ -84,6 +94,7 @@ pub fn cost_of(
         reads: tally.reads,
         writes: tally.writes,
         most_exchanges,
+        most_words,
         rounds: tally.rounds,
         most_rounds,
         lines,

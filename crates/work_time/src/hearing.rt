@@ -1,6 +1,6 @@
 //! Counting a run that is heard.
 
-ghost use Rattle.std.specs.Prelude.{⊤, ◌≡◌, ◌≤◌, ◌^◌, OnOk};
+ghost use Rattle.std.specs.Prelude.{⊤, ◌≡◌, ◌+◌, ◌≤◌, ◌^◌, OnOk};
 ghost use Rattle.pram_meaning.specs.Listening.{action_is, step_action_is};
 ghost use Rattle.work_time.specs.Accounts.{entered, met_all};
 ghost use Rattle.work_time.specs.Heard.{HasCounted};
@@ -43,10 +43,15 @@ impl Meter {
         ensures same { self.new.schedule ≡ self.old.schedule }
         ensures counted { OnOk result (ledger_is self.new.ledger ≡ entered self.old.schedule step.now
             (met_all (alone_events (action_is action.now)) (ledger_is self.old.ledger))) }
+        ensures outer_reads { OnOk result (self.new.outer_reads ≡ self.old.outer_reads + step.now.reads) }
     {
         if self.ledger.exchanges.begin(action).is_err() {
             return Err(AllocError);
         }
+        let Some(outer_reads) = self.outer_reads.checked_add(step.reads) else {
+            return Err(AllocError);
+        };
+        self.outer_reads = outer_reads;
         self.ledger.enter(self.schedule, step)
     }
 
@@ -56,6 +61,7 @@ impl Meter {
         ensures same { self.new.schedule ≡ self.old.schedule }
         ensures counted { OnOk result (ledger_is self.new.ledger ≡ entered self.old.schedule step.now
             (met_all (set_events 0 (step_action_is action.now)) (ledger_is self.old.ledger))) }
+        ensures outer_reads { self.new.outer_reads ≡ self.old.outer_reads }
     {
         if self.ledger.exchanges.begin_on(action).is_err() {
             return Err(AllocError);
@@ -138,6 +144,7 @@ impl Listener for Meter {
         self.count_on(action, &acting(location.line, processors))
     }
 
+    #[tactic(auto, using(crate::proofs::Heard::close_counted))]
     fn closes(&mut self) -> Result<(), AllocError> {
         if self.ledger.exchanges.cut().is_err() {
             return Err(AllocError);

@@ -23,6 +23,7 @@ mod time_step;
 mod timing;
 mod too_many;
 mod whole;
+mod words;
 
 pub use alone::time_and_work;
 pub use cost::{Cost, cost_of};

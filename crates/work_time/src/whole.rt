@@ -4,6 +4,8 @@ ghost use Rattle.std.specs.Prelude.{◌≡◌, ◌↔◌, ◌<◌, ◌≤◌, If
 ghost use Rattle.pram_model.specs.Layout.{total_size};
 ghost use Rattle.write_rules.specs.Verdict.{verdict_of};
 ghost use Rattle.pram_meaning.specs.Outcome.{IsOutcome};
+ghost use Rattle.work_time.specs.Communication.{outside};
+ghost use Rattle.work_time.specs.Cost.{reads};
 ghost use Rattle.work_time.specs.Counted.{counted};
 ghost use Rattle.work_time.specs.Ledgers.{ledger_is};
 
@@ -16,7 +18,7 @@ use pram_meaning::{MeaningRefusal, open};
 use std::alloc::Global;
 use write_rules::Outcome;
 
-/// The outcome of a program on an input, and what was counted of its run.
+/// The outcome of a program on an input, what was counted of its run, and how many of the reads were made outside pardo.
 #[tactic(auto, using(pram_meaning::proofs::References::opens, crate::proofs::Complete::stopped, crate::proofs::Complete::reached))]
 pub fn run_whole(
     alloc: Global,
@@ -24,12 +26,13 @@ pub fn run_whole(
     input: &[i64],
     bound: u32,
     schedule: u32,
-) -> Result<(Outcome, Ledger), MeaningRefusal>
+) -> Result<(Outcome, Ledger, u128), MeaningRefusal>
     requires some { 0 < schedule }
     ensures outcome { IfOk result (λ r. IsOutcome program.now input.now bound (verdict_of r.0)) }
     ensures fits { IfOk result (λ r. length input.now ≤ total_size program.now.layout) }
     ensures too_long { (result ≡ Err MeaningRefusal.InputTooLong) ↔ (total_size program.now.layout < length input.now) }
     ensures totals { IfOk result (λ r. ledger_is r.1 ≡ counted program.now input.now bound schedule) }
+    ensures outer_reads { IfOk result (λ r. r.2 ≡ reads (outside program.now input.now bound)) }
 {
     if input.len() > program.layout().cells() as usize {
         return Err(MeaningRefusal::InputTooLong);
@@ -41,6 +44,7 @@ pub fn run_whole(
     let mut meter = Meter {
         schedule,
         ledger: Ledger::new(alloc),
+        outer_reads: 0,
     };
     let interpreter = Interpreter {
         alloc,
@@ -48,19 +52,23 @@ pub fn run_whole(
         bound,
     };
     let done = interpreter.run_body(&mut run, &mut meter);
-    let Meter { ledger, .. } = meter;
+    let Meter {
+        ledger,
+        outer_reads,
+        ..
+    } = meter;
     match done {
         Ok(()) => {
             let (output, memory) = (run.output, run.cells);
-            Ok((Outcome::Ended { output, memory }, ledger))
+            Ok((Outcome::Ended { output, memory }, ledger, outer_reads))
         }
         Err(Halt::Fault(fault)) => {
             let output = run.output;
-            Ok((Outcome::Faulted { fault, output }, ledger))
+            Ok((Outcome::Faulted { fault, output }, ledger, outer_reads))
         }
         Err(Halt::Bound) => {
             let output = run.output;
-            Ok((Outcome::GoesOn { output }, ledger))
+            Ok((Outcome::GoesOn { output }, ledger, outer_reads))
         }
         Err(Halt::OutOfMemory) => Err(MeaningRefusal::OutOfMemory),
     }

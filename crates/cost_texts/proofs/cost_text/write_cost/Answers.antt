@@ -1,13 +1,13 @@
 use Rattle.std.proofs.Common.{◌++◌, ap, refl}
 use Rattle.write_rules.specs.Verdict.{verdict_of}
 use Rattle.text_out.proofs.Progress.{breaks_off, closes, goes_on, starts}
-use Rattle.cost_texts.specs.CostText.{access_lines, bound_line, schedule_lines, work_lines}
+use Rattle.cost_texts.specs.CostText.{access_lines, bound_lines, schedule_lines, work_lines}
 use Rattle.cost_texts.proofs.cost_text.write_cost.Goals as goal
 
 pub returns-in_err-write_work : goal.returns-in_err-write_work
 returns-in_err-write_work g c =
     let cost = c.args.cost.now in
-    let rest = bound_line (verdict_of c.args.outcome.now) cost ++ schedule_lines cost c.args.schedule in
+    let rest = bound_lines (verdict_of c.args.outcome.now) cost ++ schedule_lines cost c.args.schedule in
     record {
       written = breaks_off _ _ _ _ _ (work_lines cost) (access_lines cost ++ rest) c.from_residual.result _ c.from_residual.ensures.1
           (starts _ _ c.requires.counted) refl c.in_err-write_work.ensures.written;
@@ -16,7 +16,7 @@ returns-in_err-write_work g c =
 pub returns-in_err-write_accesses : goal.returns-in_err-write_accesses
 returns-in_err-write_accesses g c =
     let cost = c.args.cost.now in
-    let rest = bound_line (verdict_of c.args.outcome.now) cost ++ schedule_lines cost c.args.schedule in
+    let rest = bound_lines (verdict_of c.args.outcome.now) cost ++ schedule_lines cost c.args.schedule in
     let work = goes_on _ _ _ _ _ (work_lines cost) (access_lines cost ++ rest) (starts _ _ c.requires.counted) refl
     c.in_ok-write_work.ensures.written in
     record {
@@ -27,7 +27,7 @@ returns-in_err-write_accesses g c =
 pub returns-in_err-write_bound : goal.returns-in_err-write_bound
 returns-in_err-write_bound g c =
     let cost = c.args.cost.now in
-    let bound = bound_line (verdict_of c.args.outcome.now) cost in
+    let bound = bound_lines (verdict_of c.args.outcome.now) cost in
     let schedule = schedule_lines cost c.args.schedule in
     let work = goes_on _ _ _ _ _ (work_lines cost) (access_lines cost ++ (bound ++ schedule)) (starts _ _ c.requires.counted) refl
     c.in_ok-write_work.ensures.written in
@@ -40,7 +40,7 @@ returns-in_err-write_bound g c =
 pub returns-in-Some : goal.returns-in-Some
 returns-in-Some g c =
     let cost = c.args.cost.now in
-    let bound = bound_line (verdict_of c.args.outcome.now) cost in
+    let bound = bound_lines (verdict_of c.args.outcome.now) cost in
     let schedule = schedule_lines cost c.args.schedule in
     let work = goes_on _ _ _ _ _ (work_lines cost) (access_lines cost ++ (bound ++ schedule)) (starts _ _ c.requires.counted) refl
     c.in_ok-write_work.ensures.written in

@@ -6,7 +6,7 @@ use Rattle.sweep_texts.proofs.sweep_text.write_run.Goals as goal
 pub returns-in_err-write_counts : goal.returns-in_err-write_counts
 returns-in_err-write_counts g c =
     let front = counts_text c.args.counts.now in
-    let rest = most_text c.args.counts.now.most_exchanges c.args.how.now in
+    let rest = most_text c.args.counts.now.most_exchanges c.args.counts.now.most_words c.args.how.now in
     record {
       written = breaks_off _ _ _ _ _ front rest c.from_residual.result _ c.from_residual.ensures.1 (starts _ _ c.requires.counted) refl
           c.in_err-write_counts.ensures.written;
@@ -15,7 +15,7 @@ returns-in_err-write_counts g c =
 pub returns : goal.returns
 returns g c =
     let front = counts_text c.args.counts.now in
-    let rest = most_text c.args.counts.now.most_exchanges c.args.how.now in
+    let rest = most_text c.args.counts.now.most_exchanges c.args.counts.now.most_words c.args.how.now in
     record {
       written = closes _ _ _ _ _ c.write_most.result
           (goes_on _ _ _ _ _ front rest (starts _ _ c.requires.counted) refl c.in_ok-write_counts.ensures.written)

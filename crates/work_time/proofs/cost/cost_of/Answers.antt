@@ -6,6 +6,7 @@ use Rattle.work_time.specs.Spending.{closed}
 use Rattle.work_time.specs.Steps.{run_steps}
 use Rattle.work_time.specs.RowCosts.{costs_of_rows}
 use Rattle.work_time.proofs.Brent.{kept_brent}
+use Rattle.work_time.proofs.Communication.{words_told}
 use Rattle.work_time.proofs.RowCosts.{all_told, exchanges_told, lines_told, rows_told}
 use Rattle.work_time.proofs.Spendings.{closed_is}
 use Rattle.work_time.proofs.Sums.{reads_are, rounds_are, time_is, width_is, work_is, writes_are}
@@ -85,3 +86,15 @@ returns-clause-most_exchanges c =
     let events = events_of c.args.program.now c.args.input.now c.args.bound in
     c.in-Ok-close.ensures
     ∙ ap closed (exchanges_told c.args.schedule steps events c.in_ok-outcome.ledger c.in_ok-outcome.ensures.totals) ∙ closed_is events
+
+pub returns-clause-most_words : goal.returns-clause-most_words
+returns-clause-most_words c =
+    let program = c.args.program.now in
+    let input = c.args.input.now in
+    let steps = run_steps program input c.args.bound in
+    let events = events_of program input c.args.bound in
+    let ledger = c.in_ok-outcome.ledger in
+    let told = all_told c.args.schedule steps events ledger c.in_ok-outcome.ensures.totals in
+    words_told program c.rule.result c.args.workers input c.args.bound ledger.all.reads c.in_ok-outcome.outer_reads ledger.all.writes _
+    c.rule.ensures (reads_are c.args.schedule steps (tally_is ledger.all) told) c.in_ok-outcome.ensures.outer_reads
+    (writes_are c.args.schedule steps (tally_is ledger.all) told) c.in-Ok-words_asked.ensures

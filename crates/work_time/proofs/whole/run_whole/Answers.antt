@@ -1,8 +1,8 @@
-use Rattle.std.proofs.Common.{rules, ◌≡◌}
+use Rattle.std.proofs.Common.{refl, rules, ◌≡◌}
 use Rattle.pram_meaning.specs.declared.run.Halt.TheVariants as halt
 use Rattle.pram_meaning.specs.Runs.{state_of}
 use Rattle.pram_meaning.proofs.References.{opens}
-use Rattle.work_time.proofs.Complete.{ended, heard_at_bound, heard_of_fault, run_counted}
+use Rattle.work_time.proofs.Complete.{ended, heard_at_bound, heard_of_fault, outer_reads_counted, run_counted}
 use Rattle.work_time.proofs.whole.run_whole.Goals as goal
 
 pub returns-in-Ok-done-clause-outcome : goal.returns-in-Ok-done-clause-outcome
@@ -16,7 +16,7 @@ returns-in-Ok-done-clause-totals c =
     let e = c.in-Ok.ensures in
     run_counted c.args.program.now c.args.input.now c.args.bound c.args.schedule c.in-Ok.run' c.new.result
     c.run_body-done.new.listener.ledger (opens c.args.program.now c.args.input.now c.in-Ok.run' e.count e.output e.uniforms e.cells)
-    c.new.ensures c.in-Ok-done.ensures.heard.1
+    c.new.ensures c.in-Ok-done.ensures.heard.ledger
 
 pub returns-in-Err-Fault-clause-totals : goal.returns-in-Err-Fault-clause-totals
 returns-in-Err-Fault-clause-totals c =
@@ -26,7 +26,7 @@ returns-in-Err-Fault-clause-totals c =
     c.run_body-done.new.listener.ledger (opens c.args.program.now c.args.input.now c.in-Ok.run' e.count e.output e.uniforms e.cells)
     c.new.ensures
     (heard_of_fault c.run_body-done.result c.in-Err-Fault.field-0 c.in-Err-Fault.fault _ _ _ c.in-Err-Fault.is f
-    c.run_body-done.ensures.heard).1
+    c.run_body-done.ensures.heard).ledger
 
 pub returns-in-Err-Bound-clause-totals : goal.returns-in-Err-Bound-clause-totals
 returns-in-Err-Bound-clause-totals c =
@@ -35,4 +35,27 @@ returns-in-Err-Bound-clause-totals c =
     run_counted c.args.program.now c.args.input.now c.args.bound c.args.schedule c.in-Ok.run' c.new.result
     c.run_body-done.new.listener.ledger (opens c.args.program.now c.args.input.now c.in-Ok.run' e.count e.output e.uniforms e.cells)
     c.new.ensures
-    (heard_at_bound c.run_body-done.result c.in-Err-Bound.field-0 _ _ _ c.in-Err-Bound.is f c.run_body-done.ensures.heard).1
+    (heard_at_bound c.run_body-done.result c.in-Err-Bound.field-0 _ _ _ c.in-Err-Bound.is f c.run_body-done.ensures.heard).ledger
+
+pub returns-in-Ok-done-clause-outer_reads : goal.returns-in-Ok-done-clause-outer_reads
+returns-in-Ok-done-clause-outer_reads c =
+    let e = c.in-Ok.ensures in
+    outer_reads_counted c.args.program.now c.args.input.now c.args.bound c.in-Ok.run' _ c.run_body-done.new.listener
+    (opens c.args.program.now c.args.input.now c.in-Ok.run' e.count e.output e.uniforms e.cells) refl c.in-Ok-done.ensures.heard
+
+pub returns-in-Err-Fault-clause-outer_reads : goal.returns-in-Err-Fault-clause-outer_reads
+returns-in-Err-Fault-clause-outer_reads c =
+    let e = c.in-Ok.ensures in
+    let f : c.in-Err-Fault.field-0 ≡ halt.Fault c.in-Err-Fault.fault = search (rules, c.in-Err-Fault.field-0-is) in
+    outer_reads_counted c.args.program.now c.args.input.now c.args.bound c.in-Ok.run' _ c.run_body-done.new.listener
+    (opens c.args.program.now c.args.input.now c.in-Ok.run' e.count e.output e.uniforms e.cells) refl
+    (heard_of_fault c.run_body-done.result c.in-Err-Fault.field-0 c.in-Err-Fault.fault _ _ _ c.in-Err-Fault.is f
+    c.run_body-done.ensures.heard)
+
+pub returns-in-Err-Bound-clause-outer_reads : goal.returns-in-Err-Bound-clause-outer_reads
+returns-in-Err-Bound-clause-outer_reads c =
+    let e = c.in-Ok.ensures in
+    let f : c.in-Err-Bound.field-0 ≡ halt.Bound = search (rules, c.in-Err-Bound.field-0-is) in
+    outer_reads_counted c.args.program.now c.args.input.now c.args.bound c.in-Ok.run' _ c.run_body-done.new.listener
+    (opens c.args.program.now c.args.input.now c.in-Ok.run' e.count e.output e.uniforms e.cells) refl
+    (heard_at_bound c.run_body-done.result c.in-Err-Bound.field-0 _ _ _ c.in-Err-Bound.is f c.run_body-done.ensures.heard)
