@@ -1,5 +1,5 @@
 -- Packed code is well formed again.
-use Rattle.std.proofs.Common.{◌≡◌, ℕ, ◌+◌, ◌<◌, ◌⊎◌, inl, inr, List, [], ◌∷◌, length, map, Bool, true, false, not, ◌&&◌, ◌||◌, Option, Some, None, refl, sym, ap, ◌∙◌, subst, eqb, arith}
+use Rattle.std.proofs.Common.{◌≡◌, ℕ, ◌+◌, ◌<◌, inl, inr, length, Bool, true, not, ◌&&◌, ◌||◌, Option, Some, None, refl, sym, ap, ◌∙◌, arith}
 use Rattle.std.specs.Prelude.{slice_get, option_map, nat_lt}
 use Rattle.std.proofs.lemmas.Bool.{lt-ltb}
 use Rattle.std.proofs.lemmas.List.{length-map}
@@ -13,10 +13,10 @@ use Rattle.superstep_instructions.specs.declared.instr.Instr.TheVariants.{Jump, 
 use Rattle.superstep_instructions.specs.Code.{SuperstepCode}
 use Rattle.bsp_verify.specs.declared.state.State.{State}
 use Rattle.bsp_verify.specs.States.{after}
-use Rattle.bsp_verify.specs.Control.{Leads, goes_on, IsLed, IsReached}
+use Rattle.bsp_verify.specs.Control.{Leads, goes_on, IsLed}
 use Rattle.bsp_verify.specs.Judging.{registers_of, is_register, has_registers, has_entry, is_mark, is_target, has_target, fits_mode, fits_masks}
-use Rattle.bsp_verify.specs.Judging.{fits_exchange, stays_within, IsAllowed}
-use Rattle.bsp_verify.specs.WellFormed.{IsMet, AreMet, CanBeMet, IsWellFormed}
+use Rattle.bsp_verify.specs.Judging.{fits_exchange}
+use Rattle.bsp_verify.specs.WellFormed.{IsMet, IsWellFormed}
 use Rattle.renaming.specs.Renamed.{renamed, with_names}
 use Rattle.renaming.specs.Named.{of, named, IsAmong, IsNamedIn}
 

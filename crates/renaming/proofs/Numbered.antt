@@ -5,7 +5,7 @@ use Rattle.std.proofs.lemmas.Option.{slice_get_within}
 use Rattle.superstep_instructions.specs.declared.instr.Side.{Side}
 use Rattle.superstep_instructions.specs.declared.instr.Instr.{Instr}
 use Rattle.renaming.specs.declared.numbers.Numbers.{Numbers}
-use Rattle.renaming.specs.Numbers.{number_of, register_of, AreNumbers, HaveNumbers}
+use Rattle.renaming.specs.Numbers.{register_of, AreNumbers, HaveNumbers}
 use Rattle.renaming.specs.Named.{named, IsAmong, IsNamedIn}
 use Rattle.renaming.proofs.Giving.{same_or_not}
 

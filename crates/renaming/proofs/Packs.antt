@@ -1,10 +1,9 @@
 -- Packed code is the code, but for the numbers, and runs as that does.
-use Rattle.std.proofs.Common.{◌≡◌, ℕ, zero, suc, ◌<◌, ◌≤◌, ◌⊎◌, inl, inr, ⊎_elim, ℤ, Result, Ok, Err, refl, sym, ap, ◌∙◌, subst, arith}
+use Rattle.std.proofs.Common.{◌≡◌, ℕ, zero, suc, ◌<◌, inl, inr, ⊎_elim, Result, Ok, Err, refl, sym, ap, ◌∙◌, subst, arith}
 use Rattle.std.specs.Prelude.{IfOk}
 use Rattle.superstep_instructions.specs.declared.instr.Side.{Side}
 use Rattle.superstep_instructions.specs.declared.instr.Side.TheVariants.{Uniform, Private}
 use Rattle.superstep_instructions.specs.Code.{SuperstepCode}
-use Rattle.superstep_machine.specs.Setting.{Setting}
 use Rattle.superstep_machine.specs.Run.{State, Ready, is_over, ready, setting}
 use Rattle.bsp_verify.specs.Judging.{registers_of}
 use Rattle.bsp_verify.specs.Runs.{worker_after}
@@ -12,7 +11,7 @@ use Rattle.bsp_verify.specs.WellFormed.{IsWellFormed}
 use Rattle.renaming.specs.Renamed.{IsOneToOne, with_names}
 use Rattle.renaming.specs.Named.{IsNamedIn}
 use Rattle.renaming.specs.declared.numbers.Numbers.{Numbers}
-use Rattle.renaming.specs.Numbers.{number_of, register_of, AreNumbers, HaveNumbers}
+use Rattle.renaming.specs.Numbers.{number_of, register_of, HaveNumbers}
 use Rattle.renaming.specs.Packed.{IsPacked, NoneIsThereUnnamed, RunsAlike}
 use Rattle.renaming.proofs.Runs.{outcome_is, worker_is, ready_is}
 use Rattle.renaming.proofs.Formed.{formed_again}

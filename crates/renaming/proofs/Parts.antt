@@ -1,5 +1,5 @@
 -- What a renamed instruction does to parts whose registers are renamed.
-use Rattle.std.proofs.Common.{◌≡◌, ℕ, List, [], ◌∷◌, ◌++◌, map, Bool, true, false, Option, Some, None, ℤ, pos, refl, sym, ap, ◌∙◌, eqb}
+use Rattle.std.proofs.Common.{◌≡◌, ℕ, [], ◌∷◌, ◌++◌, map, Bool, true, false, Option, Some, None, ℤ, pos, refl, sym, ap, ◌∙◌, eqb}
 use Rattle.std.specs.Prelude.{◌&&◌, Ok, Err, if◌then◌else◌}
 use Rattle.std.proofs.lemmas.Bool.{eq-eqb, eqb-true, eqb-false}
 use Rattle.flat_machine.proofs.Lists.{map_joined}
@@ -9,7 +9,6 @@ use Rattle.pram_values.specs.declared.place.Place.{Place}
 use Rattle.pram_values.specs.declared.place.Place.TheVariants.{All, Processor}
 use Rattle.pram_values.specs.Value.{Value}
 use Rattle.pram_values.specs.Truth.{truth, is_nonzero}
-use Rattle.pram_values.specs.Value.{checked}
 use Rattle.superstep_instructions.specs.declared.instr.Side.{Side}
 use Rattle.superstep_instructions.specs.declared.instr.Side.TheVariants.{Uniform, Private}
 use Rattle.superstep_instructions.specs.declared.instr.Instr.{Instr}
@@ -17,7 +16,6 @@ use Rattle.superstep_instructions.specs.declared.instr.Instr.TheVariants.{Mark, 
 use Rattle.superstep_instructions.specs.declared.instr.Instr.TheVariants.{Enter, Leave, Mask, Flip, Unmask, Ask, Put, Send, Reply, Vote, Print}
 use Rattle.superstep_instructions.specs.declared.instr.Instr.TheVariants.{Jump, JumpIfZero, Halt}
 use Rattle.superstep_instructions.specs.Code.{SuperstepCode}
-use Rattle.superstep_machine.specs.declared.key.Key.{Key}
 use Rattle.superstep_machine.specs.Parts.{Registers, set_register, Read, UniformPart, PrivatePart}
 use Rattle.superstep_machine.specs.Results.{computed, calculated, tested, is_same, is_of, position_of, kind_of, missing, range_width, or_empty}
 use Rattle.superstep_machine.specs.Steps.{with_result, wrong_in, zero_without, fault_at, write_to, on_uniform, wrong_uniform, uniform_key}

@@ -1,27 +1,23 @@
 -- Runs of renamed code are runs of the code.
-use Rattle.std.proofs.Common.{◌≡◌, ℕ, zero, suc, ◌<◌, List, [], ◌∷◌, length, map, Bool, true, false, Option, Some, None, ℤ, pos, refl, sym, ap, ◌∙◌, subst}
+use Rattle.std.proofs.Common.{◌≡◌, ℕ, zero, suc, List, [], ◌∷◌, map, Bool, true, false, Option, Some, ℤ, pos, refl, ap, ◌∙◌}
 use Rattle.std.specs.Prelude.{if◌then◌else◌, slice_index_or}
 use Rattle.std.specs.List.{range_with_len}
-use Rattle.std.proofs.Math.ListN.{get_or-map}
 use Rattle.flat_machine.proofs.Lists.{map_same}
-use Rattle.address_map.specs.Lawful.{Shape}
-use Rattle.write_rules.specs.Verdict.{Verdict}
-use Rattle.superstep_instructions.specs.Code.{SuperstepCode}
 use Rattle.superstep_machine.specs.declared.key.Key.{Key}
 use Rattle.superstep_machine.specs.declared.mark.HeaderMark.{HeaderMark}
 use Rattle.superstep_machine.specs.declared.mark.HeaderMark.TheVariants.{Clear, OutOfMemory, OutOfReserve}
 use Rattle.superstep_machine.specs.Setting.{Setting, workers, all_cells}
 use Rattle.superstep_machine.specs.Parts.{UniformPart}
 use Rattle.superstep_machine.specs.Words.{Message}
-use Rattle.superstep_machine.specs.Worker.{Worker, after_instr}
-use Rattle.superstep_machine.specs.Stretch.{ToSend, ToReply, ToVote, ToClose, Arrival, Nowhere, At, until}
+use Rattle.superstep_machine.specs.Worker.{Worker}
+use Rattle.superstep_machine.specs.Stretch.{ToSend, ToReply, ToVote, ToClose, Arrival, Nowhere, At}
 use Rattle.superstep_machine.specs.Machine.{column, phase, phases, run}
 use Rattle.superstep_machine.specs.Run.{Purpose, Sends, Replies, Votes, Closes, Way, On, Ending, Past, Refused, Lost, State, Ready}
 use Rattle.superstep_machine.specs.Run.{mark_now, stretch, ready_at, ready_by, ready_with, ready, is_held, message_for, message_with, message_of}
-use Rattle.superstep_machine.specs.Run.{key_of, decided, after_exchange, mark_of, after_with, after, is_over, no_state, state_of, cell_in}
+use Rattle.superstep_machine.specs.Run.{key_of, decided, after_exchange, mark_of, after_with, after, is_over, state_of, cell_in}
 use Rattle.superstep_machine.specs.Run.{verdict_by, outcome_of, bsp, opening, outcome_by}
 use Rattle.bsp_verify.specs.Runs.{worker_after}
-use Rattle.renaming.specs.Renamed.{IsOneToOne, renamed}
+use Rattle.renaming.specs.Renamed.{IsOneToOne}
 use Rattle.renaming.proofs.Parts.{uniform_moved}
 use Rattle.renaming.proofs.Workers.{t', worker_moved, arrival_moved, until_moved, sent_moved, voted_moved, after_send_moved, after_reply_moved}
 use Rattle.renaming.proofs.Workers.{after_vote_moved}

@@ -11,18 +11,16 @@ use Rattle.superstep_instructions.specs.declared.instr.Instr.{Instr}
 use Rattle.superstep_instructions.specs.declared.instr.Instr.TheVariants.{Mark, Set, Copy, Negate, Calculate, Decide, Not, CopyUniform, Index}
 use Rattle.superstep_instructions.specs.declared.instr.Instr.TheVariants.{Enter, Leave, Mask, Flip, Unmask, Ask, Put, Send, Reply, Vote, Print}
 use Rattle.superstep_instructions.specs.declared.instr.Instr.TheVariants.{Jump, JumpIfZero, Halt}
-use Rattle.superstep_instructions.specs.Code.{SuperstepCode}
-use Rattle.superstep_machine.specs.declared.key.Key.{Key}
 use Rattle.superstep_machine.specs.Keys.{least}
 use Rattle.superstep_machine.specs.Setting.{Setting, processors, module_cells}
 use Rattle.superstep_machine.specs.Parts.{Registers, Read, UniformPart, PrivatePart, fresh}
-use Rattle.superstep_machine.specs.Steps.{on_uniform, uniform_key, uniform_write, index_of, on_own, own_key, own_write, is_active, is_put, renews}
+use Rattle.superstep_machine.specs.Steps.{on_uniform, index_of, on_own, own_key, own_write, is_active, renews}
 use Rattle.superstep_machine.specs.Words.{CellAsk, Message}
-use Rattle.superstep_machine.specs.Worker.{HeldWrite, Worker, numbered, by_processor, uniform_writes, own_writes, own_after, noted, after_instr}
-use Rattle.superstep_machine.specs.Sending.{firsts, present, cell_at, cells_asked, several, asks_for, is_several, asked_twice, asks_from, asks_held}
+use Rattle.superstep_machine.specs.Worker.{Worker, numbered, by_processor, uniform_writes, own_writes, own_after, noted, after_instr}
+use Rattle.superstep_machine.specs.Sending.{firsts, present, cell_at, cells_asked, several, asks_for, is_several, asked_twice, asks_from}
 use Rattle.superstep_machine.specs.Sending.{sent, put_conflict, read_conflict, read_conflicts, conflicts, own_sent, after_send}
 use Rattle.superstep_machine.specs.Sending.{verdict_on, entry_came}
-use Rattle.superstep_machine.specs.Answering.{replied, value_came, answer, answers, destinations, uniform_answered, own_answered, after_reply}
+use Rattle.superstep_machine.specs.Answering.{value_came, answer, answers, destinations, uniform_answered, own_answered, after_reply}
 use Rattle.superstep_machine.specs.Answering.{voted, after_vote}
 use Rattle.write_rules.specs.Rule.{shares_reads}
 use Rattle.superstep_machine.specs.Stretch.{Stop, ToSend, ToReply, ToVote, ToClose, Arrival, Nowhere, At, advance, until}
