@@ -42,7 +42,7 @@ Options:
 Exit status: 0 it is compiled, 2 it is refused.
 ";
 
-pub(crate) const MEANING: [u8; 968] = *b"pramc meaning FILE: runs the program by its definition.
+pub(crate) const MEANING: [u8; 1039] = *b"pramc meaning FILE: runs the program by its definition.
 
 It writes each printed number on a line, and then `ended` and the shared memory,
 or a fault with its place and line. `pramc run` comes to the same by workers.
@@ -55,6 +55,7 @@ b[1..8] = 38 23 9 14 5 4 5 9
 Options:
 
 --bound N           the most statements that are run, else 1000000
+--seconds S         ends a long run in about S seconds, and says where
 --input FILE        the values of the first cells
 --memory FILE       values of cells by their names
 --random LO..HI     draws the values of all cells
@@ -68,7 +69,7 @@ Options:
 Exit status: 0 it ended, 1 it faulted, 2 it was refused, 3 it met the bound.
 ";
 
-pub(crate) const COST: [u8; 1214] = *b"pramc cost FILE: what a run costs.
+pub(crate) const COST: [u8; 1329] = *b"pramc cost FILE: what a run costs.
 
 It counts time, the statements that ran, and work, for each of them one for each
 processor that ran it; then reads, writes and the most exchanges. Type this:
@@ -79,22 +80,23 @@ That is a line for each of n = 4, 8, 16, 32, 64; then `time 4 log n + 5` and
 `work 2 n + 3 log n + 3`, formulas that fit them all.
 
 --sweep NAME=SIZES  counts at these sizes: n=4,8,16 or n=4..64*2 or n=10..50+10
+--workers P         tells the most words too that P workers send
 --schedule P        counts the rounds on P processors too
 --lines             counts for each line of the program too
---svg               draws a sweep, as SVG
 --bound N           the most statements that are run, else 1000000
+--seconds S         ends a long run in about S seconds, and says where
 --input FILE        the values of the first cells; of a sweep as 'in/{n}.txt'
 --memory FILE       values of cells by their names
 --random LO..HI     draws the values of all cells, by --seed S
 --size NAME=VALUE   another number for a size of the text, as n=16
---format FORMAT     json for programs; csv for a sweep
+--format FORMAT     json for programs; csv for a sweep, or --svg to draw it
 --explain           says more of a refusal or a fault
 
 Exit status: 0 it ended, 1 it faulted, 2 it was refused, 3 it met the bound.
 Of a sweep 1 if a size faulted or was refused, or else 3 if one met the bound.
 ";
 
-pub(crate) const STEPS: [u8; 1318] = *b"pramc steps FILE: a run statement by statement.
+pub(crate) const STEPS: [u8; 1389] = *b"pramc steps FILE: a run statement by statement.
 
 It writes a line for each statement that ran: its number, its line in the text,
 how many processors ran it, and the cells that it changed. At a conflict it says
@@ -110,6 +112,7 @@ $ pramc steps examples/tree_sum.pram --input examples/tree_sum.in | sed -n 7p
 --only NAMES        draws the flow between these declarations alone, as a,b
 --svg               draws the run, as SVG
 --bound N           the most statements that are run, else 1000000
+--seconds S         ends a long run in about S seconds, and says where
 --input FILE        the values of the first cells
 --memory FILE       values of cells by their names
 --random LO..HI     draws the values of all cells, by --seed S

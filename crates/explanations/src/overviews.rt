@@ -51,7 +51,7 @@ Limits: numbers of 64 bits, 16384 processors, 1048576 cells, 16384 tokens,
 8 shared reads in a statement, 64 levels of blocks and of expressions.
 ";
 
-pub(crate) const OPTIONS: [u8; 3257] = *b"The options, and which commands take them.
+pub(crate) const OPTIONS: [u8; 3538] = *b"The options, and which commands take them.
 
 All but explain:
 
@@ -82,10 +82,14 @@ One of these three is given; cells that get no value are 0:
 How far they run; of the same commands and of explore and compare:
 
 --bound N           the most statements: 0 to 4294967295, else 1000000
+--seconds S         of meaning, cost and steps: ends a long run in about S
+                    seconds, from 1, and says behind which statement
 
 How they run; of run, trace and exec:
 
 --workers P         how many workers, 1 to 32, else 4
+                    (of cost, from 1: tells the most words that so many send)
+                    (of explore: share the inputs, else 1)
 --map MAP           where the cells lie: identity, or affine:A,B with A odd
 --reserve ITEMS,EXCHANGES
                     takes memory first for so many printed numbers, exchanges

@@ -1,6 +1,6 @@
 //! What is said of commands for those who write algorithms, and of plans that leave the machine.
 
-pub(crate) const EXPLORE: [u8; 1019] =
+pub(crate) const EXPLORE: [u8; 1082] =
     *b"pramc explore FILE: runs the program on every input of a small scope.
 
 It says on how many inputs the run ends, faults or goes on at its bound; each
@@ -17,6 +17,7 @@ ended 120
 --values LO..HI     of this interval: 100000000 inputs at most
 --permutations K    in their place all orders of the numbers 1 to K, K up to 10
 --under RULE        under this rule of access, in place of the text's own
+--workers P         shares the inputs among P workers, 1 to 32
 --bound N           the most statements that are run, else 1000000
 --size NAME=VALUE   another number for a size of the text, as n=16
 --format json       tells it to programs, as JSON

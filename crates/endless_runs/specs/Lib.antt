@@ -1,0 +1,2 @@
+pub mod Endless
+pub mod Search
