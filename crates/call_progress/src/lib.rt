@@ -1,8 +1,6 @@
-//! How far a long call is: who is told, and the line of a terminal that says it.
+//! Who is told how far a long call is.
 #![tactic(auto)]
 
-mod progress_line;
 mod watch;
 
-pub use progress_line::ProgressLine;
 pub use watch::{Nobody, Watch};

@@ -42,7 +42,8 @@ fn exchange<R: Wait, W: WriteRule, M: AddressMap, G: Gate>(
     ensures left { spec_is_over (way_is worker.new.local.way) ≡ false →
         left code.now bound worker.new.local < left code.now bound worker.old.local }
 {
-    gate.pass(rt, seat.worker() as u32, seat.phase() + 1);
+    let statements = worker.local.steps.uniform.count;
+    gate.pass(rt, seat.worker() as u32, seat.phase() + 1, statements);
     let mut hand = RowHand { seat };
     worker.until_exchange(code, rule, map, bound, &mut hand);
     let RowHand { seat } = hand;
