@@ -1,5 +1,5 @@
 -- How a comparison is written.
-use Rattle.std.specs.Prelude.{ℕ, ℤ, List, [], ◌++◌, Option, Some, None, codes, decimal}
+use Rattle.std.specs.Prelude.{ℕ, ℤ, List, [], ◌∷◌, ◌++◌, Option, Some, None, codes, decimal}
 use Rattle.std.specs.Fmt.{signed_decimal}
 use Rattle.pram_model.specs.Layout.{SharedEntry}
 use Rattle.program_texts.specs.Shown.{cell_text, fault_text, spaced}
@@ -63,10 +63,11 @@ abbrev pub differing_line : (first second : List SharedEntry) → Differing → 
 differing_line first second d =
     codes "input" ++ (spaced d.input ++ (codes ": " ++ (difference_text first second d.difference ++ codes "\n")))
 
-abbrev pub first_line : (first second : List SharedEntry) → Option Differing → List ℕ
-first_line first second None = []
-first_line first second (Some d) = differing_line first second d
+-- of those that are told the first
+abbrev pub first_line : (first second : List SharedEntry) → List Differing → List ℕ
+first_line first second [] = []
+first_line first second (d ∷ told) = differing_line first second d
 
 -- how many inputs there are and on how many both come to the same; and the first on which they don't, if there is one
 abbrev pub comparison_text : (first second : List SharedEntry) → Found → List ℕ
-comparison_text first second f = counts_line f ++ first_line first second f.first
+comparison_text first second f = counts_line f ++ first_line first second f.told

@@ -1,7 +1,6 @@
 //! The text of a comparison.
 
-ghost use Rattle.std.specs.Prelude.{◌≡◌, ◌<◌, ◌^◌};
-ghost use Rattle.std.specs.Option.{option_map};
+ghost use Rattle.std.specs.Prelude.{◌≡◌, ◌<◌, ◌^◌, map};
 ghost use Rattle.text_out.specs.Out.{Writes};
 ghost use Rattle.comparisons.specs.Found.{differing_is, found_is};
 ghost use Rattle.comparison_texts.specs.ComparisonText as spec;
@@ -51,15 +50,15 @@ fn write_first<W: Out>(
     out: &mut W,
     first: &Layout,
     second: &Layout,
-    found: &Option<FoundDifference>,
+    told: &[FoundDifference],
 ) -> Result<(), WriteFault>
     requires counted { (W.Out.state out.old).failures < 2 ^ 63 }
     ensures written { Writes (W.Out.state out.old) (W.Out.state out.new)
-        (spec.first_line first.now second.now (option_map differing_is found.now)) result }
+        (spec.first_line first.now second.now (map differing_is told.now)) result }
 {
-    match found {
-        None => out.write_all(b""),
-        Some(found) => write_found(out, first, second, found),
+    match told {
+        [] => out.write_all(b""),
+        [found, ..] => write_found(out, first, second, found),
     }
 }
 
@@ -77,5 +76,5 @@ pub fn write_comparison<W: Out>(
         (spec.comparison_text first.now second.now (found_is comparison.now)) result }
 {
     write_counts(out, comparison)?;
-    write_first(out, first, second, &comparison.first)
+    write_first(out, first, second, &comparison.told)
 }

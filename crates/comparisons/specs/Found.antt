@@ -1,5 +1,6 @@
 -- What is found of two programs on inputs.
-use Rattle.std.specs.Prelude.{ℕ, ◌+◌, max, nat_lt, ℤ, if◌then◌else◌, List, Option, Some, None, is_none, Vec, length, map, slice_get}
+use Rattle.std.specs.Prelude.{ℕ, ◌+◌, ◌/◌, max, min, nat_lt, ℤ, if◌then◌else◌, List, [], ◌∷◌, ◌++◌, Option, Some, None, is_none, Vec}
+use Rattle.std.specs.Prelude.{length, map, take}
 use Rattle.std.specs.Global.{Global}
 use Rattle.std.specs.List.{filter, filter_map, fold, range_with_len}
 use Rattle.std.specs.Option.{option_map}
@@ -42,15 +43,20 @@ same p q c n inputs = filter (λ input. is_none (difference_on p q c n input)) i
 pub record Found : Type 0 where
   pub inputs : ℕ
   pub same : ℕ
-  pub first : Option Differing
+  pub told : List Differing
 
--- how many there are, on how many they come to the same, and the first on which they differ
-abbrev pub found : (p q : Checked) → Compared → ℕ → List (List ℤ) → Found
-found p q c n inputs = record {
+-- how many there are, on how many they come to the same, and the first on which they differ, at most so many
+abbrev pub found : (p q : Checked) → Compared → (n most : ℕ) → List (List ℤ) → Found
+found p q c n most inputs = record {
   inputs = length inputs;
   same = length (same p q c n inputs);
-  first = slice_get (differing p q c n inputs) 0;
+  told = take most (differing p q c n inputs);
 }
+
+-- how many of the first on which they differ are told, of so many values each: at most 1,000, and no more than have a million values
+-- together, but one in any case
+abbrev pub most_told : (values : ℕ) → ℕ
+most_told values = max (min (1000000 / max values 1) 1000) 1
 
 -- ---- what the code has found
 
@@ -58,22 +64,23 @@ abbrev pub differing_is : FoundDifference → Differing
 differing_is f = record { input = f.input.items; difference = f.difference }
 
 abbrev pub found_is : Comparison → Found
-found_is f = record { inputs = f.inputs; same = f.same; first = option_map differing_is f.first }
+found_is f = record { inputs = f.inputs; same = f.same; told = map differing_is f.told.items }
 
 -- ---- one input more
 
 -- nothing yet
 abbrev pub nothing : Found
-nothing = record { inputs = 0; same = 0; first = None }
+nothing = record { inputs = 0; same = 0; told = [] }
 
-abbrev pub or_first : Option Differing → Differing → Option Differing
-or_first None d = Some d
-or_first (Some first) d = Some first
+-- one more behind others, where there are fewer than so many
+abbrev pub with_more : (most : ℕ) → List Differing → Differing → List Differing
+with_more most ds d = if nat_lt (length ds) most then ds ++ d ∷ [] else ds
 
 -- by what differs on it
-abbrev pub added : Option Difference → List ℤ → Found → Found
-added None input f = record f { inputs = f.inputs + 1; same = f.same + 1 }
-added (Some d) input f = record f { inputs = f.inputs + 1; first = or_first f.first (record { input = input; difference = d }) }
+abbrev pub added : (most : ℕ) → Option Difference → List ℤ → Found → Found
+added most None input f = record f { inputs = f.inputs + 1; same = f.same + 1 }
+added most (Some d) input f =
+    record f { inputs = f.inputs + 1; told = with_more most f.told (record { input = input; difference = d }) }
 
 -- ---- inputs that are too long
 

@@ -1,5 +1,5 @@
 -- What a comparison says of two runs.
-use Rattle.std.specs.Prelude.{◌≡◌, ◌≢◌, ◌≤◌, ◌<◌, ℕ, ◌+◌, ℤ, true, false, List, [], ◌∷◌, ◌++◌, Option, Some, None, slice_get}
+use Rattle.std.specs.Prelude.{◌≡◌, ◌≢◌, ◌≤◌, ◌<◌, ℕ, ◌+◌, ℤ, true, false, List, [], ◌∷◌, ◌++◌, Option, Some, None, length, slice_get}
 use Rattle.std.specs.List.{All, Contains}
 use Rattle.pram_check.specs.Checked.{Checked}
 use Rattle.write_rules.specs.Verdict.{Verdict, Ended, Faulted, GoesOn}
@@ -10,7 +10,7 @@ use Rattle.comparisons.specs.declared.compared.Limits.{Limits}
 use Rattle.comparisons.specs.declared.difference.Difference.{Difference}
 use Rattle.comparisons.specs.declared.difference.Difference.TheVariants as differ
 use Rattle.comparisons.specs.Differences.{Run, ending_of, same_ending}
-use Rattle.comparisons.specs.Found.{Differing, difference_on}
+use Rattle.comparisons.specs.Found.{Differing, difference_on, differing}
 
 -- ---- two runs that come to the same
 
@@ -77,12 +77,20 @@ IsSo c v b (differ.Time taken limit) =
 IsSo c v b (differ.Work taken limit) =
     (is_end b.verdict ≡ true) × (b.work ≡ taken) × (c.limits.work ≡ Some limit) × (limit < taken)
 
--- ---- the first input on which they differ
+-- ---- the inputs on which they differ
 
--- on those before it they come to the same, and on it that differs first
+-- the first: on those before it they come to the same, and on it that differs first
 pub record IsFirst (p q : Checked) (c : Compared) (n : ℕ) (inputs : List (List ℤ)) (d : Differing) : Type 0 where
   pub before : List (List ℤ)
   pub behind : List (List ℤ)
   pub all : inputs ≡ before ++ d.input ∷ behind
   pub same : All (λ input. difference_on p q c n input ≡ None) before
+  pub differs : difference_on p q c n d.input ≡ Some d.difference
+
+-- that of a number, from 0: on so many of those before it they differ, and on it that differs first
+pub record IsDiffering (p q : Checked) (c : Compared) (n : ℕ) (inputs : List (List ℤ)) (number : ℕ) (d : Differing) : Type 0 where
+  pub before : List (List ℤ)
+  pub behind : List (List ℤ)
+  pub all : inputs ≡ before ++ d.input ∷ behind
+  pub many : length (differing p q c n before) ≡ number
   pub differs : difference_on p q c n d.input ≡ Some d.difference

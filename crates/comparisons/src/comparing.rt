@@ -10,6 +10,7 @@ ghost use Rattle.comparisons.specs.declared.refusal.Side as rust;
 use crate::compared::Compared;
 use crate::comparison::Comparison;
 use crate::difference::Difference;
+use crate::most::most_told;
 use crate::outcomes::first_difference;
 use crate::refusal::{ComparisonRefusal, longest, too_long};
 use drawn_inputs::{Drawing, draw};
@@ -69,24 +70,25 @@ fn try_input(
     compared: &Compared,
     input: &[i64],
     bound: u32,
+    most: usize,
     comparison: &mut Comparison,
 ) -> Result<(), ComparisonRefusal>
     requires room { comparison.old.inputs + 1 < 2 ^ 64 }
     ensures found { OnOk result ((before : List (List ℤ)) →
-        found_is comparison.old ≡ found first.now second.now compared.now bound before →
-        found_is comparison.new ≡ found first.now second.now compared.now bound (before ++ input.now ∷ [])) }
+        found_is comparison.old ≡ found first.now second.now compared.now bound most before →
+        found_is comparison.new ≡ found first.now second.now compared.now bound most (before ++ input.now ∷ [])) }
     ensures memory { (side : rust.Side) → result ≢ Err (ComparisonRefusal.InputTooLong side) }
 {
     let difference = difference(alloc, first, second, compared, input, bound)?;
-    match comparison.add(alloc, difference, input) {
+    match comparison.add(alloc, most, difference, input) {
         Ok(()) => Ok(()),
         Err(_) => Err(ComparisonRefusal::OutOfMemory),
     }
 }
 
 /// Runs two programs on each input of a scope, each run for at most `bound` statements, and says what is found over just these inputs
-/// in their order: on how many the programs come to the same, and the first on which they don't. E11 where an input has more values
-/// than one of the programs has cells; E16 only where memory was refused.
+/// in their order: on how many the programs come to the same, and the first on which they don't, as many as [`most_told`] says. E11 where
+/// an input has more values than one of the programs has cells; E16 only where memory was refused.
 pub fn compare_scope(
     alloc: Global,
     first: &Program,
@@ -96,7 +98,8 @@ pub fn compare_scope(
     bound: u32,
 ) -> Result<Comparison, ComparisonRefusal>
     requires few { length (inputs_of scope) < 2 ^ 64 }
-    ensures found { IfOk result (λ r. found_is r ≡ found first.now second.now compared.now bound (inputs_of scope)) }
+    ensures found { IfOk result (λ r. found_is r ≡ found first.now second.now compared.now bound (spec.most_told scope.count)
+        (inputs_of scope)) }
     ensures too_long { (side : rust.Side) → (result ≡ Err (ComparisonRefusal.InputTooLong side))
         ↔ (spec.too_long first.now second.now scope.count ≡ Some side) }
 {
@@ -106,7 +109,8 @@ pub fn compare_scope(
     let Ok(mut inputs) = first_input(alloc, scope) else {
         return Err(ComparisonRefusal::OutOfMemory);
     };
-    let mut comparison = Comparison::new();
+    let most = most_told(scope.count as usize);
+    let mut comparison = Comparison::new(alloc);
     'trying: while !inputs.is_over() {
         let input = inputs.values();
         try_input(
@@ -116,6 +120,7 @@ pub fn compare_scope(
             compared,
             input,
             bound,
+            most,
             &mut comparison,
         )?;
         inputs.advance();
@@ -132,14 +137,17 @@ pub fn compare_inputs(
     inputs: &[Vec<i64>],
     bound: u32,
 ) -> Result<Comparison, ComparisonRefusal>
-    ensures found { IfOk result (λ r. found_is r ≡ found first.now second.now compared.now bound (map values_of inputs.now)) }
+    ensures found { IfOk result (λ r. found_is r ≡ found first.now second.now compared.now bound
+        (spec.most_told (spec.longest (map values_of inputs.now))) (map values_of inputs.now)) }
     ensures too_long { (side : rust.Side) → (result ≡ Err (ComparisonRefusal.InputTooLong side))
         ↔ (spec.too_long first.now second.now (spec.longest (map values_of inputs.now)) ≡ Some side) }
 {
-    if let Some(side) = too_long(first, second, longest(inputs)) {
+    let values = longest(inputs);
+    if let Some(side) = too_long(first, second, values) {
         return Err(ComparisonRefusal::InputTooLong(side));
     }
-    let mut comparison = Comparison::new();
+    let most = most_told(values);
+    let mut comparison = Comparison::new(alloc);
     for input in inputs {
         try_input(
             alloc,
@@ -148,6 +156,7 @@ pub fn compare_inputs(
             compared,
             input,
             bound,
+            most,
             &mut comparison,
         )?;
     }
@@ -189,6 +198,7 @@ pub fn compare_drawn(
 ) -> Result<Comparison, ComparisonRefusal>
     requires seeds { drawing.seed + count < 2 ^ 64 }
     ensures found { IfOk result (λ r. found_is r ≡ found first.now second.now compared.now bound
+        (spec.most_told (total_size first.now.layout))
         (drawn_inputs drawing.low drawing.high drawing.seed (total_size first.now.layout) count)) }
     ensures too_long { (side : rust.Side) → (result ≡ Err (ComparisonRefusal.InputTooLong side))
         ↔ (spec.too_long first.now second.now (total_size first.now.layout) ≡ Some side) }
@@ -197,7 +207,8 @@ pub fn compare_drawn(
     if let Some(side) = too_long(first, second, cells as usize) {
         return Err(ComparisonRefusal::InputTooLong(side));
     }
-    let mut comparison = Comparison::new();
+    let most = most_told(cells as usize);
+    let mut comparison = Comparison::new(alloc);
     for turn in 0..count {
         let input = draw_input(alloc, drawing, turn, cells)?;
         try_input(
@@ -207,6 +218,7 @@ pub fn compare_drawn(
             compared,
             &input,
             bound,
+            most,
             &mut comparison,
         )?;
     }

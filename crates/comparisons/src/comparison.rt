@@ -12,11 +12,11 @@ pub struct FoundDifference {
 }
 
 /// What is found of two programs on some inputs: how many inputs there are, on how many the programs come to the same, and the first
-/// input on which they don't, where there is one.
+/// inputs on which they don't, in order.
 #[derive(Drop)]
 pub struct Comparison {
     pub inputs: u64,
     pub same: u64,
-    pub first: Option<FoundDifference>,
+    pub told: Vec<FoundDifference>,
     ghost parts: { same ≤ inputs },
 }

@@ -1,6 +1,6 @@
 //! The laws of this crate: what a comparison says of the runs of two programs.
 
-ghost use Rattle.std.specs.Prelude.{◌≡◌, ◌≢◌, ◌↔◌, ◌≤◌, ◌+◌, ℕ, ℤ, List, Some, None, length};
+ghost use Rattle.std.specs.Prelude.{◌≡◌, ◌≢◌, ◌↔◌, ◌<◌, ◌≤◌, ◌+◌, ◌-◌, min, ℕ, ℤ, List, [], Some, None, length, slice_get};
 ghost use Rattle.std.specs.List.{All, AllPairs, Any, Contains};
 ghost use Rattle.pram_check.specs.Checked.{Checked};
 ghost use Rattle.pram_model.specs.Layout.{SharedEntry, size};
@@ -11,23 +11,33 @@ ghost use Rattle.comparisons.specs.declared.compared.Compared as rust;
 ghost use Rattle.comparisons.specs.declared.difference.Difference as told;
 ghost use Rattle.comparisons.specs.Common.{StandsAt, common};
 ghost use Rattle.comparisons.specs.Differences.{Run, first_difference};
-ghost use Rattle.comparisons.specs.Found.{Differing, difference_on, differing, found};
-ghost use Rattle.comparisons.specs.Told.{ComeToTheSame, IsFirst, IsSo, KeepsTo};
+ghost use Rattle.comparisons.specs.Found.{Differing, difference_on, differing, found, most_told};
+ghost use Rattle.comparisons.specs.Told.{ComeToTheSame, IsDiffering, IsFirst, IsSo, KeepsTo};
 
 /// What a run comes to is its outcome; and each input is counted once, as one on which the programs come to the same, or as one on which
 /// they differ.
 pub fn every_input_is_counted()
     ensures outcome { (p : Checked) (n : ℕ) (input : List ℤ) (v : Verdict) → IsOutcome p input n v ↔ (v ≡ verdict_on p n input) }
-    ensures once { (p q : Checked) (c : rust.Compared) (n : ℕ) (inputs : List (List ℤ)) →
-        (found p q c n inputs).same + length (differing p q c n inputs) ≡ length inputs }
+    ensures once { (p q : Checked) (c : rust.Compared) (n most : ℕ) (inputs : List (List ℤ)) →
+        (found p q c n most inputs).same + length (differing p q c n inputs) ≡ length inputs }
 {}
 
-/// Nothing is told exactly where the programs come to the same on all inputs. What is told is the first input on which they don't.
+/// No input is told exactly where the programs come to the same on all of them. The first that is told is the first on which they don't.
 pub fn the_first_input_is_told()
-    ensures none { (p q : Checked) (c : rust.Compared) (n : ℕ) (inputs : List (List ℤ)) →
-        ((found p q c n inputs).first ≡ None) ↔ ((found p q c n inputs).same ≡ length inputs) }
-    ensures first { (p q : Checked) (c : rust.Compared) (n : ℕ) (inputs : List (List ℤ)) (d : Differing) →
-        (found p q c n inputs).first ≡ Some d → IsFirst p q c n inputs d }
+    ensures none { (p q : Checked) (c : rust.Compared) (n most : ℕ) (inputs : List (List ℤ)) → 0 < most →
+        ((found p q c n most inputs).told ≡ []) ↔ ((found p q c n most inputs).same ≡ length inputs) }
+    ensures first { (p q : Checked) (c : rust.Compared) (n most : ℕ) (inputs : List (List ℤ)) (d : Differing) →
+        slice_get (found p q c n most inputs).told 0 ≡ Some d → IsFirst p q c n inputs d }
+{}
+
+/// As many inputs are told as there are on which the programs differ, or as may be; and each in its place: the one at a place is that of
+/// this number among all on which they differ. At least one may be told.
+pub fn the_inputs_that_differ_are_told()
+    ensures many { (p q : Checked) (c : rust.Compared) (n most : ℕ) (inputs : List (List ℤ)) →
+        length (found p q c n most inputs).told ≡ min most (length inputs - (found p q c n most inputs).same) }
+    ensures each { (p q : Checked) (c : rust.Compared) (n most : ℕ) (inputs : List (List ℤ)) (number : ℕ) (d : Differing) →
+        slice_get (found p q c n most inputs).told number ≡ Some d → IsDiffering p q c n inputs number d }
+    ensures some { (values : ℕ) → 0 < most_told values }
 {}
 
 /// Nothing is told of two runs exactly where they come to the same, and the second keeps to the limits. What is told is so: the two

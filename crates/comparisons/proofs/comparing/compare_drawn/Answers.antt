@@ -20,10 +20,12 @@ loop-turn-preserved c =
     let n = c.args.bound in
     let d = c.args.drawing in
     let cells = total_size c.args.first.now.layout in
+    let m = c.most_told-most.result in
     let turn = c.loop-turn.turn in
     let before = drawn_inputs d.low d.high d.seed cells turn in
     let here : c.deref.result.now ≡ drawn_by d.low d.high cells (d.seed + turn) =
-    c.deref.ensures.value ∙ c.in_ok-input.ensures.drawn ∙ ap (λ (m : ℕ). drawn_by d.low d.high m (d.seed + turn)) (c.cells-cells.ensures.total ∙ ap total_size c.layout.ensures) in
+    c.deref.ensures.value ∙ c.in_ok-input.ensures.drawn
+    ∙ ap (λ (m : ℕ). drawn_by d.low d.high m (d.seed + turn)) (c.cells-cells.ensures.total ∙ ap total_size c.layout.ensures) in
     c.in_ok-try_input.ensures.found before c.loop-turn.invariant
-    ∙ ap (λ (x : List ℤ). found p q k n (before ++ x ∷ [])) here
-    ∙ ap (found p q k n) (sym (map-range_with_len_more (drawn_by d.low d.high cells) d.seed turn (d.seed + turn) refl))
+    ∙ ap (λ (x : List ℤ). found p q k n m (before ++ x ∷ [])) here
+    ∙ ap (found p q k n m) (sym (map-range_with_len_more (drawn_by d.low d.high cells) d.seed turn (d.seed + turn) refl))

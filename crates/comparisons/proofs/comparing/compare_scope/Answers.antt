@@ -11,6 +11,7 @@ trying-preserved c =
     let q = c.args.second.now in
     let k = c.args.compared.now in
     let n = c.args.bound in
+    let m = c.most_told-most.result in
     let all = inputs_of c.args.scope in
     let here = c.values-input.result.now in
     let old = c.trying.inputs in
@@ -22,8 +23,8 @@ trying-preserved c =
     let is : left ≡ here ∷ rest = c.advance.ensures.left ∙ ap (λ (x : List ℤ). x ∷ rest) (sym c.values-input.ensures.values) in
     record {
       same = c.advance.ensures.same ∙ c.trying.invariant.same;
-      so_far = subst (λ (t : Scope). Gone p q k n all (inputs_left t new.over new.input.items) g) (sym c.advance.ensures.same)
-          (further p q k n all left rest here f g c.trying.invariant.so_far is c.in_ok-try_input.ensures.found);
+      so_far = subst (λ (t : Scope). Gone p q k n m all (inputs_left t new.over new.input.items) g) (sym c.advance.ensures.same)
+          (further p q k n m all left rest here f g c.trying.invariant.so_far is c.in_ok-try_input.ensures.found);
     }
 
 pub trying-smaller : goal.trying-smaller

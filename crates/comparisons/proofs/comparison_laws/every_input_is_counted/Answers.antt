@@ -6,4 +6,4 @@ pub returns-clause-outcome : goal.returns-clause-outcome
 returns-clause-outcome c = λ p n input v. outcome_is_computed p input n v
 
 pub returns-clause-once : goal.returns-clause-once
-returns-clause-once c = λ p q k n inputs. counted p q k n inputs
+returns-clause-once c = λ p q k n most inputs. counted p q k n inputs
