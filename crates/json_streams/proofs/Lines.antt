@@ -12,7 +12,7 @@ use Rattle.json_streams.specs.Streams.{Breaks, PrintsJson, Streams, facts_behind
 -- it is asked for, or not
 facts_by : (a : Asked) (c : ℕ) (e : Entry) (b : Bool) → is_told a.first a.last c ≡ b → facts_if a c e ≡ (if b then facts_of a c e ∷ [] else [])
 facts_by a c e b h =
-    facts_are a.layout.now a.tree.now a.first a.last c e ∙ ap (λ b. if b then facts_of a c e ∷ [] else []) h
+    facts_are a.layout.now a.tree.now a.source.now a.first a.last c e ∙ ap (λ b. if b then facts_of a c e ∷ [] else []) h
 
 -- it isn't, and passes
 pub passes_by : (a : Asked) (c late : ℕ) (s t : Printing) (e : Entry) → is_told a.first a.last c ≡ false → late ≡ one_more a.last c → t ≡ s →

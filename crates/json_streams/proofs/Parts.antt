@@ -43,7 +43,7 @@ module _ (a : Asked) (c : ℕ) (s t u : Printing) (first : List Entry) (next : E
     rest = rest;
     whole = whole ∙ sym (append_assoc first (next ∷ []) rest);
     prints = json_as s u (facts_behind a c first ++ facts_behind a (passed a.last c first) (next ∷ []))
-        (facts_behind a c (first ++ next ∷ [])) (facts_both a.layout.now a.tree.now a.first a.last c first (next ∷ []))
+        (facts_behind a c (first ++ next ∷ [])) (facts_both a.layout.now a.tree.now a.source.now a.first a.last c first (next ∷ []))
         (json_then s t u (facts_behind a c first) (facts_behind a (passed a.last c first) (next ∷ [])) told p);
   }
 
@@ -75,17 +75,17 @@ module _ {S : Type 0} (asked : S → Asked) (name count : S → ℕ) (at : S →
 -- ---- of a whole run, from a writer that had not failed
 
 module _ (a : Asked) (layout : List SharedEntry) (tree : ProgramTree) (l : a.layout.now ≡ layout) (t : a.tree.now ≡ tree) where
-  said : (es : List Entry) (text : List ℕ) → IsJson (facts_behind a 0 es) text → IsJson (steps_from layout tree a.first a.last 1 es) text
-  said es text json = subst (λ tree. IsJson (steps_from layout tree a.first a.last 1 es) text) t
-      (subst (λ layout. IsJson (steps_from layout a.tree.now a.first a.last 1 es) text) l json)
+  said : (es : List Entry) (text : List ℕ) → IsJson (facts_behind a 0 es) text → IsJson (steps_from layout tree a.source.now a.first a.last 1 es) text
+  said es text json = subst (λ tree. IsJson (steps_from layout tree a.source.now a.first a.last 1 es) text) t
+      (subst (λ layout. IsJson (steps_from layout a.tree.now a.source.now a.first a.last 1 es) text) l json)
 
   pub all_written : (late : ℕ) (s u : OutState) (g : Bool) (es : List Entry) → Streams a 0 late (printing s false) (printing u g) es →
-      WroteJson s u (steps_from layout tree a.first a.last 1 es)
+      WroteJson s u (steps_from layout tree a.source.now a.first a.last 1 es)
   all_written late s u g es h =
       record { text = h.prints.text; json = said es h.prints.text h.prints.json; written = finished h.prints.printed h.kept }
 
   pub write_failed : (s u : OutState) (g : Bool) (es : List Entry) → PrintsFirst a 0 (printing s false) (printing u g) es → g ≡ true →
-      StopsInFirst s u (steps_from layout tree a.first a.last 1) es
+      StopsInFirst s u (steps_from layout tree a.source.now a.first a.last 1) es
   write_failed s u g es p failed = record {
     first = p.first;
     rest = p.rest;
@@ -96,7 +96,7 @@ module _ (a : Asked) (layout : List SharedEntry) (tree : ProgramTree) (l : a.lay
   }
 
   pub first_written : (s u : OutState) (g : Bool) (es : List Entry) → PrintsFirst a 0 (printing s false) (printing u g) es → g ≡ false →
-      WroteFirstJson s u (steps_from layout tree a.first a.last 1) es
+      WroteFirstJson s u (steps_from layout tree a.source.now a.first a.last 1) es
   first_written s u g es p ok = record {
     first = p.first;
     rest = p.rest;

@@ -31,43 +31,43 @@ none_passes : (last c : ℕ) (es : List Entry) → nat_lt c last ≡ false → p
 none_passes last c [] h = refl
 none_passes last c (e ∷ es) h = ap (λ b. passed last (if b then c + 1 else c) es) h ∙ none_passes last c es h
 
-module _ (layout : List SharedEntry) (tree : ProgramTree) (first last : ℕ) where
+module _ (layout : List SharedEntry) (tree : ProgramTree) (source : List ℕ) (first last : ℕ) where
   -- the entry behind c others
-  pub facts_are : (c : ℕ) (e : Entry) → step_within layout tree first last (c + 1) e
-      ≡ (if is_told first last c then step_facts layout tree (c + 1) e ∷ [] else [])
+  pub facts_are : (c : ℕ) (e : Entry) → step_within layout tree source first last (c + 1) e
+      ≡ (if is_told first last c then step_facts layout tree source (c + 1) e ∷ [] else [])
   facts_are c e =
-      let told : Bool → List Data = λ b. if b then step_facts layout tree (c + 1) e ∷ [] else [] in
+      let told : Bool → List Data = λ b. if b then step_facts layout tree source (c + 1) e ∷ [] else [] in
       ap told (swapped (nat_le first (c + 1)) (nat_le (c + 1) last)
       ∙ ap (λ b. b && nat_le first (c + 1)) (sym (within_is last c (nat_lt c last) refl)))
 
-  nothing_past : (c : ℕ) (e : Entry) → last ≤ c → step_within layout tree first last (c + 1) e ≡ []
+  nothing_past : (c : ℕ) (e : Entry) → last ≤ c → step_within layout tree source first last (c + 1) e ≡ []
   nothing_past c e l = facts_are c e
-      ∙ ap (λ b. if b && nat_le first (c + 1) then step_facts layout tree (c + 1) e ∷ [] else []) (le-ltb c last l)
+      ∙ ap (λ b. if b && nat_le first (c + 1) then step_facts layout tree source (c + 1) e ∷ [] else []) (le-ltb c last l)
 
-  no_facts_past : (c : ℕ) (es : List Entry) → last ≤ c → steps_from layout tree first last (c + 1) es ≡ []
+  no_facts_past : (c : ℕ) (es : List Entry) → last ≤ c → steps_from layout tree source first last (c + 1) es ≡ []
   no_facts_past c [] l = refl
-  no_facts_past c (e ∷ es) l = ap (λ ds. ds ++ steps_from layout tree first last ((c + 1) + 1) es) (nothing_past c e l)
+  no_facts_past c (e ∷ es) l = ap (λ ds. ds ++ steps_from layout tree source first last ((c + 1) + 1) es) (nothing_past c e l)
       ∙ no_facts_past (c + 1) es (omega (arith, l))
 
-  pub facts_both : (c : ℕ) (xs ys : List Entry) → steps_from layout tree first last (c + 1) (xs ++ ys)
-      ≡ steps_from layout tree first last (c + 1) xs ++ steps_from layout tree first last (passed last c xs + 1) ys
+  pub facts_both : (c : ℕ) (xs ys : List Entry) → steps_from layout tree source first last (c + 1) (xs ++ ys)
+      ≡ steps_from layout tree source first last (c + 1) xs ++ steps_from layout tree source first last (passed last c xs + 1) ys
   facts_both c [] ys = refl
-  facts_both c (x ∷ xs) ys = ap (λ ds. step_within layout tree first last (c + 1) x ++ ds)
+  facts_both c (x ∷ xs) ys = ap (λ ds. step_within layout tree source first last (c + 1) x ++ ds)
       (by (nat_lt c last) refl (facts_both (c + 1) xs ys))
-      ∙ sym (append_assoc (step_within layout tree first last (c + 1) x) (steps_from layout tree first last ((c + 1) + 1) xs)
-      (steps_from layout tree first last (passed last (one_more last c) xs + 1) ys))
+      ∙ sym (append_assoc (step_within layout tree source first last (c + 1) x) (steps_from layout tree source first last ((c + 1) + 1) xs)
+      (steps_from layout tree source first last (passed last (one_more last c) xs + 1) ys))
     where
-      by : (b : Bool) → nat_lt c last ≡ b → steps_from layout tree first last ((c + 1) + 1) (xs ++ ys)
-          ≡ steps_from layout tree first last ((c + 1) + 1) xs ++ steps_from layout tree first last (passed last (c + 1) xs + 1) ys →
-          steps_from layout tree first last ((c + 1) + 1) (xs ++ ys) ≡ steps_from layout tree first last ((c + 1) + 1) xs
-          ++ steps_from layout tree first last (passed last (if b then c + 1 else c) xs + 1) ys
+      by : (b : Bool) → nat_lt c last ≡ b → steps_from layout tree source first last ((c + 1) + 1) (xs ++ ys)
+          ≡ steps_from layout tree source first last ((c + 1) + 1) xs ++ steps_from layout tree source first last (passed last (c + 1) xs + 1) ys →
+          steps_from layout tree source first last ((c + 1) + 1) (xs ++ ys) ≡ steps_from layout tree source first last ((c + 1) + 1) xs
+          ++ steps_from layout tree source first last (passed last (if b then c + 1 else c) xs + 1) ys
       by true h go = go
       by false h go =
           let l : last ≤ c = ltb-false c last h in
           let m : last ≤ c + 1 = omega (arith, l) in
           no_facts_past (c + 1) (xs ++ ys) m
-          ∙ sym (ap (λ ds. ds ++ steps_from layout tree first last (passed last c xs + 1) ys) (no_facts_past (c + 1) xs m)
-          ∙ ap (λ c. steps_from layout tree first last (c + 1) ys) (none_passes last c xs h)
+          ∙ sym (ap (λ ds. ds ++ steps_from layout tree source first last (passed last c xs + 1) ys) (no_facts_past (c + 1) xs m)
+          ∙ ap (λ c. steps_from layout tree source first last (c + 1) ys) (none_passes last c xs h)
           ∙ no_facts_past c ys l)
 
 -- ---- lines that are printed
@@ -99,7 +99,7 @@ behind_both : (a : Asked) (count between late : ℕ) (s t u : Printing) (xs ys :
 behind_both a count between late s t u xs ys h g = record {
   counted = g.counted ∙ ap (λ c. passed a.last c ys) h.counted ∙ sym (passed_both a.last count xs ys);
   prints = json_as s u (facts_behind a count xs ++ facts_behind a (passed a.last count xs) ys) (facts_behind a count (xs ++ ys))
-      (facts_both a.layout.now a.tree.now a.first a.last count xs ys)
+      (facts_both a.layout.now a.tree.now a.source.now a.first a.last count xs ys)
       (json_then s t u (facts_behind a count xs) (facts_behind a (passed a.last count xs) ys) h.prints
       (subst (λ c. PrintsJson t u (facts_behind a c ys)) h.counted g.prints));
   kept = g.kept ∙ h.kept;

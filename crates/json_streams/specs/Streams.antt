@@ -10,15 +10,15 @@ use Rattle.json_streams.specs.declared.asked.Asked.{Asked}
 
 -- the facts of the entry behind so many that were counted
 abbrev pub facts_of : Asked → (count : ℕ) → Entry → Data
-facts_of a count e = step_facts a.layout.now a.tree.now (count + 1) e
+facts_of a count e = step_facts a.layout.now a.tree.now a.source.now (count + 1) e
 
 -- those, where they are asked for
 abbrev pub facts_if : Asked → (count : ℕ) → Entry → List Data
-facts_if a count e = step_within a.layout.now a.tree.now a.first a.last (count + 1) e
+facts_if a count e = step_within a.layout.now a.tree.now a.source.now a.first a.last (count + 1) e
 
 -- those of some entries behind so many
 abbrev pub facts_behind : Asked → (count : ℕ) → List Entry → List Data
-facts_behind a count es = steps_from a.layout.now a.tree.now a.first a.last (count + 1) es
+facts_behind a count es = steps_from a.layout.now a.tree.now a.source.now a.first a.last (count + 1) es
 
 -- lines that say these facts were printed, as far as the writer took them
 pub record PrintsJson (old new : Printing) (facts : List Data) : Type 0 where

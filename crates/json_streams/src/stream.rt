@@ -55,11 +55,18 @@ impl<'a, W: Out> Stream<'a, W> {
     fn line(&self, entry: &Entry) -> Result<String, AllocError>
         requires few { self.now.count < 2 ^ 64 - 1 }
         ensures json { IfOk result (λ line. IsJson
-            (step_facts self.now.asked.layout.now self.now.asked.tree.now (self.now.count + 1) (entry_is entry.now) ∷ [])
-            (string_bytes line)) }
+            (step_facts self.now.asked.layout.now self.now.asked.tree.now self.now.asked.source.now (self.now.count + 1)
+            (entry_is entry.now) ∷ []) (string_bytes line)) }
     {
         let asked = &self.asked;
-        json_step(self.alloc, asked.layout, asked.tree, self.count + 1, entry)
+        json_step(
+            self.alloc,
+            asked.layout,
+            asked.tree,
+            asked.source,
+            self.count + 1,
+            entry,
+        )
     }
 
     // That line is written, where the writer has not failed.

@@ -50,13 +50,14 @@ fn run_into<'a, W: Out>(
 /// Runs a program on an input, for at most `bound` statements, and writes each entry whose number, counted from 1, goes from `first` to
 /// `last` as soon as its statement has run, as a line of JSON, as [`json_texts::json_steps`] makes them of entries that are kept. No entry is
 /// kept, and a line no longer than it takes to write it: beside the run it takes the memory of one statement. Behind `last` no more entries
-/// are made, and the run goes on to its outcome.
+/// are made, and the run goes on to its outcome. `source` is the text that was read as the program, in which statements have their columns.
 ///
 /// E11 where there are more values than cells, and then nothing is written; E17 where the writer failed, which ends the run; E16 only where
 /// memory was refused, behind the lines of the statements before.
 pub fn stream_json<W: Out>(
     alloc: Global,
     program: &Program,
+    source: &[u8],
     input: &[i64],
     bound: u32,
     first: usize,
@@ -68,11 +69,12 @@ pub fn stream_json<W: Out>(
     ensures fits { OnOk result (length input.now ≤ total_size program.now.layout) }
     ensures too_long { (result ≡ Err StreamFailure.InputTooLong) ↔ (total_size program.now.layout < length input.now) }
     ensures written { HasStreamedJson (W.Out.state out.old) (W.Out.state out.new)
-        (steps_from program.now.layout program.now.tree first last 1) (run_entries program.now input.now bound) result }
+        (steps_from program.now.layout program.now.tree source.now first last 1) (run_entries program.now input.now bound) result }
 {
     let asked = Asked {
         layout: program.layout(),
         tree: program.tree(),
+        source,
         first,
         last,
     };

@@ -1,6 +1,7 @@
 -- That what is told of two programs on the same inputs can be read.
-use Rattle.std.proofs.Common.{ℕ, ℤ, List, [], ◌∷◌, ◌++◌, codes, lit≤}
-use Rattle.std.specs.Prelude.{Option, Some, None}
+use Rattle.std.proofs.Common.{ℕ, ◌-◌, nat_lt, Bool, true, false, ℤ, List, [], ◌∷◌, ◌++◌, codes, length, lit≤}
+use Rattle.std.specs.Prelude.{Option, Some, None, if◌then◌else◌}
+use Rattle.json_lines.specs.Facts.{large}
 use Rattle.json_lines.specs.Small.{IsReadable, IsSmall}
 use Rattle.json_lines.proofs.Small.{HasSmall, has_all, small_large, small_letters, small_object, small_value, small_values, small_word, smaller}
 use Rattle.pram_model.specs.Layout.{SharedEntry}
@@ -9,8 +10,8 @@ use Rattle.comparisons.specs.declared.difference.Difference.{Difference}
 use Rattle.comparisons.specs.declared.difference.Difference.TheVariants as differ
 use Rattle.comparisons.specs.declared.difference.Ending.{Ending}
 use Rattle.comparisons.specs.declared.difference.Ending.TheVariants as ending
-use Rattle.json_texts.specs.PairFacts.{both_fields, difference_fields, differing_fields, ending_facts, ending_fields, excess_fields}
-use Rattle.json_texts.specs.PairFacts.{pair_facts, pair_fields, value_fields}
+use Rattle.json_texts.specs.PairFacts.{both_fields, difference_fields, differing_facts, differing_fields, ending_facts, ending_fields}
+use Rattle.json_texts.specs.PairFacts.{excess_fields, first_fields, found_fields, pair_fields, told_fields, value_fields, whole_facts}
 use Rattle.json_texts.proofs.Readable.{readable, small_fault}
 
 small_one : (name : List ℕ) (x : Option ℤ) → HasSmall 3 (value_fields name x)
@@ -39,10 +40,25 @@ small_difference first second (differ.Cell cell x y) = (small_word 3 _, (small_l
 small_difference first second (differ.Time taken limit) = small_excess (codes "time") taken limit
 small_difference first second (differ.Work taken limit) = small_excess (codes "work") taken limit
 
-small_differing : (first second : List SharedEntry) (d : Option Differing) → HasSmall 3 (differing_fields first second d)
-small_differing first second None = tt
-small_differing first second (Some d) = (small_values 2 d.input, small_difference first second d.difference)
+small_differing : (first second : List SharedEntry) (d : Differing) → HasSmall 3 (differing_fields first second d)
+small_differing first second d = (small_values 2 d.input, small_difference first second d.difference)
 
-pub readable_pair : (first second : List SharedEntry) (f : Found) → IsReadable (pair_facts first second f)
-readable_pair first second f =
-    readable (pair_fields first second f) (small_large 3 f.inputs, (small_large 3 f.same, small_differing first second f.first))
+pub readable_differing : (first second : List SharedEntry) (d : Differing) → IsReadable (differing_facts first second d)
+readable_differing first second d = readable (differing_fields first second d) (small_differing first second d)
+
+small_first : (first second : List SharedEntry) (told : List Differing) → HasSmall 3 (first_fields first second told)
+small_first first second [] = tt
+small_first first second (d ∷ told) = small_differing first second d
+
+small_told_if : (many : ℕ) (b : Bool) → HasSmall 3 (if b then (codes "told", large many) ∷ [] else [])
+small_told_if many true = (small_large 3 many, tt)
+small_told_if many false = tt
+
+small_found : (first second : List SharedEntry) (f : Found) → HasSmall 3 (found_fields first second f)
+small_found first second f =
+    has_all 3 (told_fields f) (first_fields first second f.told)
+    (small_told_if (length f.told) (nat_lt (length f.told) (f.inputs - f.same))) (small_first first second f.told)
+
+pub readable_whole : (first second : List SharedEntry) (f : Found) → IsReadable (whole_facts first second f)
+readable_whole first second f =
+    readable (pair_fields first second f) (small_large 3 f.inputs, (small_large 3 f.same, small_found first second f))

@@ -31,7 +31,7 @@ use Rattle.pram_trees.specs.Program.{ProgramTree}
 use Rattle.step_entries.specs.Causes as told
 use Rattle.step_entries.specs.Entries.{Act, Entry, Faulting, Ran}
 use Rattle.json_texts.specs.AcceptedFacts.{accepted_facts, accepted_fields}
-use Rattle.json_texts.specs.CostFacts.{bound_fields, cost_facts, cost_fields, line_facts, line_fields, round_fields}
+use Rattle.json_texts.specs.CostFacts.{bound_fields, cost_facts, cost_fields, line_facts, line_fields, most_fields, round_fields}
 use Rattle.memory_texts.specs.Chosen.{chosen}
 use Rattle.memory_texts.specs.declared.choice.Choice.{Choice}
 use Rattle.memory_texts.specs.declared.choice.Choice.TheVariants.{All}
@@ -40,6 +40,7 @@ use Rattle.json_texts.specs.RefusalFacts.{cause_fields, place_fields, reason_fie
 use Rattle.json_texts.specs.RuleFacts.{comparison_facts, declared_fields, finding_fields, rule_facts}
 use Rattle.json_texts.specs.ActFacts.{act_facts, cell_fact, processor_fact, write_fact}
 use Rattle.json_texts.specs.CauseFacts.{beyond_fields, known_fields, why_fields, write_facts}
+use Rattle.text_places.specs.Places.{place_of}
 use Rattle.json_texts.specs.StepFacts.{change_facts, local_facts, step_facts, told_fields, variable_facts}
 
 -- ---- outcomes
@@ -131,10 +132,14 @@ readable_stop source why = readable (stop_fields source why) (small_stop source 
 
 -- ---- costs
 
+pub small_most : (n exchanges : ℕ) (words : Option ℕ) → HasSmall n (most_fields exchanges words)
+small_most n exchanges None = (small_large n exchanges, tt)
+small_most n exchanges (Some words) = (small_large n exchanges, (small_large n words, tt))
+
 small_bound : (v : Verdict) (c : Cost) → HasSmall 3 (bound_fields v c)
-small_bound (Ended output memory) c = (small_large 3 c.most_exchanges, tt)
+small_bound (Ended output memory) c = small_most 3 c.most_exchanges c.most_words
 small_bound (Faulted fault output) c = tt
-small_bound (GoesOn output) c = (small_large 3 c.most_exchanges, tt)
+small_bound (GoesOn output) c = small_most 3 c.most_exchanges c.most_words
 
 small_rounds : (c : Cost) (schedule : Option ℕ) → HasSmall 3 (round_fields c schedule)
 small_rounds c None = tt
@@ -257,38 +262,45 @@ small_known : (layout : List SharedEntry) (c : Option told.Cause) → HasSmall 3
 small_known layout None = tt
 small_known layout (Some c) = small_cause_of layout c
 
-small_told : (layout : List SharedEntry) (tree : ProgramTree) (e : Entry) → HasSmall 3 (told_fields layout tree e)
-small_told layout tree (Ran here acts cells variables locals items) = (
+small_told : (layout : List SharedEntry) (tree : ProgramTree) (source : List ℕ) (e : Entry) → HasSmall 3 (told_fields layout tree source e)
+small_told layout tree source (Ran here acts cells variables locals items) = (
   small_count 3 here.line,
   (
-    small_count 3 (length acts),
+    small_count 3 (place_of source here.offset).column,
     (
-      small_acts layout acts,
+      small_count 3 (length acts),
       (
-        smaller 2 3 _ (lit≤ tt)
-            (small_list 1 (map (change_facts layout) cells) (small_map 1 (change_facts layout) (small_change layout) cells)),
+        small_acts layout acts,
         (
           smaller 2 3 _ (lit≤ tt)
-              (small_list 1 (map (variable_facts tree) variables) (small_map 1 (variable_facts tree) (small_variable tree) variables)),
+              (small_list 1 (map (change_facts layout) cells) (small_map 1 (change_facts layout) (small_change layout) cells)),
           (
-            smaller 2 3 _ (lit≤ tt) (small_list 1 (map (local_facts tree here.offset) locals)
-                (small_map 1 (local_facts tree here.offset) (small_local tree here.offset) locals)),
-            (small_values 2 items, tt),
+            smaller 2 3 _ (lit≤ tt)
+                (small_list 1 (map (variable_facts tree) variables) (small_map 1 (variable_facts tree) (small_variable tree) variables)),
+            (
+              smaller 2 3 _ (lit≤ tt) (small_list 1 (map (local_facts tree here.offset) locals)
+                  (small_map 1 (local_facts tree here.offset) (small_local tree here.offset) locals)),
+              (small_values 2 items, tt),
+            ),
           ),
         ),
       ),
     ),
   ),
 )
-small_told layout tree (Faulting here fault cause acts met) = (
-  small_values 2 met,
+small_told layout tree source (Faulting here fault cause acts met) = (
+  small_count 3 (place_of source here.offset).column,
   (
-    small_acts layout acts,
-    has_all 3 (fault_fields layout fault) (known_fields layout cause) (small_fault 3 layout fault)
-        (small_known layout cause),
+    small_values 2 met,
+    (
+      small_acts layout acts,
+      has_all 3 (fault_fields layout fault) (known_fields layout cause) (small_fault 3 layout fault)
+          (small_known layout cause),
+    ),
   ),
 )
 
-pub readable_step : (layout : List SharedEntry) (tree : ProgramTree) (number : ℕ) (e : Entry) → IsReadable (step_facts layout tree number e)
-readable_step layout tree number e =
-    readable ((codes "step", _) ∷ told_fields layout tree e) (small_count 3 number, small_told layout tree e)
+pub readable_step : (layout : List SharedEntry) (tree : ProgramTree) (source : List ℕ) (number : ℕ) (e : Entry) →
+    IsReadable (step_facts layout tree source number e)
+readable_step layout tree source number e =
+    readable ((codes "step", _) ∷ told_fields layout tree source e) (small_count 3 number, small_told layout tree source e)

@@ -1,5 +1,5 @@
 -- That what is told of a sweep can be read.
-use Rattle.std.proofs.Common.{ℕ, List, ◌∷◌, codes, lit≤}
+use Rattle.std.proofs.Common.{ℕ, List, ◌∷◌, ◌++◌, codes, lit≤}
 use Rattle.json_lines.specs.Small.{IsReadable}
 use Rattle.json_lines.proofs.Small.{HasSmall, has_all, small_count, small_large, small_letters, small_object, small_word, smaller}
 use Rattle.growth_formulas.specs.declared.growth.Growth.{Growth}
@@ -9,14 +9,20 @@ use Rattle.sweep_texts.specs.declared.size_row.Counts.{Counts}
 use Rattle.sweep_texts.specs.declared.size_row.Ending.{Ending}
 use Rattle.sweep_texts.specs.declared.size_row.Ending.TheVariants.{Ended, GoesOn, Faulted, Refused}
 use Rattle.sweep_texts.specs.declared.size_row.SizeRow.{SizeRow}
+use Rattle.json_texts.specs.CostFacts.{most_fields}
+use Rattle.json_texts.proofs.Readable.{small_most}
 use Rattle.json_texts.specs.SweepFacts.{count_fields, ending_fields, growth_fields, growths_facts, growths_fields, row_facts}
 
 small_counts_of : (n : ℕ) (c : Counts) → HasSmall n (count_fields c)
 small_counts_of n c = (small_count n _, (small_large n _, (small_count n _, (small_large n _, (small_large n _, tt)))))
 
+small_run : (n : ℕ) (c : Counts) → HasSmall n (most_fields c.most_exchanges c.most_words ++ count_fields c)
+small_run n c =
+    has_all n (most_fields c.most_exchanges c.most_words) (count_fields c) (small_most n c.most_exchanges c.most_words) (small_counts_of n c)
+
 small_ending : (n : ℕ) (e : Ending) → HasSmall n (ending_fields e)
-small_ending n (Ended c) = (small_word n _, (small_large n _, small_counts_of n c))
-small_ending n (GoesOn c) = (small_word n _, (small_large n _, small_counts_of n c))
+small_ending n (Ended c) = (small_word n _, small_run n c)
+small_ending n (GoesOn c) = (small_word n _, small_run n c)
 small_ending n (Faulted c fault) = (small_word n _, (small_letters n _, small_counts_of n c))
 small_ending n (Refused refusal) = (small_word n _, (small_letters n _, tt))
 

@@ -13,11 +13,16 @@ work_fields c =
     (codes "time", count c.time) ∷ (codes "work", large c.work) ∷ (codes "width", count c.width) ∷ (codes "reads", large c.reads)
     ∷ (codes "writes", large c.writes) ∷ []
 
--- the most exchanges, where the run doesn't fault
+-- the most exchanges, and the most words where a number of workers was given
+abbrev pub most_fields : (exchanges : ℕ) (words : Option ℕ) → List Field
+most_fields exchanges None = (codes "exchanges_at_most", large exchanges) ∷ []
+most_fields exchanges (Some words) = (codes "exchanges_at_most", large exchanges) ∷ (codes "words_at_most", large words) ∷ []
+
+-- both are told where the run doesn't fault
 abbrev pub bound_fields : Verdict → Cost → List Field
-bound_fields (Ended output memory) c = (codes "exchanges_at_most", large c.most_exchanges) ∷ []
+bound_fields (Ended output memory) c = most_fields c.most_exchanges c.most_words
 bound_fields (Faulted fault output) c = []
-bound_fields (GoesOn output) c = (codes "exchanges_at_most", large c.most_exchanges) ∷ []
+bound_fields (GoesOn output) c = most_fields c.most_exchanges c.most_words
 
 -- the rounds on so many processors, and what Brent's principle allows
 abbrev pub round_fields : Cost → Option ℕ → List Field

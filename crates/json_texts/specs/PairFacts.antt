@@ -1,5 +1,5 @@
 -- What JSON says of what is found of two programs on the same inputs.
-use Rattle.std.specs.Prelude.{ℕ, ℤ, List, [], ◌∷◌, ◌++◌, Option, Some, None, codes}
+use Rattle.std.specs.Prelude.{ℕ, ◌-◌, nat_lt, if◌then◌else◌, ℤ, List, [], ◌∷◌, ◌++◌, Option, Some, None, codes, length, map}
 use Rattle.serde_json.specs.Data.{Data}
 use Rattle.json_lines.specs.Facts.{Field, large, letters, object_of, value, values, word}
 use Rattle.pram_model.specs.Layout.{SharedEntry}
@@ -56,15 +56,33 @@ difference_fields first second (differ.Cell cell x y) = cell_fields first cell x
 difference_fields first second (differ.Time taken limit) = excess_fields (codes "time") taken limit
 difference_fields first second (differ.Work taken limit) = excess_fields (codes "work") taken limit
 
--- the first input on which they differ, where there is one, and what differs on it
-abbrev pub differing_fields : (first second : List SharedEntry) → Option Differing → List Field
-differing_fields first second None = []
-differing_fields first second (Some d) = (codes "input", values d.input) ∷ difference_fields first second d.difference
+-- an input on which they differ, and what differs on it
+abbrev pub differing_fields : (first second : List SharedEntry) → Differing → List Field
+differing_fields first second d = (codes "input", values d.input) ∷ difference_fields first second d.difference
+
+abbrev pub differing_facts : (first second : List SharedEntry) → Differing → Data
+differing_facts first second d = object_of (differing_fields first second d)
+
+-- of those that are told the first
+abbrev pub first_fields : (first second : List SharedEntry) → List Differing → List Field
+first_fields first second [] = []
+first_fields first second (d ∷ told) = differing_fields first second d
+
+-- how many are told, where they differ on more
+abbrev pub told_fields : Found → List Field
+told_fields f = if nat_lt (length f.told) (f.inputs - f.same) then (codes "told", large (length f.told)) ∷ [] else []
+
+abbrev pub found_fields : (first second : List SharedEntry) → Found → List Field
+found_fields first second f = told_fields f ++ first_fields first second f.told
 
 -- how many inputs there are, and on how many both come to the same
 abbrev pub pair_fields : (first second : List SharedEntry) → Found → List Field
 pair_fields first second f =
-    (codes "inputs", large f.inputs) ∷ (codes "same", large f.same) ∷ differing_fields first second f.first
+    (codes "inputs", large f.inputs) ∷ (codes "same", large f.same) ∷ found_fields first second f
 
-abbrev pub pair_facts : (first second : List SharedEntry) → Found → Data
-pair_facts first second f = object_of (pair_fields first second f)
+abbrev pub whole_facts : (first second : List SharedEntry) → Found → Data
+whole_facts first second f = object_of (pair_fields first second f)
+
+-- a line for each input that is told, and one for the whole
+abbrev pub pair_facts : (first second : List SharedEntry) → Found → List Data
+pair_facts first second f = map (differing_facts first second) f.told ++ whole_facts first second f ∷ []

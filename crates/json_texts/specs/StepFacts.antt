@@ -10,6 +10,7 @@ use Rattle.step_entries.specs.declared.change.Change.{Change}
 use Rattle.step_entries.specs.declared.local_change.LocalChange.{LocalChange}
 use Rattle.step_entries.specs.Entries.{Act, Entry, Faulting, Ran}
 use Rattle.step_entries.specs.Causes.{Cause}
+use Rattle.text_places.specs.Places.{place_of}
 use Rattle.write_rules.specs.declared.fault.Fault.{Fault}
 use Rattle.write_rules.specs.Verdict.{Verdict}
 use Rattle.json_texts.specs.ActFacts.{act_facts}
@@ -39,28 +40,35 @@ faulting_fields layout fault cause acts met =
     (codes "met", values met) ∷ (codes "acts", list (map (act_facts layout) acts))
     ∷ (fault_fields layout fault ++ known_fields layout cause)
 
--- what is told of a statement: its line, how many processors executed it and what each did, the cells, the uniform variables and the
--- locals that changed, and what it printed; or its fault
-abbrev pub told_fields : List SharedEntry → ProgramTree → Entry → List Field
-told_fields layout tree (Ran here acts cells variables locals items) =
-    (codes "line", count here.line) ∷ (codes "processors", count (length acts)) ∷ (codes "acts", list (map (act_facts layout) acts))
+-- the column of a statement that stands at that offset of the program's text
+abbrev pub column_field : (source : List ℕ) → (at : ℕ) → Field
+column_field source at = (codes "column", count (place_of source at).column)
+
+-- what is told of a statement: its line and its column, how many processors executed it and what each did, the cells, the uniform
+-- variables and the locals that changed, and what it printed; or its column and its fault
+abbrev pub told_fields : List SharedEntry → ProgramTree → (source : List ℕ) → Entry → List Field
+told_fields layout tree source (Ran here acts cells variables locals items) =
+    (codes "line", count here.line) ∷ column_field source here.offset ∷ (codes "processors", count (length acts))
+    ∷ (codes "acts", list (map (act_facts layout) acts))
     ∷ (codes "changes", list (map (change_facts layout) cells)) ∷ (codes "variables", list (map (variable_facts tree) variables))
     ∷ (codes "locals", list (map (local_facts tree here.offset) locals)) ∷ (codes "printed", values items) ∷ []
-told_fields layout tree (Faulting here fault cause acts met) = faulting_fields layout fault cause acts met
+told_fields layout tree source (Faulting here fault cause acts met) =
+    column_field source here.offset ∷ faulting_fields layout fault cause acts met
 
-abbrev pub step_facts : List SharedEntry → ProgramTree → ℕ → Entry → Data
-step_facts layout tree number e = object_of ((codes "step", count number) ∷ told_fields layout tree e)
+abbrev pub step_facts : List SharedEntry → ProgramTree → (source : List ℕ) → ℕ → Entry → Data
+step_facts layout tree source number e = object_of ((codes "step", count number) ∷ told_fields layout tree source e)
 
 -- that, where its number is asked for
-abbrev pub step_within : List SharedEntry → ProgramTree → (first last number : ℕ) → Entry → List Data
-step_within layout tree first last number e = if nat_le first number && nat_le number last then step_facts layout tree number e ∷ [] else []
+abbrev pub step_within : List SharedEntry → ProgramTree → (source : List ℕ) → (first last number : ℕ) → Entry → List Data
+step_within layout tree source first last number e =
+    if nat_le first number && nat_le number last then step_facts layout tree source number e ∷ [] else []
 
 -- those of entries that are numbered from this on
-abbrev pub steps_from : List SharedEntry → ProgramTree → (first last number : ℕ) → List Entry → List Data
-steps_from layout tree first last number [] = []
-steps_from layout tree first last number (e ∷ es) =
-    step_within layout tree first last number e ++ steps_from layout tree first last (number + 1) es
+abbrev pub steps_from : List SharedEntry → ProgramTree → (source : List ℕ) → (first last number : ℕ) → List Entry → List Data
+steps_from layout tree source first last number [] = []
+steps_from layout tree source first last number (e ∷ es) =
+    step_within layout tree source first last number e ++ steps_from layout tree source first last (number + 1) es
 
 -- those whose numbers, counted from 1, go from `first` to `last`, and behind them the outcome
-abbrev pub steps_facts : List SharedEntry → ProgramTree → Verdict → List Entry → (first last : ℕ) → List Data
-steps_facts layout tree v es first last = steps_from layout tree first last 1 es ++ outcome_facts layout v ∷ []
+abbrev pub steps_facts : List SharedEntry → ProgramTree → (source : List ℕ) → Verdict → List Entry → (first last : ℕ) → List Data
+steps_facts layout tree source v es first last = steps_from layout tree source first last 1 es ++ outcome_facts layout v ∷ []

@@ -9,6 +9,7 @@ use Rattle.sweep_texts.specs.declared.size_row.Counts.{Counts}
 use Rattle.sweep_texts.specs.declared.size_row.Ending.{Ending}
 use Rattle.sweep_texts.specs.declared.size_row.Ending.TheVariants.{Ended, GoesOn, Faulted, Refused}
 use Rattle.sweep_texts.specs.declared.size_row.SizeRow.{SizeRow}
+use Rattle.json_texts.specs.CostFacts.{most_fields}
 
 abbrev pub count_fields : Counts → List Field
 count_fields c =
@@ -17,9 +18,9 @@ count_fields c =
 
 -- how a run came out that didn't fault, and what it costs
 abbrev pub run_fields : (way : List ℕ) → Counts → List Field
-run_fields way c = (codes "outcome", word way) ∷ (codes "exchanges_at_most", large c.most_exchanges) ∷ count_fields c
+run_fields way c = (codes "outcome", word way) ∷ (most_fields c.most_exchanges c.most_words ++ count_fields c)
 
--- of a fault no exchanges are told
+-- of a fault neither exchanges nor words are told
 abbrev pub fault_fields : Counts → List ℕ → List Field
 fault_fields c fault = (codes "outcome", word (codes "fault")) ∷ (codes "fault", letters fault) ∷ count_fields c
 

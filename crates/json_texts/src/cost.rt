@@ -26,14 +26,31 @@ fn put_work(object: &mut Object, cost: &Cost) -> Result<(), AllocError>
     object.put_large("writes", u128::from(cost.writes))
 }
 
-// The most exchanges, where the run doesn't fault.
+/// The most exchanges, and the most words where they are told.
+pub(crate) fn put_most(
+    object: &mut Object,
+    exchanges: u128,
+    words: Option<u128>,
+) -> Result<(), AllocError>
+    ensures { OnOk result (shown object.new ≡ with_fields (spec.most_fields exchanges words) (shown object.old)) }
+{
+    match words {
+        None => object.put_large("exchanges_at_most", exchanges),
+        Some(words) => {
+            object.put_large("exchanges_at_most", exchanges)?;
+            object.put_large("words_at_most", words)
+        }
+    }
+}
+
+// Both, where the run doesn't fault.
 fn put_bound(object: &mut Object, outcome: &Outcome, cost: &Cost) -> Result<(), AllocError>
     ensures { OnOk result (shown object.new ≡ with_fields (spec.bound_fields (verdict_of outcome.now) cost.now) (shown object.old)) }
 {
     match outcome {
-        Outcome::Ended { .. } => object.put_large("exchanges_at_most", cost.most_exchanges),
+        Outcome::Ended { .. } => put_most(object, cost.most_exchanges, cost.most_words),
         Outcome::Faulted { .. } => Ok(()),
-        Outcome::GoesOn { .. } => object.put_large("exchanges_at_most", cost.most_exchanges),
+        Outcome::GoesOn { .. } => put_most(object, cost.most_exchanges, cost.most_words),
     }
 }
 
@@ -126,7 +143,7 @@ fn cost_value(
 }
 
 /// What a run with that outcome costs and then the outcome, on a line. Rounds are told where it is scheduled on some number of
-/// processors, and what each line costs where that is asked for.
+/// processors, the most words where the costs have them, and what each line costs where that is asked for.
 pub fn json_cost(
     alloc: Global,
     layout: &Layout,

@@ -1,17 +1,16 @@
 //! What is found of two programs on the same inputs.
 
-ghost use Rattle.std.specs.Prelude.{◌≡◌, ◌∷◌, [], IfOk, OnOk, string_bytes};
-ghost use Rattle.std.specs.Option.{option_map};
+ghost use Rattle.std.specs.Prelude.{◌≡◌, ◌∷◌, [], IfOk, OnOk, map, string_bytes};
 ghost use Rattle.serde_json.specs.View.{view};
 ghost use Rattle.comparisons.specs.Found.{differing_is, found_is};
 ghost use Rattle.json_lines.specs.Facts.{with_fields};
-ghost use Rattle.json_lines.specs.Lines.{IsJson};
+ghost use Rattle.json_lines.specs.Lines.{Adds, IsJson};
 ghost use Rattle.json_lines.specs.Shown.{shown};
 ghost use Rattle.json_texts.specs.PairFacts as spec;
 
 use crate::fault::{cell_text, put_fault};
 use comparisons::{Comparison, Difference, Ending, FoundDifference};
-use json_lines::{Object, Value, line_of};
+use json_lines::{Object, Value, push_line};
 use pram_trees::Layout;
 use std::alloc::{AllocError, Global};
 
@@ -142,52 +141,152 @@ fn put_difference(
     }
 }
 
-// An input, and what differs on it, where they differ on any.
+// An input, and what differs on it.
 fn put_differing(
     alloc: Global,
     object: &mut Object,
     first: &Layout,
     second: &Layout,
-    found: &Option<FoundDifference>,
+    found: &FoundDifference,
 ) -> Result<(), AllocError>
     ensures { OnOk result (shown object.new
-        ≡ with_fields (spec.differing_fields first.now second.now (option_map differing_is found.now)) (shown object.old)) }
+        ≡ with_fields (spec.differing_fields first.now second.now (differing_is found.now)) (shown object.old)) }
 {
-    match found {
-        None => Ok(()),
-        Some(found) => {
-            object.put_values("input", found.input.as_slice())?;
-            put_difference(alloc, object, first, second, &found.difference)
-        }
+    object.put_values("input", found.input.as_slice())?;
+    put_difference(alloc, object, first, second, &found.difference)
+}
+
+fn differing_value(
+    alloc: Global,
+    first: &Layout,
+    second: &Layout,
+    found: &FoundDifference,
+) -> Result<Value, AllocError>
+    ensures { IfOk result (λ v. view v ≡ spec.differing_facts first.now second.now (differing_is found.now)) }
+{
+    let mut object = Object::new(alloc);
+    put_differing(alloc, &mut object, first, second, found)?;
+    Ok(object.into_value())
+}
+
+// The line of an input on which they differ.
+fn push_differing(
+    alloc: Global,
+    text: &mut String,
+    first: &Layout,
+    second: &Layout,
+    found: &FoundDifference,
+) -> Result<(), AllocError>
+    ensures json { OnOk result (Adds (spec.differing_facts first.now second.now (differing_is found.now) ∷ [])
+        (string_bytes text.old) (string_bytes text.new)) }
+{
+    let facts = differing_value(alloc, first, second, found)?;
+    push_line(alloc, text, &facts)
+}
+
+// The lines of the inputs on which they differ.
+fn differing_text(
+    alloc: Global,
+    first: &Layout,
+    second: &Layout,
+    told: &[FoundDifference],
+) -> Result<String, AllocError>
+    ensures json { IfOk result (λ text. IsJson (map (spec.differing_facts first.now second.now) (map differing_is told.now))
+        (string_bytes text)) }
+{
+    let mut text = String::new(alloc);
+    for found in told {
+        push_differing(alloc, &mut text, first, second, found)?;
+    }
+    Ok(text)
+}
+
+// How many inputs are told, where some are left out.
+fn put_told(object: &mut Object, comparison: &Comparison) -> Result<(), AllocError>
+    ensures { OnOk result (shown object.new ≡ with_fields (spec.told_fields (found_is comparison.now)) (shown object.old)) }
+{
+    let told = comparison.told.len() as u64;
+    if told < comparison.inputs - comparison.same {
+        object.put_large("told", u128::from(told))
+    } else {
+        Ok(())
     }
 }
 
-fn pair_value(
+// The first of those that are told.
+fn put_first(
+    alloc: Global,
+    object: &mut Object,
+    first: &Layout,
+    second: &Layout,
+    told: &[FoundDifference],
+) -> Result<(), AllocError>
+    ensures { OnOk result (shown object.new
+        ≡ with_fields (spec.first_fields first.now second.now (map differing_is told.now)) (shown object.old)) }
+{
+    match told {
+        [] => Ok(()),
+        [found, ..] => put_differing(alloc, object, first, second, found),
+    }
+}
+
+// Both.
+fn put_found(
+    alloc: Global,
+    object: &mut Object,
+    first: &Layout,
+    second: &Layout,
+    comparison: &Comparison,
+) -> Result<(), AllocError>
+    ensures { OnOk result (shown object.new
+        ≡ with_fields (spec.found_fields first.now second.now (found_is comparison.now)) (shown object.old)) }
+{
+    put_told(object, comparison)?;
+    put_first(alloc, object, first, second, &comparison.told)
+}
+
+fn whole_value(
     alloc: Global,
     first: &Layout,
     second: &Layout,
     comparison: &Comparison,
 ) -> Result<Value, AllocError>
-    ensures { IfOk result (λ v. view v ≡ spec.pair_facts first.now second.now (found_is comparison.now)) }
+    ensures { IfOk result (λ v. view v ≡ spec.whole_facts first.now second.now (found_is comparison.now)) }
 {
     let mut object = Object::new(alloc);
     object.put_large("inputs", u128::from(comparison.inputs))?;
     object.put_large("same", u128::from(comparison.same))?;
-    put_differing(alloc, &mut object, first, second, &comparison.first)?;
+    put_found(alloc, &mut object, first, second, comparison)?;
     Ok(object.into_value())
 }
 
-/// What is found of two programs on the same inputs, on a line, as `{"inputs":625,"same":624}`; where they differ on an input also that
-/// and what differs on it, as `"differs":"output","first":"3","input":["2","1"],"item":1,"second":"2"`. The layouts are the shared
-/// declarations of the two programs.
+fn push_whole(
+    alloc: Global,
+    text: &mut String,
+    first: &Layout,
+    second: &Layout,
+    comparison: &Comparison,
+) -> Result<(), AllocError>
+    ensures json { OnOk result (Adds (spec.whole_facts first.now second.now (found_is comparison.now) ∷ [])
+        (string_bytes text.old) (string_bytes text.new)) }
+{
+    let facts = whole_value(alloc, first, second, comparison)?;
+    push_line(alloc, text, &facts)
+}
+
+/// What is found of two programs on the same inputs: a line for each input that is told, with what differs on it, as
+/// `{"differs":"output","first":"3","input":["2","1"],"item":1,"second":"2"}`; and one for the whole, as `{"inputs":625,"same":625}`,
+/// with the members of the first line too where there is any, and `told`, the number of these lines, where the programs differ on more
+/// inputs. The layouts are the shared declarations of the two programs.
 pub fn json_pair(
     alloc: Global,
     first: &Layout,
     second: &Layout,
     comparison: &Comparison,
 ) -> Result<String, AllocError>
-    ensures json { IfOk result (λ text. IsJson (spec.pair_facts first.now second.now (found_is comparison.now) ∷ []) (string_bytes text)) }
+    ensures json { IfOk result (λ text. IsJson (spec.pair_facts first.now second.now (found_is comparison.now)) (string_bytes text)) }
 {
-    let facts = pair_value(alloc, first, second, comparison)?;
-    line_of(alloc, &facts)
+    let mut text = differing_text(alloc, first, second, &comparison.told)?;
+    push_whole(alloc, &mut text, first, second, comparison)?;
+    Ok(text)
 }

@@ -22,6 +22,7 @@ use pram_trees::{Layout, Location, Tree};
 use scope_names::{local_name, variable_name};
 use std::alloc::{AllocError, Global};
 use step_entries::{Act, Cause, Change, Entry, LocalChange};
+use text_places::place_of;
 use write_rules::{Fault, Outcome};
 
 // A cell's value before and behind.
@@ -116,14 +117,23 @@ struct Ran<'a> {
     printed: &'a [i64],
 }
 
+// Where a statement stands in its line.
+fn put_column(object: &mut Object, source: &[u8], location: Location) -> Result<(), AllocError>
+    ensures { OnOk result (shown object.new ≡ with_fields (spec.column_field source.now location.offset ∷ []) (shown object.old)) }
+{
+    let place = place_of(source, location.offset as usize);
+    object.put_count("column", place.column as u64)
+}
+
 fn put_ran(
     alloc: Global,
     object: &mut Object,
     layout: &Layout,
     tree: &Tree,
+    source: &[u8],
     ran: &Ran<'_>,
 ) -> Result<(), AllocError>
-    ensures { OnOk result (shown object.new ≡ with_fields (spec.told_fields layout.now tree.now
+    ensures { OnOk result (shown object.new ≡ with_fields (spec.told_fields layout.now tree.now source.now
         (entry.Ran ran.now.location (map act_is ran.now.acts.now) ran.now.cells.now ran.now.variables.now ran.now.locals.now
         ran.now.printed.now)) (shown object.old)) }
 {
@@ -132,6 +142,7 @@ fn put_ran(
     let variables = variables_facts(alloc, tree, ran.variables)?;
     let locals = locals_facts(alloc, tree, ran.location.offset, ran.locals)?;
     object.put_count("line", u64::from(ran.location.line))?;
+    put_column(object, source, ran.location)?;
     object.put_count("processors", ran.acts.len() as u64)?;
     object.put_list("acts", acts)?;
     object.put_list("changes", changes)?;
@@ -165,9 +176,11 @@ fn put_told(
     object: &mut Object,
     layout: &Layout,
     tree: &Tree,
+    source: &[u8],
     entry: &Entry,
 ) -> Result<(), AllocError>
-    ensures { OnOk result (shown object.new ≡ with_fields (spec.told_fields layout.now tree.now (entry_is entry.now)) (shown object.old)) }
+    ensures { OnOk result (shown object.new
+        ≡ with_fields (spec.told_fields layout.now tree.now source.now (entry_is entry.now)) (shown object.old)) }
 {
     match entry {
         Entry::Ran {
@@ -186,15 +199,18 @@ fn put_told(
                 locals,
                 printed,
             };
-            put_ran(alloc, object, layout, tree, &ran)
+            put_ran(alloc, object, layout, tree, source, &ran)
         }
         Entry::Faulted {
+            location,
             fault,
             cause,
             acts,
             met,
-            ..
-        } => put_faulting(alloc, object, layout, fault, cause, acts, met),
+        } => {
+            put_column(object, source, *location)?;
+            put_faulting(alloc, object, layout, fault, cause, acts, met)
+        }
     }
 }
 
@@ -203,14 +219,15 @@ fn step_facts(
     alloc: Global,
     layout: &Layout,
     tree: &Tree,
+    source: &[u8],
     number: usize,
     entry: &Entry,
 ) -> Result<Value, AllocError>
-    ensures { IfOk result (λ v. view v ≡ spec.step_facts layout.now tree.now number (entry_is entry.now)) }
+    ensures { IfOk result (λ v. view v ≡ spec.step_facts layout.now tree.now source.now number (entry_is entry.now)) }
 {
     let mut object = Object::new(alloc);
     object.put_count("step", number as u64)?;
-    put_told(alloc, &mut object, layout, tree, entry)?;
+    put_told(alloc, &mut object, layout, tree, source, entry)?;
     Ok(object.into_value())
 }
 
@@ -219,13 +236,14 @@ pub fn json_step(
     alloc: Global,
     layout: &Layout,
     tree: &Tree,
+    source: &[u8],
     number: usize,
     entry: &Entry,
 ) -> Result<String, AllocError>
     ensures json { IfOk result
-        (λ text. IsJson (spec.step_facts layout.now tree.now number (entry_is entry.now) ∷ []) (string_bytes text)) }
+        (λ text. IsJson (spec.step_facts layout.now tree.now source.now number (entry_is entry.now) ∷ []) (string_bytes text)) }
 {
-    let facts = step_facts(alloc, layout, tree, number, entry)?;
+    let facts = step_facts(alloc, layout, tree, source, number, entry)?;
     line_of(alloc, &facts)
 }
 
@@ -235,18 +253,19 @@ fn push_within(
     text: &mut String,
     layout: &Layout,
     tree: &Tree,
+    source: &[u8],
     first: usize,
     last: usize,
     before: usize,
     entry: &Entry,
 ) -> Result<(), AllocError>
     requires few { before < 2 ^ 64 - 1 }
-    ensures json { OnOk result (Adds (spec.step_within layout.now tree.now first last (before + 1) (entry_is entry.now))
+    ensures json { OnOk result (Adds (spec.step_within layout.now tree.now source.now first last (before + 1) (entry_is entry.now))
         (string_bytes text.old) (string_bytes text.new)) }
 {
     let number = before + 1;
     if first <= number && number <= last {
-        let facts = step_facts(alloc, layout, tree, number, entry)?;
+        let facts = step_facts(alloc, layout, tree, source, number, entry)?;
         push_line(alloc, text, &facts)
     } else {
         Ok(())
@@ -258,17 +277,20 @@ fn steps_text(
     alloc: Global,
     layout: &Layout,
     tree: &Tree,
+    source: &[u8],
     entries: &[Entry],
     first: usize,
     last: usize,
 ) -> Result<String, AllocError>
-    ensures json { IfOk result (λ text. IsJson (spec.steps_from layout.now tree.now first last 1 (map entry_is entries.now))
+    ensures json { IfOk result (λ text. IsJson (spec.steps_from layout.now tree.now source.now first last 1 (map entry_is entries.now))
         (string_bytes text)) }
 {
     let mut text = String::new(alloc);
     let mut before = 0;
     for entry in entries {
-        push_within(alloc, &mut text, layout, tree, first, last, before, entry)?;
+        push_within(
+            alloc, &mut text, layout, tree, source, first, last, before, entry,
+        )?;
         before += 1;
     }
     Ok(text)
@@ -289,10 +311,10 @@ fn push_outcome(
 }
 
 /// The entries whose numbers, counted from 1, go from `first` to `last`, each on a line, and the outcome on the last line:
-/// `{"acts":[{"processor":"3","reads":["a[3]"],"write":"a[3]"}],"changes":[{"after":"7","before":"4","cell":"a[3]"}],"line":9,`
-/// `"locals":[],"printed":[],"processors":1,"step":5,"variables":[]}`, where `processor` is null of the one outside pardo and `write`
+/// `{"acts":[{"processor":"3","reads":["a[3]"],"write":"a[3]"}],"changes":[{"after":"7","before":"4","cell":"a[3]"}],"column":5,`
+/// `"line":9,"locals":[],"printed":[],"processors":1,"step":5,"variables":[]}`, where `processor` is null of the one outside pardo and `write`
 /// where it writes no cell; or at a fault
-/// `{"acts":[..],"kind":"read-conflict","line":4,"met":["1","3"],"place":"a[1]","step":6}`, with what there is to say of why: `array`,
+/// `{"acts":[..],"column":3,"kind":"read-conflict","line":4,"met":["1","3"],"place":"a[1]","step":6}`, with what there is to say of why: `array`,
 /// `subscript`, `low` and `high`; `operator` and `operands`; `low`, `high` and `procs`; or `writers`. A variable is told as
 /// `{"after":"4","before":"8","name":"m","variable":0}`, by its name in the tree and its number in the order of declarations, and a local
 /// as `{"after":"7","before":"3","local":"x","processor":"1"}`.
@@ -300,15 +322,16 @@ pub fn json_steps(
     alloc: Global,
     layout: &Layout,
     tree: &Tree,
+    source: &[u8],
     outcome: &Outcome,
     entries: &[Entry],
     first: usize,
     last: usize,
 ) -> Result<String, AllocError>
     ensures json { IfOk result (λ text. IsJson
-        (spec.steps_facts layout.now tree.now (verdict_of outcome.now) (map entry_is entries.now) first last) (string_bytes text)) }
+        (spec.steps_facts layout.now tree.now source.now (verdict_of outcome.now) (map entry_is entries.now) first last) (string_bytes text)) }
 {
-    let mut text = steps_text(alloc, layout, tree, entries, first, last)?;
+    let mut text = steps_text(alloc, layout, tree, source, entries, first, last)?;
     push_outcome(alloc, &mut text, layout, outcome)?;
     Ok(text)
 }

@@ -8,6 +8,7 @@ ghost use Rattle.json_lines.specs.Shown.{shown};
 ghost use Rattle.growth_formulas.specs.GrowthText.{growth_words};
 ghost use Rattle.json_texts.specs.SweepFacts as spec;
 
+use crate::cost::put_most;
 use growth_formulas::{Growth, write_growth_words};
 use json_lines::{Object, Value, push_line};
 use std::alloc::{AllocError, Global};
@@ -29,7 +30,7 @@ fn put_run(object: &mut Object, way: &str, counts: &Counts) -> Result<(), AllocE
     ensures { OnOk result (shown object.new ≡ with_fields (spec.run_fields way.now counts.now) (shown object.old)) }
 {
     object.put_word("outcome", way)?;
-    object.put_large("exchanges_at_most", counts.most_exchanges)?;
+    put_most(object, counts.most_exchanges, counts.most_words)?;
     put_counts(object, counts)
 }
 
@@ -180,9 +181,9 @@ fn push_growths(
 
 /// What a program costs at several sizes, each on a line, as
 /// `{"exchanges_at_most":"15","outcome":"ended","reads":"23","size":"n","time":17,"value":"8","width":8,"work":"28","writes":"15"}`, where
-/// `size` is the size's name. The outcome is `ended`, `goes on`, `fault`, with the text of it as `fault` and without `exchanges_at_most`,
-/// or `refused`, with the text of it as `refusal` and no counts. Behind them, where anything is told, how time and work grow, as
-/// `{"at":"these sizes","time":"4 log n + 5","work":"2 n + 3 log n + 3"}`.
+/// `size` is the size's name, with `words_at_most` where they are told. The outcome is `ended`, `goes on`, `fault`, with the text of it as
+/// `fault` and without exchanges and words, or `refused`, with the text of it as `refusal` and no counts. Behind them, where anything is
+/// told, how time and work grow, as `{"at":"these sizes","time":"4 log n + 5","work":"2 n + 3 log n + 3"}`.
 pub fn json_sweep(
     alloc: Global,
     name: &[u8],

@@ -1,6 +1,6 @@
 -- Facts that are written byte by byte, and what stands in them.
-use Rattle.std.proofs.Common.{◌≡◌, ◌<◌, ◌+◌, ◌++◌, ◌∷◌, ◌∙◌, [], Bool, true, false, List, ℕ, ap, append_assoc, arith, codes, drop, get_or}
-use Rattle.std.proofs.Common.{if◌then◌else◌, ◌==◌, length, refl, sym}
+use Rattle.std.proofs.Common.{◌≡◌, ◌<◌, ◌≤◌, ◌+◌, ◌++◌, ◌∷◌, ◌∙◌, [], Bool, true, false, List, ℕ, ap, append_assoc, arith, codes, drop, get_or}
+use Rattle.std.proofs.Common.{if◌then◌else◌, ◌==◌, length, length-append, refl, sym}
 use Rattle.std.proofs.lemmas.Bool.{eqb-false}
 use Rattle.std.proofs.lemmas.List.{drop_more}
 use Rattle.step_pages.specs.Facts.{HasNoTag, embedded, embedded_byte, line_count, line_end}
@@ -52,3 +52,26 @@ line_count-le (b ∷ bs) =
     let one : line_end b < 2 = count_more b (b == 10) refl in
     let others : line_count bs < length bs + 1 = line_count-le bs in
     omega (arith, one, others)
+
+-- no byte is without width
+wide_byte : (b : ℕ) → 1 ≤ length (embedded_byte b)
+wide_byte b = by (b == 60)
+  where
+    comma : 1 ≤ length (codes ",")
+    comma = let e : length (codes ",") ≡ 1 = refl in omega (arith, e)
+
+    other : (c : Bool) → 1 ≤ length (if c then codes "," else b ∷ [])
+    other true = comma
+    other false = omega arith
+
+    by : (c : Bool) → 1 ≤ length (if c then codes "\\u003c" else (if b == 10 then codes "," else b ∷ []))
+    by true = let e : length (codes "\\u003c") ≡ 6 = refl in omega (arith, e)
+    by false = other (b == 10)
+
+pub embedded-wide : (bs : List ℕ) → length bs ≤ length (embedded bs)
+embedded-wide [] = omega arith
+embedded-wide (b ∷ bs) =
+    let one = wide_byte b in
+    let others = embedded-wide bs in
+    let both = length-append (embedded_byte b) (embedded bs) in
+    omega (arith, one, others, both)

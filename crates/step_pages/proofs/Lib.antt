@@ -2,6 +2,9 @@ pub mod LineEnds
 pub mod AsList
 pub mod Fronting
 pub mod Tailing
+pub mod KeptTexts
+pub mod CutOfKept
+pub mod PageOfKept
 pub mod Values
 pub mod Embedding
 pub mod Lexed

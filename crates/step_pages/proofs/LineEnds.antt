@@ -210,7 +210,7 @@ take_past [] r n j e = ap (λ n. take n r) (let i : n ≡ j = omega (arith, e) i
 take_past (x ∷ c) r zero j e = absurd (omega (arith, e))
 take_past (x ∷ c) r (suc n) j e = ap (λ l. x ∷ l) (take_past c r n j (omega (arith, e)))
 
-drop_past : {X : Type 0} (c r : List X) (n j : ℕ) → n ≡ length c + j → drop n (c ++ r) ≡ drop j r
+pub drop_past : {X : Type 0} (c r : List X) (n j : ℕ) → n ≡ length c + j → drop n (c ++ r) ≡ drop j r
 drop_past [] r n j e = ap (λ n. drop n r) (let i : n ≡ j = omega (arith, e) in i)
 drop_past (x ∷ c) r zero j e = absurd (omega (arith, e))
 drop_past (x ∷ c) r (suc n) j e = drop_past c r n j (omega (arith, e))

@@ -1,7 +1,7 @@
 -- The facts that are made here can be read: they have no float, and nest four levels at most.
 use Rattle.std.proofs.Common.{◌++◌, List, [], ◌∷◌, ℕ, lit≤}
-use Rattle.std.specs.List.{flat_map, fold}
-use Rattle.std.specs.Prelude.{ℤ, codes, map, take}
+use Rattle.std.specs.List.{flat_map}
+use Rattle.std.specs.Prelude.{ℤ, codes, map}
 use Rattle.serde_json.specs.Data.{Data}
 use Rattle.json_lines.specs.Facts.{list}
 use Rattle.json_lines.specs.Small.{IsReadable, IsSmall}
@@ -12,8 +12,7 @@ use Rattle.pram_trees.specs.declared.tree.Declaration.{Declaration}
 use Rattle.pram_trees.specs.declared.tree.Declaration.TheVariants as declare
 use Rattle.pram_trees.specs.Program.{ProgramTree}
 use Rattle.step_pages.specs.Opening.{cells_of, names_fields, opening_facts, opening_fields, source_fields, variables_of}
-use Rattle.step_entries.specs.Entries.{Entry}
-use Rattle.step_pages.specs.State.{state_facts, state_fields, with_cells, with_variables}
+use Rattle.step_pages.specs.State.{state_fields, state_of}
 use Rattle.step_pages.specs.Pardos.{Pardo, name_fact, pardo_facts, pardos_of}
 
 small-append : (n : ℕ) (a b : List Data) → AreSmall n a → AreSmall n b → AreSmall n (a ++ b)
@@ -74,10 +73,7 @@ readable_opening file text tree input statements =
     (has_all 3 (source_fields file text tree.rule input statements) (names_fields tree) (source_small file text tree.rule input statements)
     (names_small tree)))
 
-pub readable_state : (input : List ℤ) (entries : List Entry) (k : ℕ) → IsReadable (state_facts input entries k)
-readable_state input entries k =
-    smaller 2 127 (state_facts input entries k) (lit≤ tt)
-    (small_object 1 (state_fields input entries k) (
-      small_count 1 k,
-      (small_values 0 (fold with_cells input (take k entries)), (small_values 0 (fold with_variables [] (take k entries)), tt)),
-    ))
+pub readable_state : (cells variables : List ℤ) (k : ℕ) → IsReadable (state_of cells variables k)
+readable_state cells variables k =
+    smaller 2 127 (state_of cells variables k) (lit≤ tt)
+    (small_object 1 (state_fields cells variables k) (small_count 1 k, (small_values 0 cells, (small_values 0 variables, tt))))

@@ -5,7 +5,7 @@ use Rattle.step_pages.specs.declared.moving.TheConstants.{READING, MOVING}
 use Rattle.step_pages.specs.declared.drawing.TheConstants.{PLACING, DRAWING}
 use Rattle.step_pages.specs.declared.telling.TheConstants.{TELLING, MARKING}
 use Rattle.step_pages.specs.declared.stepping.TheConstants.{STEPPING, GUIDING}
-use Rattle.step_pages.specs.Facts.{facts_text}
+use Rattle.step_pages.specs.Facts.{both_text, facts_text}
 
 -- how it looks: everywhere, and where it is narrow or printed
 abbrev pub style : List ℕ
@@ -49,6 +49,13 @@ rest facts state from to = facts_text facts state from to ++ back
 -- the page of facts of which the lines before one place and from another on stand in it, with the state behind those between
 abbrev pub page : (facts state : List ℕ) → (front back : ℕ) → List ℕ
 page facts state from to = front ++ rest facts state from to
+
+-- the same by what stands in it: the first lines, the state, the last lines, and how many are left out between them
+abbrev pub rest_of : (first state last : List ℕ) → (left : ℕ) → List ℕ
+rest_of first state last left = both_text first state last left ++ back
+
+abbrev pub page_of : (first state last : List ℕ) → (left : ℕ) → List ℕ
+page_of first state last left = front ++ rest_of first state last left
 
 -- 2 MiB
 abbrev pub most_bytes : ℕ

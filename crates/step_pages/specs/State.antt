@@ -25,11 +25,14 @@ abbrev pub with_variables : List ℤ → Entry → List ℤ
 with_variables xs (Ran here acts cells variables locals printed) = fold with_change xs variables
 with_variables xs (Faulting here fault cause acts met) = xs
 
--- both behind the first `k` statements of a run on this input
-abbrev pub state_fields : (input : List ℤ) → List Entry → (k : ℕ) → List Field
-state_fields input entries k =
-    (codes "state", count k) ∷ (codes "cells", values (fold with_cells input (take k entries)))
-    ∷ (codes "variables", values (fold with_variables [] (take k entries))) ∷ []
+-- both behind statement `k`, whose cells and variables these are
+abbrev pub state_fields : (cells variables : List ℤ) → (k : ℕ) → List Field
+state_fields cells variables k =
+    (codes "state", count k) ∷ (codes "cells", values cells) ∷ (codes "variables", values variables) ∷ []
 
+abbrev pub state_of : (cells variables : List ℤ) → (k : ℕ) → Data
+state_of cells variables k = object_of (state_fields cells variables k)
+
+-- of a run on this input, behind its first `k` statements
 abbrev pub state_facts : (input : List ℤ) → List Entry → (k : ℕ) → Data
-state_facts input entries k = object_of (state_fields input entries k)
+state_facts input entries k = state_of (fold with_cells input (take k entries)) (fold with_variables [] (take k entries)) k

@@ -1,6 +1,6 @@
 //! Facts as they stand in the page.
 
-ghost use Rattle.std.specs.Prelude.{◌≡◌, ◌≤◌, ◌<◌, ◌^◌, drop, length, nat_le, take};
+ghost use Rattle.std.specs.Prelude.{◌≡◌, ◌≤◌, ◌<◌, ◌^◌, ◌&&◌, [], if◌then◌else◌, length, nat_le};
 ghost use Rattle.text_out.specs.Out.{Writes};
 ghost use Rattle.step_pages.specs.Facts as spec;
 
@@ -75,11 +75,11 @@ fn has_room(state: &[u8]) -> bool
     true
 }
 
-// The state, where lines are left out and it has room.
-fn state_shown(state: &[u8], front: usize, back: usize) -> &[u8]
-    ensures { result.now ≡ spec.state_shown state.now front back }
+/// The state behind lines that are left out, where some are and it has room.
+pub(crate) fn state_shown(state: &[u8], has_gap: bool) -> &[u8]
+    ensures { result.now ≡ if has_gap && nat_le (length (spec.embedded state.now)) spec.state_room then state.now else [] }
 {
-    if front < back && has_room(state) {
+    if has_gap && has_room(state) {
         state
     } else {
         &[]
@@ -115,8 +115,8 @@ fn write_behind<W: Out>(
     write_last(out, last, behind, left)
 }
 
-// The first lines, the state and the last lines, and how many are left out.
-fn write_both<W: Out>(
+/// The first lines, the state and the last lines as a list, and how many are left out.
+pub(crate) fn write_both<W: Out>(
     out: &mut W,
     first: &[u8],
     state: &[u8],
@@ -128,23 +128,4 @@ fn write_both<W: Out>(
 {
     write_lines(out, first)?;
     write_behind(out, state, last, line_count(first), left)
-}
-
-/// The facts before one place and from another on as a list, the state behind those between, and which lines are left out.
-pub(crate) fn write_facts<W: Out>(
-    out: &mut W,
-    facts: &[u8],
-    state: &[u8],
-    front: usize,
-    back: usize,
-) -> Result<(), WriteFault>
-    requires counted { (W.Out.state out.old).failures < 2 ^ 63 }
-    requires front_within { front ≤ length facts.now }
-    requires back_within { back ≤ length facts.now }
-    ensures written { Writes (W.Out.state out.old) (W.Out.state out.new) (spec.facts_text facts.now state.now front back) result }
-{
-    let (first, rest) = facts.split_at(front);
-    let (_, last) = facts.split_at(back);
-    let left = line_count(rest).saturating_sub(line_count(last));
-    write_both(out, first, state_shown(state, front, back), last, left)
 }

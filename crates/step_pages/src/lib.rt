@@ -4,6 +4,7 @@
 mod cut;
 mod drawing;
 mod facts;
+mod lines;
 mod markup;
 mod moving;
 mod opening;
@@ -14,9 +15,9 @@ mod state;
 mod stepping;
 mod telling;
 
-pub use cut::{Kept, gap_end, kept_lines};
+pub use lines::{Kept, KeptLines};
 pub use opening::opening_line;
 pub use page::write_page;
-pub use state::state_line;
+pub use state::{RunState, state_line};
 
 pub mod page_laws;

@@ -1,11 +1,12 @@
 //! The page.
 
-ghost use Rattle.std.specs.Prelude.{◌≤◌, ◌<◌, ◌^◌, length};
+ghost use Rattle.std.specs.Prelude.{◌≤◌, ◌<◌, ◌+◌, ◌^◌, List, length, ℕ};
 ghost use Rattle.text_out.specs.Out.{Writes};
+ghost use Rattle.step_pages.specs.Kept.{Holds};
 ghost use Rattle.step_pages.specs.Page as spec;
 
-use crate::cut::Kept;
-use crate::facts::write_facts;
+use crate::facts::{line_count, state_shown, write_both};
+use crate::lines::{Kept, KeptLines};
 use crate::markup::{BODY, CLOSING};
 use crate::page_parts::{write_script, write_style};
 use text_out::{Out, WriteFault};
@@ -26,33 +27,54 @@ fn write_back<W: Out>(out: &mut W) -> Result<(), WriteFault>
     out.write_all(&CLOSING)
 }
 
-fn write_rest<W: Out>(out: &mut W, facts: &[u8], state: &[u8], kept: Kept) -> Result<(), WriteFault>
+fn write_rest<W: Out>(
+    out: &mut W,
+    first: &[u8],
+    state: &[u8],
+    last: &[u8],
+    left: usize,
+) -> Result<(), WriteFault>
     requires counted { (W.Out.state out.old).failures < 2 ^ 63 }
-    requires front_within { kept.front ≤ length facts.now }
-    requires back_within { kept.back ≤ length facts.now }
-    ensures written { Writes (W.Out.state out.old) (W.Out.state out.new)
-        (spec.rest facts.now state.now kept.front kept.back) result }
+    ensures written { Writes (W.Out.state out.old) (W.Out.state out.new) (spec.rest_of first.now state.now last.now left) result }
 {
-    write_facts(out, facts, state, kept.front, kept.back)?;
+    write_both(out, first, state, last, left)?;
     write_back(out)
 }
 
-/// Writes the page of a run by its facts, which are lines of JSON: the line of `opening_line`, those of the statements and that of the
-/// outcome. Of them those stand in the page that are kept; `kept_lines` says which have room. Where some are left out, the state behind
-/// them stands there too if it has room, which is the line of `state_line`, or nothing where it isn't known; and which are left out. The
-/// error is that the writer failed (E17).
-pub fn write_page<W: Out>(
+fn write_of<W: Out>(
     out: &mut W,
-    facts: &[u8],
+    first: &[u8],
     state: &[u8],
-    kept: Kept,
+    last: &[u8],
+    left: usize,
 ) -> Result<(), WriteFault>
     requires counted { (W.Out.state out.old).failures < 2 ^ 63 }
-    requires front_within { kept.front ≤ length facts.now }
-    requires back_within { kept.back ≤ length facts.now }
-    ensures written { Writes (W.Out.state out.old) (W.Out.state out.new)
-        (spec.page facts.now state.now kept.front kept.back) result }
+    ensures written { Writes (W.Out.state out.old) (W.Out.state out.new) (spec.page_of first.now state.now last.now left) result }
 {
     write_front(out)?;
-    write_rest(out, facts, state, kept)
+    write_rest(out, first, state, last, left)
+}
+
+/// Writes the page of a run by its facts, which are lines of JSON: the line of `opening_line`, those of the statements and that of the
+/// outcome. Of them those stand in the page that are kept; `kept` says which have room. Where some are left out, the state behind them
+/// stands there too if it has room, which is the line of `state_line`, or nothing where it isn't known; and which are left out. The error
+/// is that the writer failed (E17).
+pub fn write_page<W: Out>(
+    out: &mut W,
+    lines: &KeptLines,
+    kept: Kept,
+    state: &[u8],
+) -> Result<(), WriteFault>
+    requires counted { (W.Out.state out.old).failures < 2 ^ 63 }
+    requires front_within { kept.front ≤ length lines.now.first.items }
+    requires back_within { kept.back ≤ length lines.now.last.items }
+    ensures written { (text : List ℕ) → Holds lines.now text → Writes (W.Out.state out.old) (W.Out.state out.new)
+        (spec.page text state.now kept.front (lines.now.before + kept.back)) result }
+{
+    let (first, _) = lines.first.as_slice().split_at(kept.front);
+    let (_, last) = lines.last.as_slice().split_at(kept.back);
+    let rest = lines.count.saturating_sub(line_count(first));
+    let left = rest.saturating_sub(line_count(last));
+    let shown = state_shown(state, lines.has_gap(kept));
+    write_of(out, first, shown, last, left)
 }

@@ -1,6 +1,6 @@
 //! What stands in shared memory and in the uniform variables behind a statement.
 
-ghost use Rattle.std.specs.Prelude.{◌≡◌, ◌<◌, ◌∷◌, [], ℤ, IfOk, OnOk, length, map, string_bytes, take};
+ghost use Rattle.std.specs.Prelude.{◌≡◌, ◌<◌, ◌∷◌, [], ℤ, IfOk, OnOk, length, string_bytes};
 ghost use Rattle.std.specs.List.{fold};
 ghost use Rattle.serde_json.specs.View.{view};
 ghost use Rattle.json_lines.specs.Lines.{IsJson};
@@ -61,58 +61,50 @@ fn put_variables(values: &mut Vec<i64>, entry: &Entry) -> Result<(), AllocError>
     }
 }
 
-// The cells behind some statements.
-fn cells_behind(alloc: Global, input: &[i64], entries: &[Entry]) -> Result<Vec<i64>, AllocError>
-    ensures { IfOk result (λ values. values.items ≡ fold spec.with_cells input.now (map entry_is entries.now)) }
-{
-    let mut values = Vec::from_slice(alloc, input)?;
-    for entry in entries {
-        put_cells(&mut values, entry)?;
-    }
-    Ok(values)
+/// What cells and uniform variables hold at a moment of a run: the values of the first ones, of which all others are 0.
+#[derive(Drop)]
+pub struct RunState {
+    pub cells: Vec<i64>,
+    pub variables: Vec<i64>,
 }
 
-// The uniform variables behind some statements.
-fn variables_behind(alloc: Global, entries: &[Entry]) -> Result<Vec<i64>, AllocError>
-    ensures { IfOk result (λ values. values.items ≡ fold spec.with_variables [] (map entry_is entries.now)) }
-{
-    let mut values = Vec::new(alloc);
-    for entry in entries {
-        put_variables(&mut values, entry)?;
+impl RunState {
+    /// Before the first statement, on this input. `AllocError`: memory was refused.
+    pub fn before_all(alloc: Global, input: &[i64]) -> Result<RunState, AllocError>
+        ensures cells { IfOk result (λ state. state.cells.items ≡ input.now) }
+        ensures variables { IfOk result (λ state. state.variables.items ≡ []) }
+    {
+        let cells = Vec::from_slice(alloc, input)?;
+        let variables = Vec::new(alloc);
+        Ok(RunState { cells, variables })
     }
-    Ok(values)
+
+    /// Behind one statement more. `AllocError`: memory was refused, and part of its changes may have been made.
+    pub fn go_on(&mut self, entry: &Entry) -> Result<(), AllocError>
+        ensures cells { OnOk result (self.new.cells.items ≡ spec.with_cells self.old.cells.items (entry_is entry.now)) }
+        ensures variables { OnOk result (self.new.variables.items ≡ spec.with_variables self.old.variables.items (entry_is entry.now)) }
+    {
+        put_cells(&mut self.cells, entry)?;
+        put_variables(&mut self.variables, entry)
+    }
 }
 
-fn state_value(
-    alloc: Global,
-    input: &[i64],
-    entries: &[Entry],
-    behind: usize,
-) -> Result<Value, AllocError>
-    ensures { IfOk result (λ v. view v ≡ spec.state_facts input.now (map entry_is entries.now) behind) }
+fn state_value(alloc: Global, state: &RunState, behind: usize) -> Result<Value, AllocError>
+    ensures { IfOk result (λ v. view v ≡ spec.state_of state.now.cells.items state.now.variables.items behind) }
 {
-    let (first, _) = entries.split_at(behind.min(entries.len()));
-    let cells = cells_behind(alloc, input, first)?;
-    let variables = variables_behind(alloc, first)?;
     let mut object = Object::new(alloc);
     object.put_count("state", behind as u64)?;
-    object.put_values("cells", &cells)?;
-    object.put_values("variables", &variables)?;
+    object.put_values("cells", state.cells.as_slice())?;
+    object.put_values("variables", state.variables.as_slice())?;
     Ok(object.into_value())
 }
 
-/// What cells and uniform variables hold behind the statement of this number, by the entries of a run from its first statement on, on a
-/// line: the values of the first cells and variables, of which all others are 0. A page takes it where statements up to that one are left out.
-/// `AllocError`: memory was refused.
-pub fn state_line(
-    alloc: Global,
-    input: &[i64],
-    entries: &[Entry],
-    behind: usize,
-) -> Result<String, AllocError>
+/// What cells and uniform variables hold behind the statement of this number, on a line: the values of the first cells and variables, of
+/// which all others are 0. A page takes it where statements up to that one are left out. `AllocError`: memory was refused.
+pub fn state_line(alloc: Global, state: &RunState, behind: usize) -> Result<String, AllocError>
     ensures json { IfOk result
-        (λ line. IsJson (spec.state_facts input.now (map entry_is entries.now) behind ∷ []) (string_bytes line)) }
+        (λ line. IsJson (spec.state_of state.now.cells.items state.now.variables.items behind ∷ []) (string_bytes line)) }
 {
-    let facts = state_value(alloc, input, entries, behind)?;
+    let facts = state_value(alloc, state, behind)?;
     line_of(alloc, &facts)
 }

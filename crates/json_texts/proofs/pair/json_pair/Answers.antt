@@ -1,7 +1,17 @@
-use Rattle.std.proofs.Common.{subst, sym}
-use Rattle.json_lines.specs.Small.{IsReadable}
-use Rattle.json_texts.proofs.PairReadable.{readable_pair}
+use Rattle.std.proofs.Common.{[], ◌∷◌, List, map, subst}
+use Rattle.std.specs.Prelude.{string_bytes}
+use Rattle.json_lines.proofs.Json.{adds_then}
+use Rattle.json_lines.specs.Lines.{IsJson}
+use Rattle.comparisons.specs.Found.{differing_is, found_is}
+use Rattle.comparisons.specs.declared.comparison.FoundDifference.{FoundDifference}
+use Rattle.json_texts.specs.PairFacts.{differing_facts, whole_facts}
 use Rattle.json_texts.proofs.pair.json_pair.Goals as goal
 
-pub line_of-requires : goal.line_of-requires
-line_of-requires c = record { readable = subst IsReadable (sym c.in_ok-facts.ensures) (readable_pair _ _ _) }
+pub returns : goal.returns
+returns c =
+    let facts = differing_facts c.args.first.now c.args.second.now in
+    let f = found_is c.args.comparison.now in
+    let whole = whole_facts c.args.first.now c.args.second.now f in
+    let lines = subst (λ (told : List FoundDifference). IsJson (map facts (map differing_is told)) (string_bytes c.in_ok-text.text))
+    c.deref.ensures.value c.in_ok-text.ensures.json in
+    record { json = adds_then (map facts f.told) (whole ∷ []) [] _ _ lines c.in_ok-push_whole.ensures.json }

@@ -7,5 +7,5 @@ use Rattle.json_texts.proofs.steps.push_within.Goals as goal
 pub push_line-requires : goal.push_line-requires
 push_line-requires c = record {
   readable = subst IsReadable (sym c.in_ok-facts.ensures)
-      (readable_step c.args.layout.now c.args.tree.now (c.args.before + 1) (entry_is c.args.entry.now));
+      (readable_step c.args.layout.now c.args.tree.now c.args.source.now (c.args.before + 1) (entry_is c.args.entry.now));
 }

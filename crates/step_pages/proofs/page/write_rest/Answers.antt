@@ -2,10 +2,10 @@ use Rattle.std.proofs.Common.{refl}
 use Rattle.text_places.proofs.Pieces.{both, stops_in_first}
 use Rattle.step_pages.proofs.page.write_rest.Goals as goal
 
-pub returns-in_err-write_facts : goal.returns-in_err-write_facts
-returns-in_err-write_facts g c = record {
-  written = stops_in_first _ _ _ _ _ c.from_residual.result _ refl c.from_residual.ensures.1 c.in_err-write_facts.ensures.written;
+pub returns-in_err-write_both : goal.returns-in_err-write_both
+returns-in_err-write_both g c = record {
+  written = stops_in_first _ _ _ _ _ c.from_residual.result _ refl c.from_residual.ensures.1 c.in_err-write_both.ensures.written;
 }
 
 pub returns : goal.returns
-returns g c = record { written = both _ _ _ _ _ _ c.write_back.result refl c.in_ok-write_facts.ensures.written c.write_back.ensures.written }
+returns g c = record { written = both _ _ _ _ _ _ c.write_back.result refl c.in_ok-write_both.ensures.written c.write_back.ensures.written }

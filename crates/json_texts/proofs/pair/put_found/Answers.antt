@@ -1,0 +1,21 @@
+use Rattle.std.proofs.Common.{◌≡◌, ◌∙◌, ap, List, map}
+use Rattle.std.proofs.lemmas.Result.{on_ok_weaker}
+use Rattle.json_lines.proofs.Small.{put_then}
+use Rattle.json_lines.specs.Facts.{with_fields}
+use Rattle.json_lines.specs.Shown.{shown}
+use Rattle.comparisons.specs.Found.{differing_is, found_is}
+use Rattle.comparisons.specs.declared.comparison.FoundDifference.{FoundDifference}
+use Rattle.json_texts.specs.PairFacts.{first_fields, told_fields}
+use Rattle.json_texts.proofs.pair.put_found.Goals as goal
+
+pub returns : goal.returns
+returns c =
+    let f = found_is c.args.comparison.now in
+    let first = c.args.first.now in
+    let second = c.args.second.now in
+    let fields = λ (told : List FoundDifference). first_fields first second (map differing_is told) in
+    on_ok_weaker c.put_first.result (λ put.
+    put_then (told_fields f) (first_fields first second f.told) (shown c.args.object.now) (shown c.put_told.new.object)
+    (shown c.put_first.new.object) c.in_ok-put_told.ensures
+    (put ∙ ap (λ (told : List FoundDifference). with_fields (fields told) (shown c.put_told.new.object)) c.deref.ensures.value))
+    c.put_first.ensures

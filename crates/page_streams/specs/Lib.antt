@@ -1,0 +1,5 @@
+pub mod Gathered
+pub mod GatheredLaws
+pub mod Pages
+pub mod Paged
+pub mod Streamed
