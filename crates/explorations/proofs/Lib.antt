@@ -3,3 +3,4 @@ pub mod FirstFaults
 pub mod Pushed
 pub mod Spans
 pub mod Told
+pub mod Merges

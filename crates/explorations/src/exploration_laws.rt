@@ -9,6 +9,7 @@ ghost use Rattle.pram_meaning.specs.Outcome.{IsOutcome};
 ghost use Rattle.explorations.specs.declared.findings.Span as rust;
 ghost use Rattle.explorations.specs.Firsts.{are_alike};
 ghost use Rattle.explorations.specs.Found.{fault_of, found, span_of, verdict_on};
+ghost use Rattle.explorations.specs.Merged.{merged};
 
 /// What a run comes to is its outcome; and each run is counted once, as one that ends, faults or goes on.
 pub fn every_run_is_counted()
@@ -37,4 +38,11 @@ pub fn spans_are_of_the_numbers()
     ensures among { (ks : List ℕ) (s : rust.Span) → span_of ks ≡ Some s → Contains ks s.least × Contains ks s.greatest }
     ensures bounds { (ks : List ℕ) (s : rust.Span) → span_of ks ≡ Some s → All (λ k. (s.least ≤ k) × (k ≤ s.greatest)) ks }
     ensures none { (ks : List ℕ) → (span_of ks ≡ None) ↔ (ks ≡ []) }
+{}
+
+/// What is found of inputs is what is found of any first ones and of those behind, merged: so blocks of inputs may be run apart.
+#[tactic(auto, using(crate::proofs::Merges::blocks_are_merged))]
+pub fn blocks_are_merged()
+    ensures { (p : Checked) (n : ℕ) (before behind : List (List ℤ)) →
+        found p n (before ++ behind) ≡ merged (found p n before) (found p n behind) }
 {}

@@ -1,15 +1,15 @@
 //! The runs of a program on every input of a scope, one after the other.
 
-ghost use Rattle.std.specs.Prelude.{◌≡◌, ◌≢◌, ◌↔◌, ◌+◌, ◌<◌, ◌^◌, [], ◌∷◌, ◌++◌, IfOk, OnOk, length, List, ℤ};
+ghost use Rattle.std.specs.Prelude.{◌≡◌, ◌≢◌, ◌↔◌, ◌+◌, ◌<◌, ◌^◌, [], ◌∷◌, ◌++◌, take, drop, IfOk, OnOk, length, List, ℤ};
 ghost use Rattle.pram_model.specs.Layout.{total_size};
-ghost use Rattle.small_scopes.specs.Scopes.{inputs_of};
+ghost use Rattle.small_scopes.specs.Scopes.{inputs_left, inputs_of};
 ghost use Rattle.explorations.specs.Found.{found, found_is};
 
 use crate::findings::Findings;
-use call_progress::Watch;
+use call_progress::{Nobody, Watch};
 use pram_check::Program;
 use pram_meaning::MeaningRefusal;
-use small_scopes::{Scope, first_input, input_count};
+use small_scopes::{Inputs, Scope, first_input, input_at, input_count};
 use std::alloc::Global;
 use work_time::time_and_work;
 
@@ -41,7 +41,36 @@ fn try_input(
     }
 }
 
-// The runs on all inputs, one after the other.
+// The runs on the inputs that are left, or on so many of them, one after the other.
+#[tactic(auto, using(crate::proofs::Explored::none_yet))]
+fn try_some<W: Watch>(
+    alloc: Global,
+    program: &Program,
+    inputs: Inputs,
+    most: u64,
+    bound: u32,
+    watch: &mut W,
+) -> Result<Findings, MeaningRefusal>
+    ensures found { IfOk result (λ r. found_is r ≡ found program.now bound
+        (take most (inputs_left inputs.scope inputs.over inputs.input.items))) }
+    ensures memory { result ≢ Err MeaningRefusal.InputTooLong }
+{
+    let mut inputs = inputs;
+    let mut findings = Findings::new(alloc);
+    'trying: while findings.inputs < most {
+        if inputs.is_over() {
+            return Ok(findings);
+        }
+        let next = inputs.values();
+        watch.look(findings.inputs, most, next);
+        try_input(alloc, program, bound, next, &mut findings)?;
+        inputs.advance();
+    }
+    Ok(findings)
+}
+
+// The runs on all inputs.
+#[tactic(auto, using(crate::proofs::Explored::all_taken))]
 fn try_all<W: Watch>(
     alloc: Global,
     program: &Program,
@@ -53,18 +82,34 @@ fn try_all<W: Watch>(
     ensures found { IfOk result (λ r. found_is r ≡ found program.now bound (inputs_of scope)) }
     ensures memory { result ≢ Err MeaningRefusal.InputTooLong }
 {
-    let all = input_count(scope).unwrap_or(0);
-    let Ok(mut inputs) = first_input(alloc, scope) else {
+    let all = input_count(scope).unwrap_or(u64::MAX);
+    let Ok(inputs) = first_input(alloc, scope) else {
         return Err(MeaningRefusal::OutOfMemory);
     };
-    let mut findings = Findings::new(alloc);
-    'trying: while !inputs.is_over() {
-        let next = inputs.values();
-        watch.look(findings.inputs, all, next);
-        try_input(alloc, program, bound, next, &mut findings)?;
-        inputs.advance();
+    try_some(alloc, program, inputs, all, bound, watch)
+}
+
+/// Runs a program on a block of the inputs of a scope, as [`explore`] does on all of them: on `count` inputs from that of a place on, which
+/// is counted from 0, or on all from there on. E11 where an input has more values than the program has cells; E16 only where memory was
+/// refused.
+pub fn explore_block(
+    alloc: Global,
+    program: &Program,
+    scope: Scope,
+    place: u64,
+    count: u64,
+    bound: u32,
+) -> Result<Findings, MeaningRefusal>
+    ensures found { IfOk result (λ r. found_is r ≡ found program.now bound (take count (drop place (inputs_of scope)))) }
+    ensures too_long { (result ≡ Err MeaningRefusal.InputTooLong) ↔ (total_size program.now.layout < scope.count) }
+{
+    if scope.count > program.layout().cells() {
+        return Err(MeaningRefusal::InputTooLong);
     }
-    Ok(findings)
+    let Ok(inputs) = input_at(alloc, scope, place) else {
+        return Err(MeaningRefusal::OutOfMemory);
+    };
+    try_some(alloc, program, inputs, count, bound, &mut Nobody)
 }
 
 /// Runs a program on every input of a scope, each for at most `bound` statements, and says what is found, over just these inputs in

@@ -5,8 +5,9 @@ pub mod exploration_laws;
 mod exploring;
 pub mod findings;
 pub mod kinds;
+mod merging;
 mod noting;
 mod span;
 
-pub use exploring::explore;
+pub use exploring::{explore, explore_block};
 pub use findings::{Findings, FoundFault, Span};

@@ -12,8 +12,8 @@ use crate::span::with_number;
 use std::alloc::{AllocError, Global};
 use write_rules::{Fault, Outcome};
 
-// Whether a fault like this one was met.
-fn is_met(faults: &[FoundFault], fault: Fault) -> bool
+/// Whether a fault like this one was met.
+pub(crate) fn is_met(faults: &[FoundFault], fault: Fault) -> bool
     ensures { result ≡ list_any (λ m. are_alike m.fault fault) (map met_is faults.now) }
 {
     for found in faults {
@@ -45,7 +45,7 @@ fn keep_fault(
 
 impl Findings {
     /// What is found of no run.
-    pub(crate) fn new(alloc: Global) -> Findings
+    pub fn new(alloc: Global) -> Findings
         ensures { found_is result ≡ nothing }
     {
         Findings {

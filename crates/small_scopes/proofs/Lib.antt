@@ -6,3 +6,4 @@ pub mod Orders
 pub mod Skips
 pub mod Steps
 pub mod Those
+pub mod Placed

@@ -1,6 +1,6 @@
 //! The inputs of a scope, one after the other.
 
-ghost use Rattle.std.specs.Prelude.{◌≡◌, ◌∷◌, [], true, false, length, IsTrue, IsFalse, IfOk, Some, slice_get};
+ghost use Rattle.std.specs.Prelude.{◌≡◌, ◌∷◌, [], true, false, length, drop, IsTrue, IsFalse, IfOk, Some, slice_get};
 ghost use Rattle.small_scopes.specs.Lists.{AreWithin, are_apart};
 ghost use Rattle.small_scopes.specs.Scopes.{inputs_left, inputs_of};
 
@@ -31,6 +31,23 @@ pub fn first_input(alloc: Global, scope: Scope) -> Result<Inputs, AllocError>
         input,
         over: !more,
     })
+}
+
+/// Before the input of this place, counted from 0: those from it on are left, and none where there are no more than `place`. It steps past
+/// those before.
+#[tactic(auto, using(crate::proofs::Placed::nothing_behind))]
+pub fn input_at(alloc: Global, scope: Scope, place: u64) -> Result<Inputs, AllocError>
+    ensures scope { IfOk result (λ r. r.scope ≡ scope) }
+    ensures left { IfOk result (λ r. inputs_left r.scope r.over r.input.items ≡ drop place (inputs_of scope)) }
+{
+    let mut inputs = first_input(alloc, scope)?;
+    for passed in 0..place {
+        if inputs.is_over() {
+            return Ok(inputs);
+        }
+        inputs.advance();
+    }
+    Ok(inputs)
 }
 
 impl Inputs {

@@ -10,5 +10,5 @@ pub mod scope_laws;
 mod step;
 
 pub use counting::input_count;
-pub use inputs::{Inputs, first_input};
+pub use inputs::{Inputs, first_input, input_at};
 pub use scope::Scope;

@@ -3,12 +3,14 @@ use Rattle.small_scopes.specs.Scopes.{inputs_left}
 use Rattle.small_scopes.specs.declared.scope.Scope.{Scope}
 use Rattle.explorations.specs.Found.{found_is}
 use Rattle.explorations.proofs.Explored.{Explored, fewer, further}
-use Rattle.explorations.proofs.exploring.try_all.Goals as goal
+use Rattle.explorations.proofs.exploring.try_some.Goals as goal
 
 pub trying-preserved : goal.trying-preserved
 trying-preserved g c =
     let p = c.args.program.now in
     let n = c.args.bound in
+    let first = c.args.inputs in
+    let whole = inputs_left first.scope first.over first.input.items in
     let here = c.values-next.result.now in
     let old = c.trying.inputs in
     let new = c.advance.new.self in
@@ -19,8 +21,9 @@ trying-preserved g c =
     let is : left ≡ here ∷ rest = c.advance.ensures.left ∙ ap (λ (x : List ℤ). x ∷ rest) (sym c.values-next.ensures.values) in
     record {
       same = c.advance.ensures.same ∙ c.trying.invariant.same;
-      so_far = subst (λ (t : Scope). Explored p n c.args.scope (inputs_left t new.over new.input.items) g) (sym c.advance.ensures.same)
-          (further p n c.args.scope left rest here f g c.trying.invariant.so_far is c.in_ok-try_input.ensures.found);
+      so_far = subst (λ (t : Scope). Explored p n whole c.args.most (inputs_left t new.over new.input.items) g) (sym c.advance.ensures.same)
+          (further p n whole c.args.most left rest here f g c.trying.invariant.so_far c.trying-test.true is
+          c.in_ok-try_input.ensures.found);
     }
 
 pub trying-smaller : goal.trying-smaller

@@ -2,13 +2,13 @@ use Rattle.std.proofs.Common.{◌≡◌, length}
 use Rattle.small_scopes.specs.Scopes.{inputs_left}
 use Rattle.explorations.specs.Found.{found_is}
 use Rattle.explorations.proofs.Explored.{Explored}
-use Rattle.explorations.proofs.exploring.try_all.Given as goal
+use Rattle.explorations.proofs.exploring.try_some.Given as goal
 
 abbrev pub invariant-trying : goal.invariant-trying
 invariant-trying g l = record {
-  same : l.inputs.scope ≡ l.fn.scope;
-  so_far : Explored l.fn.program l.fn.bound l.fn.scope (inputs_left l.inputs.scope l.inputs.over l.inputs.input.items)
-      (found_is l.findings);
+  same : l.inputs.scope ≡ l.fn.inputs.scope;
+  so_far : Explored l.fn.program l.fn.bound (inputs_left l.fn.inputs.scope l.fn.inputs.over l.fn.inputs.input.items) l.fn.most
+      (inputs_left l.inputs.scope l.inputs.over l.inputs.input.items) (found_is l.findings);
 }
 
 abbrev pub decreases-trying : goal.decreases-trying
