@@ -59,6 +59,8 @@ pub struct RunWords<'a> {
     /// What the cells hold before the first statement.
     pub opening: Opening<'a>,
     pub options: Options,
+    /// In how many seconds the run of a definition is to be over. Without a number it has the time that it takes.
+    pub seconds: Option<u32>,
     /// For how much workers take all their memory before the first exchange. Without one they take it on the way.
     pub reserve: Option<Reserve>,
     pub costs: CostWords,

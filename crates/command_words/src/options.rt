@@ -32,6 +32,8 @@ pub(crate) enum Group {
     Formats,
     // how long it runs
     Bounded,
+    // and in what time
+    Timed,
     // what the cells hold at first
     Opened,
     // what is written of the memory
@@ -50,6 +52,8 @@ pub(crate) enum Group {
     Scoped,
     // under which rule it is tried
     Ruled,
+    // by how many workers inputs are tried
+    Shared,
     // a listing in the place of a program
     Listed,
     // the inputs on which two programs are compared
@@ -65,6 +69,8 @@ pub(crate) const SECOND: &str = "FILE2";
 pub(crate) const WORD: &str = "WORD";
 
 pub(crate) const BOUND: &str = "bound";
+
+pub(crate) const SECONDS: &str = "seconds";
 
 pub(crate) const INPUT: &str = "input";
 
@@ -154,6 +160,12 @@ const BOUNDED: &[CommandOption] = &[CommandOption {
     help: "The most statements that are run",
 }];
 
+const TIMED: &[CommandOption] = &[CommandOption {
+    name: SECONDS,
+    follows: Follows::Word("S"),
+    help: "Ends a long run in about S seconds, S from 1: it is run for as many statements as there is time for",
+}];
+
 const OPENED: &[CommandOption] = &[
     CommandOption {
         name: INPUT,
@@ -195,6 +207,11 @@ const COUNTED: &[CommandOption] = &[
         name: SCHEDULE,
         follows: Follows::Word("P"),
         help: "Counts the rounds on P processors too, P from 1",
+    },
+    CommandOption {
+        name: WORKERS,
+        follows: Follows::Word("P"),
+        help: "Tells the most words that P workers send too, P from 1",
     },
     CommandOption {
         name: LINES,
@@ -313,6 +330,12 @@ const SCOPED: &[CommandOption] = &[
     },
 ];
 
+const SHARED: &[CommandOption] = &[CommandOption {
+    name: WORKERS,
+    follows: Follows::WordOr("P", "1"),
+    help: "How many workers share the inputs, 1 to 32",
+}];
+
 const RULED: &[CommandOption] = &[CommandOption {
     name: UNDER,
     follows: Follows::Word("RULE"),
@@ -373,6 +396,7 @@ pub(crate) fn options_of(group: Group) -> &'static [CommandOption] {
         Group::Sizes => SIZES,
         Group::Formats => FORMATS,
         Group::Bounded => BOUNDED,
+        Group::Timed => TIMED,
         Group::Opened => OPENED,
         Group::Shown => SHOWN,
         Group::Counted => COUNTED,
@@ -382,6 +406,7 @@ pub(crate) fn options_of(group: Group) -> &'static [CommandOption] {
         Group::Traced => TRACED,
         Group::Scoped => SCOPED,
         Group::Ruled => RULED,
+        Group::Shared => SHARED,
         Group::Listed => LISTED,
         Group::Tried => TRIED,
         Group::Compared => COMPARED,

@@ -6,11 +6,11 @@ ghost use Rattle.command_requests.specs.Words.{AsksForVersion, IsOfWords};
 
 use crate::grammar::grammar;
 use crate::options::{
-    BSP, FILE, FLOW, FORMAT, HTML, LINES, LISTING_FILE, OUTCOME, SCHEDULE, SECOND, SIZE, SVG,
-    SWEEP, WORD,
+    BSP, FILE, FLOW, FORMAT, HTML, LINES, LISTING_FILE, OUTCOME, SCHEDULE, SECOND, SECONDS, SIZE,
+    SVG, SWEEP, WORD,
 };
 use crate::pair_reading::pair_words;
-use crate::run_reading::run_words;
+use crate::run_reading::{costed_words, run_words};
 use crate::scope_reading::scope_words;
 use clap::ArgMatches;
 use clap::error::ErrorKind;
@@ -124,12 +124,16 @@ fn asked<'a>(alloc: Global, verb: Verb, matches: &ArgMatches<'a>) -> Result<Requ
         Over::Run
     };
     check_format(matches, over)?;
-    let words = run_words(matches)?;
+    let words = if verb == Verb::Cost {
+        costed_words(matches)?
+    } else {
+        run_words(matches)?
+    };
     let file = file_of(alloc, matches)?;
     Ok(Request::Program { verb, file, words })
 }
 
-// Costs at several sizes: neither rounds nor lines are told of them.
+// Costs at several sizes: neither rounds nor lines are told of them, and they have the time that they take.
 fn asked_sweep<'a>(
     alloc: Global,
     word: &'a str,
@@ -143,8 +147,11 @@ fn asked_sweep<'a>(
     if matches.get_flag(LINES) {
         return Err(Stop::Number("--lines"));
     }
+    if matches.get_str(SECONDS).is_some() {
+        return Err(Stop::Number("--seconds"));
+    }
     let csv = check_format(matches, Over::Sizes)?;
-    let words = run_words(matches)?;
+    let words = costed_words(matches)?;
     let file = file_of(alloc, matches)?;
     Ok(Request::Sweep {
         file,

@@ -6,7 +6,7 @@ ghost use Rattle.command_requests.specs.Words.{IsOfWords};
 
 use crate::options::{
     BOUND, BSP, FLOW, FORMAT, FROM, HTML, INPUT, LINES, LOCALS, MAP, MEMORY, ONLY, OUTCOME, QUIET,
-    RANDOM, RESERVE, SCHEDULE, SEED, SHOW, SVG, TO, WORKERS,
+    RANDOM, RESERVE, SCHEDULE, SECONDS, SEED, SHOW, SVG, TO, WORKERS,
 };
 use clap::ArgMatches;
 use command_requests::{CostWords, Form, Opening, RunWords, StepWords, TraceWords};
@@ -54,16 +54,16 @@ fn reserve_of<'a>(words: &ArgMatches<'a>) -> Result<Option<Reserve>, Stop<'a>>
     }
 }
 
-// The number of processors, if the command line has one. It is at least 1.
-fn schedule_of<'a>(words: &ArgMatches<'a>) -> Result<Option<u32>, Stop<'a>>
-    ensures some { IfOk result (λ schedule. ForSome schedule (λ q. 0 < q)) }
+// How many processors, workers or seconds, if the command line says it. There is at least 1.
+fn count_of<'a>(words: &ArgMatches<'a>, option: &str) -> Result<Option<u32>, Stop<'a>>
+    ensures some { IfOk result (λ count. ForSome count (λ q. 0 < q)) }
     ensures refused { IfErr result IsOfWords }
 {
-    match words.get_str(SCHEDULE) {
+    match words.get_str(option) {
         None => Ok(None),
         Some(word) => match read_number(word) {
             Some(0) | None => Err(Stop::Number(word)),
-            Some(processors) => Ok(Some(processors)),
+            Some(count) => Ok(Some(count)),
         },
     }
 }
@@ -71,9 +71,13 @@ fn schedule_of<'a>(words: &ArgMatches<'a>) -> Result<Option<u32>, Stop<'a>>
 fn cost_words<'a>(words: &ArgMatches<'a>) -> Result<CostWords, Stop<'a>>
     ensures { IfErr result IsOfWords }
 {
-    let schedule = schedule_of(words)?;
+    let schedule = count_of(words, SCHEDULE)?;
     let lines = words.get_flag(LINES);
-    Ok(CostWords { schedule, lines })
+    Ok(CostWords {
+        schedule,
+        workers: None,
+        lines,
+    })
 }
 
 // Both numbers are 0 where the command has no such options.
@@ -196,6 +200,7 @@ pub(crate) fn run_words<'a>(words: &ArgMatches<'a>) -> Result<RunWords<'a>, Stop
     ensures { IfErr result IsOfWords }
 {
     let bound = number_of(words, BOUND)?;
+    let seconds = count_of(words, SECONDS)?;
     let workers = number_of(words, WORKERS)?;
     let map = map_of(words)?;
     let reserve = reserve_of(words)?;
@@ -211,6 +216,7 @@ pub(crate) fn run_words<'a>(words: &ArgMatches<'a>) -> Result<RunWords<'a>, Stop
             map,
             bound,
         },
+        seconds,
         reserve,
         costs,
         steps,
@@ -218,4 +224,18 @@ pub(crate) fn run_words<'a>(words: &ArgMatches<'a>) -> Result<RunWords<'a>, Stop
         form: form_of(words),
         shown,
     })
+}
+
+/// How the run is whose costs are told, for so many workers too where the command line says it.
+pub(crate) fn costed_words<'a>(words: &ArgMatches<'a>) -> Result<RunWords<'a>, Stop<'a>>
+    ensures { IfErr result IsOfWords }
+{
+    let run = run_words(words)?;
+    let workers = count_of(words, WORKERS)?;
+    let costs = CostWords {
+        schedule: run.costs.schedule,
+        workers,
+        lines: run.costs.lines,
+    };
+    Ok(RunWords { costs, ..run })
 }

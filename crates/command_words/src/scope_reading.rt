@@ -3,7 +3,8 @@
 ghost use Rattle.std.specs.Prelude.{◌≤◌, IfOk, IfErr};
 ghost use Rattle.command_requests.specs.Words.{IsOfWords};
 
-use crate::options::{CELLS, PERMUTATIONS, UNDER, VALUES};
+use crate::options::{CELLS, PERMUTATIONS, UNDER, VALUES, WORKERS};
+use crate::run_reading::number_of;
 use clap::ArgMatches;
 use command_requests::{FewInputs, MOST_CELLS, MOST_INPUTS, MOST_ORDERED, ScopeWords, read_rule};
 use drawn_inputs::read_interval;
@@ -104,14 +105,16 @@ pub(crate) fn few_inputs<'a>(
     }
 }
 
-/// The inputs on which a program is run, and under which rule.
+/// The inputs on which a program is run, under which rule, and by how many workers.
 pub(crate) fn scope_words<'a>(words: &ArgMatches<'a>) -> Result<ScopeWords, Stop<'a>>
     ensures { IfErr result IsOfWords }
 {
     let rule = rule_of(words)?;
+    let workers = number_of(words, WORKERS)?;
     let few = few_inputs(words, "--cells")?;
     Ok(ScopeWords {
         scope: few.scope,
         rule,
+        workers,
     })
 }

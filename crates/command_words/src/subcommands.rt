@@ -82,6 +82,7 @@ pub(crate) const SUBCOMMANDS: &[Subcommand] = &[
         groups: &[
             Group::Explain,
             Group::Bounded,
+            Group::Timed,
             Group::Opened,
             Group::Shown,
             Group::Sizes,
@@ -96,6 +97,7 @@ pub(crate) const SUBCOMMANDS: &[Subcommand] = &[
         groups: &[
             Group::Explain,
             Group::Bounded,
+            Group::Timed,
             Group::Opened,
             Group::Counted,
             Group::Sizes,
@@ -110,6 +112,7 @@ pub(crate) const SUBCOMMANDS: &[Subcommand] = &[
         groups: &[
             Group::Explain,
             Group::Bounded,
+            Group::Timed,
             Group::Opened,
             Group::Told,
             Group::Drawn,
@@ -170,6 +173,7 @@ pub(crate) const SUBCOMMANDS: &[Subcommand] = &[
             Group::Scoped,
             Group::Bounded,
             Group::Ruled,
+            Group::Shared,
             Group::Sizes,
             Group::Formats,
         ],

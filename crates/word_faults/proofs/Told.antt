@@ -6,7 +6,7 @@ use Rattle.std.specs.List.{after_first, before_first, position_or_len}
 use Rattle.std.proofs.lemmas.Bool.{eqb-true, ltb-true}
 use Rattle.std.proofs.lemmas.List.Sums.{passes_at_first, split_at_first}
 use Rattle.word_faults.specs.declared.given.Given.{Given}
-use Rattle.word_faults.specs.Options.{Takes, named}
+use Rattle.word_faults.specs.Options.{Takes, named_in}
 use Rattle.word_faults.specs.Values.{IsFirst, IsRefusedBy, IsValueOf, IsWrongBehind, Behind, Joined}
 use Rattle.word_faults.specs.Values.{first_of, held_by, holds, is_equals, joined, value_at}
 
@@ -20,21 +20,21 @@ here_refuses (Some k) (Some h) told Later g r f later =
     let same : g ≡ k = cc (f, r.0) in
     λ takes. r.1 (subst (λ x. Takes x told) same takes)
 
-pub it_refuses : (before : Option Given) (words : List (List ℕ)) (told : List ℕ) (g : Given) → IsWrongBehind before words told (Some g) →
-    ¬ (Takes g told)
-it_refuses before [] told g w = absurd (cc w)
-it_refuses before (word ∷ words) told g w =
-    here_refuses (value_at before word told) w.0 told (IsWrongBehind (named word) words told) g w.1 w.2
-    (it_refuses (named word) words told g)
+pub it_refuses : (costs : Bool) (before : Option Given) (words : List (List ℕ)) (told : List ℕ) (g : Given) →
+    IsWrongBehind costs before words told (Some g) → ¬ (Takes g told)
+it_refuses costs before [] told g w = absurd (cc w)
+it_refuses costs before (word ∷ words) told g w =
+    here_refuses (value_at costs before word told) w.0 told (IsWrongBehind costs (named_in costs word) words told) g w.1 w.2
+    (it_refuses costs (named_in costs word) words told g)
 
 -- ---- the word is its value
 
 -- the value stands in one word with the option's name
-record IsJoined (word told : List ℕ) (g : Given) : Type 0 where
+record IsJoined (costs : Bool) (word told : List ℕ) (g : Given) : Type 0 where
   name : List ℕ
   value : List ℕ
   whole : word ≡ name ++ 61 ∷ value
-  is : named name ≡ Some g
+  is : named_in costs name ≡ Some g
   has : holds g value told ≡ true
 
 -- the value is a word, behind the option's name
@@ -59,10 +59,11 @@ parted word there =
     let equals = eqb-true (get_or word (position_or_len is_equals word) 0) 61 (passes_at_first is_equals word 0 there) in
     split_at_first is_equals word 0 there ∙ ap (λ b. before_first is_equals word ++ b ∷ after_first is_equals word) equals
 
-joined_if : (word told : List ℕ) (g : Given) (b : Bool) → nat_lt (position_or_len is_equals word) (length word) ≡ b →
-    (if b then held_by (named (before_first is_equals word)) (after_first is_equals word) told else None) ≡ Some g → IsJoined word told g
-joined_if word told g true there e =
-    let h = held (named (before_first is_equals word)) (after_first is_equals word) told g e in
+joined_if : (costs : Bool) (word told : List ℕ) (g : Given) (b : Bool) → nat_lt (position_or_len is_equals word) (length word) ≡ b →
+    (if b then held_by (named_in costs (before_first is_equals word)) (after_first is_equals word) told else None) ≡ Some g →
+    IsJoined costs word told g
+joined_if costs word told g true there e =
+    let h = held (named_in costs (before_first is_equals word)) (after_first is_equals word) told g e in
     record {
       name = before_first is_equals word;
       value = after_first is_equals word;
@@ -70,27 +71,28 @@ joined_if word told g true there e =
       is = h.0;
       has = h.1;
     }
-joined_if word told g false there e = absurd (cc e)
+joined_if costs word told g false there e = absurd (cc e)
 
 one_of : (a b : Option Given) (g : Given) → first_of a b ≡ Some g → (a ≡ Some g) ⊎ (b ≡ Some g)
 one_of None b g e = inr e
 one_of (Some k) b g e = inl e
 
-at : (before : Option Given) (word told : List ℕ) (g : Given) → value_at before word told ≡ Some g →
-    IsHeld before word told g ⊎ IsJoined word told g
-at before word told g e = elim (one_of (held_by before word told) (joined word told) g e) [
+at : (costs : Bool) (before : Option Given) (word told : List ℕ) (g : Given) → value_at costs before word told ≡ Some g →
+    IsHeld before word told g ⊎ IsJoined costs word told g
+at costs before word told g e = elim (one_of (held_by before word told) (joined costs word told) g e) [
   | inl h ↦ inl (held before word told g h)
-  | inr j ↦ inr (joined_if word told g (nat_lt (position_or_len is_equals word) (length word)) refl j)
+  | inr j ↦ inr (joined_if costs word told g (nat_lt (position_or_len is_equals word) (length word)) refl j)
 ]
 
 refused_is : (v : Option Given) (told : List ℕ) (h : Given) → IsRefusedBy v told (Some h) → v ≡ Some h
 refused_is None told h r = absurd (cc r)
 refused_is (Some k) told h r = ap Some (sym r.0)
 
-later_on : (word : List ℕ) (words : List (List ℕ)) (told : List ℕ) (g : Given) → IsValueOf words told g → IsValueOf (word ∷ words) told g
-later_on word words told g (Behind front back name value e is has) =
+later_on : (costs : Bool) (word : List ℕ) (words : List (List ℕ)) (told : List ℕ) (g : Given) →
+    IsValueOf costs words told g → IsValueOf costs (word ∷ words) told g
+later_on costs word words told g (Behind front back name value e is has) =
     Behind (word ∷ front) back name value (ap (λ l. word ∷ l) e) is has
-later_on word words told g (Joined front back name value e is has) =
+later_on costs word words told g (Joined front back name value e is has) =
     Joined (word ∷ front) back name value (ap (λ l. word ∷ l) e) is has
 
 -- the value is the first word
@@ -101,33 +103,38 @@ record IsNext (before : Option Given) (words : List (List ℕ)) (told : List ℕ
   held : IsHeld before value told g
 
 -- behind a word
-behind : (word : List ℕ) (words : List (List ℕ)) (told : List ℕ) (g : Given) → IsValueOf words told g ⊎ IsNext (named word) words told g →
-    IsValueOf (word ∷ words) told g
-behind word words told g (inl later) = later_on word words told g later
-behind word words told g (inr n) = Behind [] n.rest word n.value (ap (λ l. word ∷ l) n.whole) n.held.0 n.held.1
+behind : (costs : Bool) (word : List ℕ) (words : List (List ℕ)) (told : List ℕ) (g : Given) →
+    IsValueOf costs words told g ⊎ IsNext (named_in costs word) words told g → IsValueOf costs (word ∷ words) told g
+behind costs word words told g (inl later) = later_on costs word words told g later
+behind costs word words told g (inr n) = Behind [] n.rest word n.value (ap (λ l. word ∷ l) n.whole) n.held.0 n.held.1
 
-here : (before : Option Given) (word : List ℕ) (words : List (List ℕ)) (told : List ℕ) (g : Given) →
-    IsHeld before word told g ⊎ IsJoined word told g →
-    IsValueOf (word ∷ words) told g ⊎ IsNext before (word ∷ words) told g
-here before word words told g (inl h) = inr (record { value = word; rest = words; whole = refl; held = h })
-here before word words told g (inr j) = inl (Joined [] words j.name j.value (ap (λ w. w ∷ words) j.whole) j.is j.has)
+here : (costs : Bool) (before : Option Given) (word : List ℕ) (words : List (List ℕ)) (told : List ℕ) (g : Given) →
+    IsHeld before word told g ⊎ IsJoined costs word told g →
+    IsValueOf costs (word ∷ words) told g ⊎ IsNext before (word ∷ words) told g
+here costs before word words told g (inl h) = inr (record { value = word; rest = words; whole = refl; held = h })
+here costs before word words told g (inr j) = inl (Joined [] words j.name j.value (ap (λ w. w ∷ words) j.whole) j.is j.has)
 
-placed : (before : Option Given) (word : List ℕ) (words : List (List ℕ)) (told : List ℕ) (g : Given) (found : Option Given) →
-    IsRefusedBy (value_at before word told) told found → IsFirst found (IsWrongBehind (named word) words told) (Some g) →
-    (IsWrongBehind (named word) words told (Some g) → IsValueOf words told g ⊎ IsNext (named word) words told g) →
-    IsValueOf (word ∷ words) told g ⊎ IsNext before (word ∷ words) told g
-placed before word words told g None r f later = inl (behind word words told g (later f))
-placed before word words told g (Some h) r f later =
-    here before word words told g (at before word told g (refused_is (value_at before word told) told h r ∙ sym f))
+placed : (costs : Bool) (before : Option Given) (word : List ℕ) (words : List (List ℕ)) (told : List ℕ) (g : Given) (found : Option Given) →
+    IsRefusedBy (value_at costs before word told) told found →
+    IsFirst found (IsWrongBehind costs (named_in costs word) words told) (Some g) →
+    (IsWrongBehind costs (named_in costs word) words told (Some g) →
+    IsValueOf costs words told g ⊎ IsNext (named_in costs word) words told g) →
+    IsValueOf costs (word ∷ words) told g ⊎ IsNext before (word ∷ words) told g
+placed costs before word words told g None r f later = inl (behind costs word words told g (later f))
+placed costs before word words told g (Some h) r f later =
+    here costs before word words told g (at costs before word told g (refused_is (value_at costs before word told) told h r ∙ sym f))
 
-stands : (before : Option Given) (words : List (List ℕ)) (told : List ℕ) (g : Given) → IsWrongBehind before words told (Some g) →
-    IsValueOf words told g ⊎ IsNext before words told g
-stands before [] told g w = absurd (cc w)
-stands before (word ∷ words) told g w = placed before word words told g w.0 w.1 w.2 (stands (named word) words told g)
+stands : (costs : Bool) (before : Option Given) (words : List (List ℕ)) (told : List ℕ) (g : Given) →
+    IsWrongBehind costs before words told (Some g) → IsValueOf costs words told g ⊎ IsNext before words told g
+stands costs before [] told g w = absurd (cc w)
+stands costs before (word ∷ words) told g w =
+    placed costs before word words told g w.0 w.1 w.2 (stands costs (named_in costs word) words told g)
 
-of_call : (words : List (List ℕ)) (told : List ℕ) (g : Given) → IsValueOf words told g ⊎ IsNext None words told g → IsValueOf words told g
-of_call words told g (inl is) = is
-of_call words told g (inr n) = let none = n.held.0 in absurd (cc none)
+of_call : (costs : Bool) (words : List (List ℕ)) (told : List ℕ) (g : Given) →
+    IsValueOf costs words told g ⊎ IsNext None words told g → IsValueOf costs words told g
+of_call costs words told g (inl is) = is
+of_call costs words told g (inr n) = let none = n.held.0 in absurd (cc none)
 
-pub it_is_its_value : (words : List (List ℕ)) (told : List ℕ) (g : Given) → IsWrongBehind None words told (Some g) → IsValueOf words told g
-it_is_its_value words told g w = of_call words told g (stands None words told g w)
+pub it_is_its_value : (costs : Bool) (words : List (List ℕ)) (told : List ℕ) (g : Given) →
+    IsWrongBehind costs None words told (Some g) → IsValueOf costs words told g
+it_is_its_value costs words told g w = of_call costs words told g (stands costs None words told g w)

@@ -1,5 +1,5 @@
 -- The options of a command line that take a word: their names, and which words they take.
-use Rattle.std.specs.Prelude.{◌≡◌, ◌⊎◌, ℕ, ◌<◌, ◌≤◌, ℤ, List, Option, Some, None, codes, if◌then◌else◌}
+use Rattle.std.specs.Prelude.{◌≡◌, ◌⊎◌, ℕ, ◌<◌, ◌≤◌, ℤ, Bool, ◌&&◌, List, Option, Some, None, codes, if◌then◌else◌}
 use Rattle.pram_model.specs.Names.{same_text}
 use Rattle.pram_model.specs.Rules.{rule_word}
 use Rattle.pram_model.specs.declared.rule.Rule.{Rule}
@@ -13,7 +13,9 @@ use Rattle.word_faults.specs.declared.given.Given.TheVariants as given
 -- how an option stands on a command line
 abbrev pub name : Given → List ℕ
 name given.Bound = codes "--bound"
+name given.Seconds = codes "--seconds"
 name given.Workers = codes "--workers"
+name given.ToldWorkers = codes "--workers"
 name given.Map = codes "--map"
 name given.Reserve = codes "--reserve"
 name given.Schedule = codes "--schedule"
@@ -79,15 +81,20 @@ named_opening word =
 abbrev pub named : List ℕ → Option Given
 named word =
     if same_text word (codes "--bound") then Some given.Bound
+    else if same_text word (codes "--seconds") then Some given.Seconds
     else if same_text word (codes "--workers") then Some given.Workers
     else if same_text word (codes "--map") then Some given.Map
     else if same_text word (codes "--reserve") then Some given.Reserve
     else named_opening word
 
+-- in a call of `cost` the name of the workers is that of those that it tells of
+abbrev pub named_in : (costs : Bool) → List ℕ → Option Given
+named_in costs word = if costs && same_text word (codes "--workers") then Some given.ToldWorkers else named word
+
 abbrev pub IsNumber : List ℕ → Type 0
 IsNumber word = (n : ℕ) × (number_of word ≡ Some n)
 
--- a number of processors
+-- a number of processors, of seconds, or of workers that are told of
 abbrev pub IsCount : List ℕ → Type 0
 IsCount word = (n : ℕ) × (number_of word ≡ Some n) × (0 < n)
 
@@ -110,7 +117,9 @@ IsRule word = (rule : Rule) × (word ≡ rule_word rule)
 -- word, and of values neither: there may be too many inputs.
 abbrev pub Takes : Given → List ℕ → Type 0
 Takes given.Bound word = IsNumber word
+Takes given.Seconds word = IsCount word
 Takes given.Workers word = IsNumber word
+Takes given.ToldWorkers word = IsCount word
 Takes given.Map word = (map : MapChoice) × Names word map
 Takes given.Reserve word = (items : ℕ) × (exchanges : ℕ) × IsPair word items exchanges
 Takes given.Schedule word = IsCount word

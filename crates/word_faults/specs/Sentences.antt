@@ -23,7 +23,9 @@ letters (b ∷ bytes) = letter b ++ letters bytes
 -- what an option wants
 abbrev pub wanted : Given → List ℕ
 wanted given.Bound = codes "a number from 0 to 4294967295"
+wanted given.Seconds = codes "a number from 1 to 4294967295"
 wanted given.Workers = codes "a number from 1 to 32"
+wanted given.ToldWorkers = codes "a number from 1 to 4294967295"
 wanted given.Map = codes "identity, or affine:A,B with A odd, and A and B from 0 to 4294967295"
 wanted given.Reserve = codes "ITEMS,EXCHANGES, two numbers from 0 to 4294967295"
 wanted given.Schedule = codes "a number from 1 to 4294967295"
@@ -77,6 +79,7 @@ option_sentence word =
     else if same_text word (codes "--bsp") then codes "`--bsp` doesn't go with `--svg`\n"
     else if same_text word (codes "--schedule") then codes "`--schedule` doesn't go with `--sweep`\n"
     else if same_text word (codes "--lines") then codes "`--lines` doesn't go with `--sweep`\n"
+    else if same_text word (codes "--seconds") then codes "`--seconds` doesn't go with `--sweep`\n"
     else if same_text word (codes "--only") then codes "`--only` goes with `--flow` alone\n"
     else command_sentence word
 

@@ -1,11 +1,17 @@
 -- Where a word stands as the value of an option, and the option that doesn't take it.
-use Rattle.std.specs.Prelude.{◌≡◌, ◌==◌, ℕ, Bool, true, nat_lt, List, [], ◌∷◌, ◌++◌, length, Option, Some, None, if◌then◌else◌}
+use Rattle.std.specs.Prelude.{◌≡◌, ◌==◌, ℕ, Bool, true, false, nat_lt, List, [], ◌∷◌, ◌++◌, length, Option, Some, None, codes}
+use Rattle.std.specs.Prelude.{if◌then◌else◌}
 use Rattle.std.specs.List.{after_first, before_first, position_or_len}
 use Rattle.pram_model.specs.Names.{is_one_of, same_text}
 use Rattle.memory_texts.specs.Chosen.{parts}
 use Rattle.word_faults.specs.declared.given.Given.{Given}
 use Rattle.word_faults.specs.declared.given.Given.TheVariants as given
-use Rattle.word_faults.specs.Options.{Takes, named}
+use Rattle.word_faults.specs.Options.{Takes, named_in}
+
+-- whether a call is one of `cost`
+abbrev pub tells_costs : List (List ℕ) → Bool
+tells_costs [] = false
+tells_costs (word ∷ words) = same_text word (codes "cost")
 
 -- whether a word is the value of an option, or one of the names that are to be shown or drawn
 abbrev pub holds : Given → (value told : List ℕ) → Bool
@@ -22,10 +28,10 @@ abbrev pub is_equals : ℕ → Bool
 is_equals b = b == 61
 
 -- the option of a word `--NAME=VALUE`, where it has this value
-abbrev pub joined : (word told : List ℕ) → Option Given
-joined word told =
+abbrev pub joined : (costs : Bool) → (word told : List ℕ) → Option Given
+joined costs word told =
     if nat_lt (position_or_len is_equals word) (length word)
-    then held_by (named (before_first is_equals word)) (after_first is_equals word) told else None
+    then held_by (named_in costs (before_first is_equals word)) (after_first is_equals word) told else None
 
 -- the first of two, if there is one
 abbrev pub first_of : Option Given → Option Given → Option Given
@@ -33,8 +39,8 @@ first_of None other = other
 first_of (Some g) other = Some g
 
 -- the option whose value stands in a word, behind the name of the one before it
-abbrev pub value_at : (before : Option Given) → (word told : List ℕ) → Option Given
-value_at before word told = first_of (held_by before word told) (joined word told)
+abbrev pub value_at : (costs : Bool) → (before : Option Given) → (word told : List ℕ) → Option Given
+value_at costs before word told = first_of (held_by before word told) (joined costs word told)
 
 -- that option, unless it takes the word
 abbrev pub IsRefusedBy : Option Given → (told : List ℕ) → Option Given → Type 0
@@ -47,20 +53,20 @@ IsFirst None Later found = Later found
 IsFirst (Some g) Later found = found ≡ Some g
 
 -- the first such option of the words behind that name
-abbrev pub IsWrongBehind : (before : Option Given) → List (List ℕ) → (told : List ℕ) → Option Given → Type 0
-IsWrongBehind before [] told found = found ≡ None
-IsWrongBehind before (word ∷ words) told found = (here : Option Given) × IsRefusedBy (value_at before word told) told here
-    × IsFirst here (IsWrongBehind (named word) words told) found
+abbrev pub IsWrongBehind : (costs : Bool) → (before : Option Given) → List (List ℕ) → (told : List ℕ) → Option Given → Type 0
+IsWrongBehind costs before [] told found = found ≡ None
+IsWrongBehind costs before (word ∷ words) told found = (here : Option Given) × IsRefusedBy (value_at costs before word told) told here
+    × IsFirst here (IsWrongBehind costs (named_in costs word) words told) found
 
 -- the first option of a call whose value a word is, and that doesn't take it
 abbrev pub IsWrong : List (List ℕ) → (told : List ℕ) → Option Given → Type 0
-IsWrong words told found = IsWrongBehind None words told found
+IsWrong words told found = IsWrongBehind (tells_costs words) None words told found
 
 -- ---- what is so of it
 
 -- A word stands as the value of an option: behind its name, or behind the `=` in one word with it.
-pub data IsValueOf (words : List (List ℕ)) (told : List ℕ) (g : Given) : Type 0 where
-  Behind : (front back : List (List ℕ)) (name value : List ℕ) → words ≡ front ++ name ∷ value ∷ back → named name ≡ Some g
-      → holds g value told ≡ true → IsValueOf words told g
-  Joined : (front back : List (List ℕ)) (name value : List ℕ) → words ≡ front ++ (name ++ 61 ∷ value) ∷ back → named name ≡ Some g
-      → holds g value told ≡ true → IsValueOf words told g
+pub data IsValueOf (costs : Bool) (words : List (List ℕ)) (told : List ℕ) (g : Given) : Type 0 where
+  Behind : (front back : List (List ℕ)) (name value : List ℕ) → words ≡ front ++ name ∷ value ∷ back
+      → named_in costs name ≡ Some g → holds g value told ≡ true → IsValueOf costs words told g
+  Joined : (front back : List (List ℕ)) (name value : List ℕ) → words ≡ front ++ (name ++ 61 ∷ value) ∷ back
+      → named_in costs name ≡ Some g → holds g value told ≡ true → IsValueOf costs words told g

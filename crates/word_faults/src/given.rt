@@ -7,7 +7,11 @@ ghost use Rattle.word_faults.specs.Options as spec;
 #[derive(Clone, Copy, Debug, Drop, PartialEq, Eq)]
 pub enum Given {
     Bound,
+    Seconds,
+    /// The workers that run a program.
     Workers,
+    /// The workers that `cost` tells of, of which there may be any number.
+    ToldWorkers,
     Map,
     Reserve,
     Schedule,
@@ -38,7 +42,9 @@ impl Given {
     {
         match self {
             Given::Bound => b"--bound",
+            Given::Seconds => b"--seconds",
             Given::Workers => b"--workers",
+            Given::ToldWorkers => b"--workers",
             Given::Map => b"--map",
             Given::Reserve => b"--reserve",
             Given::Schedule => b"--schedule",

@@ -3,10 +3,11 @@
 ghost use Rattle.std.specs.Prelude.{ℕ, List, Some};
 ghost use Rattle.word_faults.specs.declared.given.Given.{Given};
 ghost use Rattle.word_faults.specs.Options.{Takes};
-ghost use Rattle.word_faults.specs.Values.{IsValueOf, IsWrong};
+ghost use Rattle.word_faults.specs.Values.{IsValueOf, IsWrong, tells_costs};
 
 /// Of an option that is told to be wrong the word is the value, and the option doesn't take it.
 pub fn what_is_told_is_wrong()
-    ensures value { (words : List (List ℕ)) (told : List ℕ) (g : Given) → IsWrong words told (Some g) → IsValueOf words told g }
+    ensures value { (words : List (List ℕ)) (told : List ℕ) (g : Given) → IsWrong words told (Some g) →
+        IsValueOf (tells_costs words) words told g }
     ensures refused { (words : List (List ℕ)) (told : List ℕ) (g : Given) → IsWrong words told (Some g) → ¬ (Takes g told) }
 {}

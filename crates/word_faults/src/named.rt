@@ -87,12 +87,14 @@ fn named_opening(word: &[u8]) -> Option<Given>
     }
 }
 
-/// The option of that name, if there is one.
-pub(crate) fn named(word: &[u8]) -> Option<Given>
+// The option of that name, if there is one.
+fn named(word: &[u8]) -> Option<Given>
     ensures { result ≡ spec.named word.now }
 {
     if is_same(word, b"--bound") {
         Some(Given::Bound)
+    } else if is_same(word, b"--seconds") {
+        Some(Given::Seconds)
     } else if is_same(word, b"--workers") {
         Some(Given::Workers)
     } else if is_same(word, b"--map") {
@@ -101,5 +103,16 @@ pub(crate) fn named(word: &[u8]) -> Option<Given>
         Some(Given::Reserve)
     } else {
         named_opening(word)
+    }
+}
+
+/// The option of that name, in a call of `cost` or of another command.
+pub(crate) fn named_in(costs: bool, word: &[u8]) -> Option<Given>
+    ensures { result ≡ spec.named_in costs word.now }
+{
+    if costs && is_same(word, b"--workers") {
+        Some(Given::ToldWorkers)
+    } else {
+        named(word)
     }
 }

@@ -49,7 +49,9 @@ fn wanted(given: Given) -> &'static [u8]
 {
     match given {
         Given::Bound => b"a number from 0 to 4294967295",
+        Given::Seconds => b"a number from 1 to 4294967295",
         Given::Workers => b"a number from 1 to 32",
+        Given::ToldWorkers => b"a number from 1 to 4294967295",
         Given::Map => b"identity, or affine:A,B with A odd, and A and B from 0 to 4294967295",
         Given::Reserve => b"ITEMS,EXCHANGES, two numbers from 0 to 4294967295",
         Given::Schedule => b"a number from 1 to 4294967295",
@@ -149,6 +151,8 @@ fn option_sentence(word: &[u8]) -> &'static [u8]
         b"`--schedule` doesn't go with `--sweep`\n"
     } else if is_same(word, b"--lines") {
         b"`--lines` doesn't go with `--sweep`\n"
+    } else if is_same(word, b"--seconds") {
+        b"`--seconds` doesn't go with `--sweep`\n"
     } else if is_same(word, b"--only") {
         b"`--only` goes with `--flow` alone\n"
     } else {

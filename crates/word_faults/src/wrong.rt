@@ -5,9 +5,19 @@ ghost use Rattle.std.specs.String.{string_bytes};
 ghost use Rattle.word_faults.specs.Values as spec;
 
 use crate::given::Given;
-use crate::named::{is_same, named};
+use crate::named::{is_same, named_in};
 use crate::takes::takes;
 use memory_texts::{Choice, is_chosen};
+
+// Whether a call is one of `cost`.
+fn tells_costs(words: &[String]) -> bool
+    ensures { result ≡ spec.tells_costs (map string_bytes words.now) }
+{
+    match words {
+        [] => false,
+        [first, ..] => is_same(first.as_bytes(), b"cost"),
+    }
+}
 
 // Whether a word is the value of an option, or one of the names that are to be shown or drawn.
 fn holds(given: Given, value: &str, told: &str) -> bool
@@ -35,21 +45,21 @@ fn held_by(given: Option<Given>, value: &str, told: &str) -> Option<Given>
 }
 
 // The option of a word `--NAME=VALUE`, where it has this value.
-fn joined(word: &str, told: &str) -> Option<Given>
-    ensures { result ≡ spec.joined word.now told.now }
+fn joined(costs: bool, word: &str, told: &str) -> Option<Given>
+    ensures { result ≡ spec.joined costs word.now told.now }
 {
     match word.split_once('=') {
         None => None,
-        Some((name, value)) => held_by(named(name.as_bytes()), value, told),
+        Some((name, value)) => held_by(named_in(costs, name.as_bytes()), value, told),
     }
 }
 
-fn value_at(before: Option<Given>, word: &str, told: &str) -> Option<Given>
-    ensures { result ≡ spec.value_at before word.now told.now }
+fn value_at(costs: bool, before: Option<Given>, word: &str, told: &str) -> Option<Given>
+    ensures { result ≡ spec.value_at costs before word.now told.now }
 {
     match held_by(before, word, told) {
         Some(given) => Some(given),
-        None => joined(word, told),
+        None => joined(costs, word, told),
     }
 }
 
@@ -68,24 +78,26 @@ fn refused_by(given: Option<Given>, told: &str) -> Option<Given>
     }
 }
 
-fn wrong_at(before: Option<Given>, word: &str, told: &str) -> Option<Given>
-    ensures { spec.IsRefusedBy (spec.value_at before word.now told.now) told.now result }
+fn wrong_at(costs: bool, before: Option<Given>, word: &str, told: &str) -> Option<Given>
+    ensures { spec.IsRefusedBy (spec.value_at costs before word.now told.now) told.now result }
 {
-    refused_by(value_at(before, word, told), told)
+    refused_by(value_at(costs, before, word, told), told)
 }
 
 /// The first option of the words of a call that has this word as its value and doesn't take it: the word stands behind the option's name,
-/// or behind the `=` in one word with it; of names that are to be shown or drawn it may be one of them.
+/// or behind the `=` in one word with it; of names that are to be shown or drawn it may be one of them. The first word is the command:
+/// `cost` takes other numbers of workers than those that run a program.
 pub fn wrong_option(words: &[String], told: &str) -> Option<Given>
     ensures { spec.IsWrong (map string_bytes words.now) told.now result }
 {
+    let costs = tells_costs(words);
     let mut before = None;
     for word in words {
         let word = word.as_str();
-        if let Some(given) = wrong_at(before, word, told) {
+        if let Some(given) = wrong_at(costs, before, word, told) {
             return Some(given);
         }
-        before = named(word.as_bytes());
+        before = named_in(costs, word.as_bytes());
     }
     None
 }

@@ -7,5 +7,5 @@ use Rattle.word_faults.proofs.wrong.wrong_option.Given as goal
 
 -- what is wrong of what is left, behind the word before, is what is wrong of all
 abbrev pub invariant-loop-word : goal.invariant-loop-word
-invariant-loop-word l = (found : Option Given) → IsWrongBehind l.before (map string_bytes (drop l.word-index l.words)) l.told found
+invariant-loop-word l = (found : Option Given) → IsWrongBehind l.costs l.before (map string_bytes (drop l.word-index l.words)) l.told found
     → IsWrong (map string_bytes l.words) l.told found
