@@ -1,4 +1,5 @@
 pub mod Costs
+pub mod WordsTold
 pub mod Writing
 pub mod Layouts
 pub mod Files

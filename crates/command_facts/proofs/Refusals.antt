@@ -14,11 +14,13 @@ use Rattle.program_runs.specs.Reserved.{IsCodeRefusedWith}
 use Rattle.command_requests.specs.declared.request.ProgramFile.{ProgramFile}
 use Rattle.command_requests.specs.declared.request.RunWords.{RunWords}
 use Rattle.command_requests.specs.declared.request.Verb.{Verb}
+use Rattle.command_requests.specs.declared.request.Verb.TheVariants as verb
 use Rattle.command_facts.specs.declared.halted.Halted.{Halted}
 use Rattle.command_facts.specs.declared.loaded.Loaded.{Loaded}
 use Rattle.command_facts.specs.Found.{IsLoaded, IsOpening}
 use Rattle.command_facts.specs.Held.{IsListingIn}
 use Rattle.command_facts.proofs.Programs.{program_in}
+use Rattle.command_facts.specs.Timed.{IsMade}
 use Rattle.command_facts.specs.Refused.{IsRefusedCodeRun, IsRefusedRun, IsRunRefusedBy, IsToldWith, StopsAtCodeRun, StopsAtRun}
 
 -- by the definition
@@ -40,6 +42,20 @@ no_meaning_by {X} program input why r is long = no_meaning_on program input why 
   where
     same : (r : Result X MeaningRefusal) → r ≡ Err why → r ≡ Err no_meaning.InputTooLong → why ≡ no_meaning.InputTooLong
     same r is e = cc
+
+-- a run that is made within fewer statements is refused for what the one that is asked for is
+pub refused_as_asked : (v : Verb) (program : Checked) (input : List ℤ) (asked made : RunWords) (r : Refusal) → IsMade v asked made →
+    IsRunRefusedBy v program input made r → IsRunRefusedBy v program input asked r
+refused_as_asked verb.Run program input asked made r is why = subst (λ w. IsRunRefusedBy verb.Run program input w r) is why
+refused_as_asked verb.Trace program input asked made r is why = subst (λ w. IsRunRefusedBy verb.Trace program input w r) is why
+refused_as_asked verb.Meaning program input asked made r is why = why
+refused_as_asked verb.Cost program input asked made r is why = why
+refused_as_asked verb.Steps program input asked made r is why = why
+refused_as_asked verb.Check program input asked made r is why = why
+refused_as_asked verb.Plan program input asked made r is why = why
+refused_as_asked verb.Export program input asked made r is why = why
+refused_as_asked verb.Rules program input asked made r is why = why
+refused_as_asked verb.Expand program input asked made r is why = why
 
 -- a program's run
 pub run_refused : (verb : Verb) (program : Checked) (input : List ℤ) (words : RunWords) (r : Refusal) (h : Halted) →

@@ -121,7 +121,7 @@ module _ (now before : List ℕ → Option (List ℕ) → Type 0) (same : IsSame
   run_held verb file words r h = record {
     loaded = loaded_held file r.loaded h.loaded;
     given = opening_held r.loaded.program.layout words.opening r.input.items h.given;
-    asked = h.asked;
+    made = h.made;
     there = h.there;
     meaning = h.meaning;
     facts = h.facts;

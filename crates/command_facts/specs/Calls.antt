@@ -1,5 +1,6 @@
 -- What a call finds, or why it finds nothing.
-use Rattle.std.specs.Prelude.{◌≡◌, ◌⊎◌, ◌≤◌, ℕ, length, nat_lt, Bool, true, false, if◌then◌else◌, List, Option, Some, None, Result, Ok, Err}
+use Rattle.std.specs.Prelude.{◌≡◌, ◌⊎◌, ◌≤◌, ℕ, length, nat_lt, Bool, true, false, if◌then◌else◌, List, [], ◌∷◌, Option}
+use Rattle.std.specs.Prelude.{Result, Ok, Err}
 use Rattle.std.specs.List.{list_any}
 use Rattle.pram_model.specs.Layout.{total_size}
 use Rattle.sized_texts.specs.Pieces.{Expansion}
@@ -97,12 +98,12 @@ abbrev pub status_of_findings : (faulted go_on : ℕ) → Status
 status_of_findings faulted go_on = if nat_lt 0 faulted then status.Faulted else (if nat_lt 0 go_on then status.GoesOn else status.Done)
 
 -- That of two programs on the same inputs: as of a fault, where they differ on one.
-abbrev pub status_of_differing : Option comparisons.Differing → Status
-status_of_differing None = status.Done
-status_of_differing (Some d) = status.Faulted
+abbrev pub status_of_differing : List comparisons.Differing → Status
+status_of_differing [] = status.Done
+status_of_differing (d ∷ told) = status.Faulted
 
 abbrev pub status_of_pair : comparisons.Found → Status
-status_of_pair f = status_of_differing f.first
+status_of_pair f = status_of_differing f.told
 
 -- The exit status that goes with what was found. A run that is still to be told has that of its outcome.
 abbrev pub status_of_found : Found → Status

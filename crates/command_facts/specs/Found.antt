@@ -9,6 +9,7 @@ use Rattle.write_rules.specs.Verdict.{verdict_of, Verdict, Ended, Faulted, GoesO
 use Rattle.write_rules.specs.declared.outcome.Outcome.{Outcome}
 use Rattle.program_texts.specs.Report.{IsMeaningOf, IsProgramOf}
 use Rattle.work_time.specs.declared.cost.Cost.{Cost}
+use Rattle.work_time.specs.Communication.{most_words}
 use Rattle.work_time.specs.Steps.{run_steps}
 use Rattle.work_time.specs.declared.time_step.TimeStep.{TimeStep}
 use Rattle.work_time.specs.Cost as cost
@@ -36,6 +37,7 @@ use Rattle.command_facts.specs.declared.found.FoundSteps.{FoundSteps}
 use Rattle.command_facts.specs.declared.loaded.Loaded.{Loaded}
 use Rattle.diagnoses.specs.Sources.{text_in}
 use Rattle.command_requests.specs.declared.request.ProgramFile.{ProgramFile}
+use Rattle.command_facts.specs.Timed.{IsMade}
 use Rattle.command_facts.specs.Held.{IsInputIn, IsListingIn, IsMemoryIn, IsTextIn}
 
 -- ---- costs
@@ -56,10 +58,11 @@ abbrev pub processors_of : Option ℕ → ℕ
 processors_of None = 1
 processors_of (Some q) = q
 
--- what a program's run on an input within n statements costs
-abbrev pub IsCostOf : Checked → List ℤ → ℕ → Option ℕ → Cost → Type 0
-IsCostOf program input n schedule c =
+-- What a program's run on an input within n statements costs; where a number of workers is asked for, with the most words that they send.
+abbrev pub IsCostOf : Checked → List ℤ → ℕ → (schedule workers : Option ℕ) → Cost → Type 0
+IsCostOf program input n schedule workers c =
     IsCost (run_steps program input n) (processors_of schedule) c × (c.most_exchanges ≡ exchange_bound program input n)
+    × (c.most_words ≡ most_words program workers input n)
 
 -- ---- files
 
@@ -89,7 +92,8 @@ ending_text layout (GoesOn output) = codes "goes on"
 
 -- What is found beside the verdict of a program's run on an input: of its cost or its exchanges.
 abbrev pub AreFactsOf : Verb → Checked → List ℤ → RunWords → Verdict → Facts → Type 0
-AreFactsOf verb.Cost program input words v (facts.Cost c) = IsCostOf program input words.options.bound words.costs.schedule c
+AreFactsOf verb.Cost program input words v (facts.Cost c) =
+    IsCostOf program input words.options.bound words.costs.schedule words.costs.workers c
 AreFactsOf verb.Trace program input words v (facts.Exchanges t) =
     IsProgramRunWith program input words.options words.reserve v t.counts
     × AreLinesAsked words.trace.lines program input words.options.bound t.lines.items × (t.ends.items ≡ ending_text program.layout v)
@@ -108,21 +112,21 @@ AreFactsOf _ program input words v _ = ⊥
 abbrev pub AreThere : List SharedEntry → RunWords → Type 0
 AreThere layout words = unknown_name layout words.shown ≡ None
 
--- the outcome of the file's program on the call's input, within its bound, and what is found beside it
+-- the outcome of the file's program on the call's input, within the bound of the run that is made, and what is found beside it
 pub record IsRunFound (holds : List ℕ → Option (List ℕ) → Type 0) (verb : Verb) (file : ProgramFile) (words : RunWords) (r : FoundRun)
     : Type 0 where
   pub loaded : IsLoaded (holds file.name.now) file r.loaded
   pub given : IsOpening holds r.loaded.program.layout words.opening r.input.items
-  pub asked : r.words ≡ words
+  pub made : IsMade verb words r.words
   pub there : AreThere r.loaded.program.layout words
-  pub meaning : IsMeaningOf r.loaded.program r.input.items words.options.bound (verdict_of r.outcome)
-  pub facts : AreFactsOf verb r.loaded.program r.input.items words (verdict_of r.outcome) r.facts
+  pub meaning : IsMeaningOf r.loaded.program r.input.items r.words.options.bound (verdict_of r.outcome)
+  pub facts : AreFactsOf verb r.loaded.program r.input.items r.words (verdict_of r.outcome) r.facts
 
 -- The file's program is to be run on the call's input, which has no more values than there are cells.
 pub record IsStepsFound (holds : List ℕ → Option (List ℕ) → Type 0) (file : ProgramFile) (words : RunWords) (s : FoundSteps) : Type 0 where
   pub loaded : IsLoaded (holds file.name.now) file s.loaded
   pub given : IsOpening holds s.loaded.program.layout words.opening s.input.items
-  pub asked : s.words ≡ words
+  pub made : IsMade verb.Steps words s.words
   pub there : AreThere s.loaded.program.layout words
   pub fits : length s.input.items ≤ total_size s.loaded.program.layout
 

@@ -1,5 +1,6 @@
 pub mod Listings
 pub mod Held
+pub mod Timed
 pub mod Found
 pub mod Refused
 pub mod Scopes
@@ -8,3 +9,4 @@ pub mod Pairs
 pub mod Sweeps
 pub mod Calls
 pub mod Written
+pub mod CostLaws

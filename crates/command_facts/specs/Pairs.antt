@@ -9,7 +9,7 @@ use Rattle.memory_texts.specs.Chosen.{is_chosen, parts}
 use Rattle.memory_texts.specs.declared.choice.Choice.{Choice}
 use Rattle.memory_texts.specs.declared.choice.Choice.TheVariants.{All, Named, Nothing}
 use Rattle.comparisons.specs.Common.{common, common_named}
-use Rattle.comparisons.specs.Found.{drawn_inputs, found, found_is, longest, too_long}
+use Rattle.comparisons.specs.Found.{drawn_inputs, found, found_is, longest, most_told, too_long}
 use Rattle.comparisons.specs.declared.compared.CommonRange.{CommonRange}
 use Rattle.comparisons.specs.declared.compared.Compared.{Compared}
 use Rattle.comparisons.specs.declared.comparison.Comparison.{Comparison}
@@ -69,9 +69,16 @@ AreInputs holds (inputs.Drawn d) first is =
 
 -- ---- what is found
 
--- over just these inputs, within so many statements each
+-- the most values that one of them has
+abbrev pub most_values : InputWords → (first : Checked) → List (List ℤ) → ℕ
+most_values (inputs.Scope few) first is = few.scope.count
+most_values (inputs.Files files) first is = longest is
+most_values (inputs.Drawn d) first is = total_size first.layout
+
+-- over just these inputs, within so many statements each; told are as many of those on which they differ as there may be of so many values
 abbrev pub IsFoundOn : (List ℕ → Option (List ℕ) → Type 0) → (p q : Checked) → Compared → InputWords → (bound : ℕ) → Comparison → Type 0
-IsFoundOn holds p q c words bound f = (is : List (List ℤ)) × AreInputs holds words p is × (found_is f ≡ found p q c bound is)
+IsFoundOn holds p q c words bound f =
+    (is : List (List ℤ)) × AreInputs holds words p is × (found_is f ≡ found p q c bound (most_told (most_values words p is)) is)
 
 -- of the programs of the two files
 pub record IsPaired (holds : List ℕ → Option (List ℕ) → Type 0) (words : PairWords) (f : FoundPair) : Type 0 where

@@ -33,13 +33,15 @@ pub record IsExplored (holds : List ℕ → Option (List ℕ) → Type 0) (file 
   pub ran : f.program ≡ under_rule scope.rule loaded.program
   pub found : found_is f.findings ≡ found f.program bound (inputs_of scope.scope)
 
--- the inputs have more values than the program has cells, which is told with both numbers; or memory was refused
-abbrev pub IsRefusedFor : (values cells : ℕ) → Stop → About → Type 0
-IsRefusedFor values cells (stop.Refused refusal.InputTooLong) a = (cells < values) × AreNumbers a values cells
-IsRefusedFor values cells (stop.Refused refusal.OutOfMemory) a = a ≡ about.Nothing
-IsRefusedFor values cells _ a = ⊥
+-- There are no workers, or more than 32; the inputs have more values than the program has cells, which is told with both numbers; or memory
+-- was refused.
+abbrev pub IsRefusedFor : (workers values cells : ℕ) → Stop → About → Type 0
+IsRefusedFor workers values cells (stop.Refused refusal.BadWorkers) a = ((workers < 1) ⊎ (32 < workers)) × (a ≡ about.Nothing)
+IsRefusedFor workers values cells (stop.Refused refusal.InputTooLong) a = (cells < values) × AreNumbers a values cells
+IsRefusedFor workers values cells (stop.Refused refusal.OutOfMemory) a = a ≡ about.Nothing
+IsRefusedFor workers values cells _ a = ⊥
 
 -- why nothing is found: for the program's file, or for its runs
 abbrev pub StopsAtExploration : (List ℕ → Option (List ℕ) → Type 0) → ProgramFile → ScopeWords → Halted → Type 0
 StopsAtExploration holds file scope h = StopsAtProgram (holds file.name.now) file h
-    ⊎ ((program : Checked) × IsProgramIn holds file program × IsRefusedFor scope.scope.count (total_size program.layout) h.stop h.about)
+    ⊎ ((program : Checked) × IsProgramIn holds file program × IsRefusedFor scope.workers scope.scope.count (total_size program.layout) h.stop h.about)

@@ -71,6 +71,7 @@ abbrev pub with_opening : RunWords → Opening → RunWords
 with_opening words o = record {
   opening = o;
   options = words.options;
+  seconds = words.seconds;
   reserve = words.reserve;
   costs = words.costs;
   steps = words.steps;
@@ -94,6 +95,7 @@ counts_of c = record {
   reads = c.reads;
   writes = c.writes;
   most_exchanges = c.most_exchanges;
+  most_words = c.most_words;
 }
 
 -- a run's counts, with the fault where it faults

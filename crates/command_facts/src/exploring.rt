@@ -1,6 +1,6 @@
 //! Runs of a program on every input of a scope.
 
-ghost use Rattle.std.specs.Prelude.{◌≡◌, ◌<◌, IfOk, IfErr};
+ghost use Rattle.std.specs.Prelude.{◌≡◌, ◌<◌, ◌≤◌, IfOk, IfErr, ℕ};
 ghost use Rattle.command_facts.specs.Scopes as spec;
 
 use crate::found::FoundScope;
@@ -9,13 +9,17 @@ use crate::loading::load_program;
 use call_progress::Watch;
 use command_requests::{ProgramFile, ScopeWords};
 use diagnoses::About;
-use explorations::explore;
+use explorers::explore_by;
 use pram_check::Program;
 use pram_meaning::MeaningRefusal;
 use pram_trees::Rule;
 use program_texts::{Refusal, Stop};
 use std::alloc::Global;
+use std::thread::Threads;
 use system_files::Sources;
+
+// The most workers that share the inputs.
+const MOST_WORKERS: u32 = 32;
 
 // The program under the rule that is asked for, or its own.
 fn under(program: Program, rule: Option<Rule>) -> Program
@@ -30,7 +34,7 @@ fn under(program: Program, rule: Option<Rule>) -> Program
 // No run begins: the inputs have more values than there are cells, or memory was refused.
 fn halted<'a>(why: MeaningRefusal, values: u32, cells: u32) -> Halted<'a>
     requires too_long { why ≡ MeaningRefusal.InputTooLong → cells < values }
-    ensures { spec.IsRefusedFor values cells result.stop result.about }
+    ensures { (workers : ℕ) → spec.IsRefusedFor workers values cells result.stop result.about }
 {
     match why {
         MeaningRefusal::InputTooLong => Halted {
@@ -47,8 +51,25 @@ fn halted<'a>(why: MeaningRefusal, values: u32, cells: u32) -> Halted<'a>
     }
 }
 
-/// The runs of the file's program on every input of the scope, each for at most `bound` statements.
-pub(crate) fn find_scope<'a, S: Sources, V: Watch>(
+// There have to be 1 to 32 workers.
+fn check_workers<'a>(workers: u32) -> Result<(), Halted<'a>>
+    ensures some { IfOk result (λ u. 0 < workers) }
+    ensures few { IfOk result (λ u. workers ≤ 32) }
+    ensures refused { IfErr result (λ h. (values cells : ℕ) → spec.IsRefusedFor workers values cells h.stop h.about) }
+{
+    if 0 < workers && workers <= MOST_WORKERS {
+        Ok(())
+    } else {
+        Err(Halted {
+            stop: Stop::Refused(Refusal::BadWorkers),
+            about: About::Nothing,
+        })
+    }
+}
+
+/// The runs of the file's program on every input of the scope, each for at most `bound` statements, by the workers that are asked for.
+pub(crate) fn find_scope<'a, R: Threads + Sync, S: Sources, V: Watch>(
+    rt: &R,
     alloc: Global,
     file: &ProgramFile<'a>,
     scope: ScopeWords,
@@ -61,7 +82,18 @@ pub(crate) fn find_scope<'a, S: Sources, V: Watch>(
 {
     let loaded = load_program(alloc, sources, file)?;
     let program = under(loaded.program, scope.rule);
-    match explore(alloc, &program, scope.scope, bound, watch) {
+    if let Err(halted) = check_workers(scope.workers) {
+        return Err(halted);
+    }
+    match explore_by(
+        rt,
+        alloc,
+        &program,
+        scope.scope,
+        bound,
+        scope.workers,
+        watch,
+    ) {
         Ok(findings) => Ok(FoundScope { program, findings }),
         Err(why) => Err(halted(why, scope.scope.count, program.layout().cells())),
     }

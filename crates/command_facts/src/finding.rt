@@ -16,6 +16,7 @@ use crate::opening::load_opening;
 use crate::pairing::find_pair;
 use crate::running::facts_of;
 use crate::sweeping::find_sweep;
+use crate::timed::made;
 use bsp_verify::Verified;
 use call_progress::Watch;
 use command_requests::{ProgramFile, Request, RunWords, Verb};
@@ -28,7 +29,7 @@ use std::alloc::Global;
 use std::sync::Wait;
 use std::thread::Threads;
 use system_files::Sources;
-use workers::OpenGate;
+use workers::Gate;
 
 // Stops at the first name that is to be shown and is that of no declaration (P1).
 fn check_names<'a>(layout: &Layout, words: RunWords<'a>) -> Result<(), Halted<'a>>
@@ -96,21 +97,25 @@ fn find_comparison<'a, S: Sources>(
     }
 }
 
-/// A run of the file's program.
-pub(crate) fn find_run<'a, R: Threads + Wait + Sync, S: Sources>(
+/// A run of the file's program. The watch is told how far it is.
+pub(crate) fn find_run<'a, R: Threads + Wait + Sync, S: Sources, V: Watch + Gate + Sync>(
     rt: &R,
     alloc: Global,
     verb: Verb,
     file: &ProgramFile<'a>,
     words: RunWords<'a>,
     sources: &mut S,
+    watch: &mut V,
 ) -> Result<FoundRun<'a>, Halted<'a>>
     ensures found { IfOk result (IsRunFound (S.Sources.holds sources.old) verb file.now words.entry) }
     ensures refused { IfErr result (RefusesRun (S.Sources.holds sources.old) verb file.now words.entry) }
     ensures same { IsSame (S.Sources.holds sources.new) (S.Sources.holds sources.old) }
 {
     let (loaded, input) = load_given(alloc, file, words, sources)?;
-    match facts_of(rt, alloc, verb, &loaded.program, &input, words) {
+    let words = made(alloc, verb, &loaded.program, &input, words, watch);
+    let found = facts_of(rt, alloc, verb, &loaded.program, &input, words, watch);
+    watch.close();
+    match found {
         Ok((outcome, facts)) => Ok(FoundRun {
             loaded,
             input,
@@ -126,11 +131,12 @@ pub(crate) fn find_run<'a, R: Threads + Wait + Sync, S: Sources>(
 }
 
 // A run of the file's program that is still to be told.
-fn find_steps<'a, S: Sources>(
+fn find_steps<'a, S: Sources, V: Watch>(
     alloc: Global,
     file: &ProgramFile<'a>,
     words: RunWords<'a>,
     sources: &mut S,
+    watch: &mut V,
 ) -> Result<FoundSteps<'a>, Halted<'a>>
     ensures found { IfOk result (IsStepsFound (S.Sources.holds sources.old) file.now words.entry) }
     ensures refused { IfErr result (RefusesRun (S.Sources.holds sources.old) Verb.Steps file.now words.entry) }
@@ -140,6 +146,8 @@ fn find_steps<'a, S: Sources>(
     if values > cells as usize {
         return Err(halted_run(Refusal::InputTooLong, values, cells));
     }
+    let words = made(alloc, Verb::Steps, &loaded.program, &input, words, watch);
+    watch.close();
     Ok(FoundSteps {
         loaded,
         input,
@@ -148,12 +156,13 @@ fn find_steps<'a, S: Sources>(
 }
 
 // A run of the file's code.
-fn find_code_run<'a, R: Threads + Wait + Sync, S: Sources>(
+fn find_code_run<'a, R: Threads + Wait + Sync, S: Sources, V: Watch + Gate + Sync>(
     rt: &R,
     alloc: Global,
     file: &'a str,
     words: RunWords<'a>,
     sources: &mut S,
+    watch: &mut V,
 ) -> Result<FoundCode<'a>, Halted<'a>>
     ensures found { IfOk result (IsCodeFound (S.Sources.holds sources.old) file.now words.entry) }
     ensures refused { IfErr result (RefusesCodeRun (S.Sources.holds sources.old) file.now words.entry) }
@@ -162,7 +171,9 @@ fn find_code_run<'a, R: Threads + Wait + Sync, S: Sources>(
     check_names(code.code().layout(), words)?;
     let input = load_opening(alloc, sources, words.opening, code.code().layout())?;
     let (options, reserve) = (words.options, words.reserve);
-    match outcome_of_code(rt, alloc, &code, &input, options, reserve, &OpenGate) {
+    let found = outcome_of_code(rt, alloc, &code, &input, options, reserve, &*watch);
+    watch.close();
+    match found {
         Ok(outcome) => Ok(FoundCode {
             code,
             shown: words.shown,
@@ -176,13 +187,14 @@ fn find_code_run<'a, R: Threads + Wait + Sync, S: Sources>(
 }
 
 // What a call over a program finds.
-fn find_of<'a, R: Threads + Wait + Sync, S: Sources>(
+fn find_of<'a, R: Threads + Wait + Sync, S: Sources, V: Watch + Gate + Sync>(
     rt: &R,
     alloc: Global,
     verb: Verb,
     file: &ProgramFile<'a>,
     words: RunWords<'a>,
     sources: &mut S,
+    watch: &mut V,
 ) -> Result<Found<'a>, Halted<'a>>
     ensures found { IfOk result (FindsOf (S.Sources.holds sources.old) verb file.now words.entry) }
     ensures refused { IfErr result (RefusesOf (S.Sources.holds sources.old) verb file.now words.entry) }
@@ -196,9 +208,9 @@ fn find_of<'a, R: Threads + Wait + Sync, S: Sources>(
             let comparison = find_comparison(alloc, file, words, sources)?;
             Ok(Found::Compared(comparison))
         }
-        Verb::Steps => Ok(Found::Stepped(find_steps(alloc, file, words, sources)?)),
+        Verb::Steps => Ok(Found::Stepped(find_steps(alloc, file, words, sources, watch)?)),
         Verb::Meaning | Verb::Cost | Verb::Run | Verb::Trace => {
-            let run = find_run(rt, alloc, verb, file, words, sources)?;
+            let run = find_run(rt, alloc, verb, file, words, sources, watch)?;
             Ok(Found::Run(run))
         }
     }
@@ -212,33 +224,36 @@ fn find_of<'a, R: Threads + Wait + Sync, S: Sources>(
 /// declared (E6) and too many values (E11) are told; the number of workers (E13), the map (E12), and the number of the input's values (E11); and with
 /// a reserve whether the run comes past it (E18). E16 comes where memory was refused. A run that is told statement by statement is judged
 /// so and not yet run: who tells it runs it.
-pub fn find<'a, R: Threads + Wait + Sync, S: Sources, V: Watch>(
+pub fn find<'a, R: Threads + Wait + Sync, S: Sources, V: Watch + Gate + Sync>(
     rt: &R,
     alloc: Global,
     request: Request<'a>,
     sources: &mut S,
     watch: &mut V,
 ) -> Result<Found<'a>, Halted<'a>>
-    // It is of all that the files hold which the request names, within its bound, on its workers, by its map and with its reserve.
+    // It is of all that the files hold which the request names, within its bound, on its workers, by its map and with its reserve; where it
+    // is to be over in some seconds, within a bound that is at most that one, and that is named.
     ensures found { IfOk result (Finds (S.Sources.holds sources.old) request.entry) }
     ensures refused { IfErr result (Refuses (S.Sources.holds sources.old) request.entry) }
 {
     match request {
         Request::Version => Ok(Found::Version),
         Request::Explanation(subject) => Ok(Found::Explanation(subject)),
-        Request::Program { verb, file, words } => find_of(rt, alloc, verb, &file, words, sources),
+        Request::Program { verb, file, words } => find_of(
+            rt, alloc, verb, &file, words, sources, watch,
+        ),
         Request::Sweep { file, sweep, words } => {
             let swept = find_sweep(rt, alloc, &file, &sweep, words, sources)?;
             Ok(Found::Swept(swept))
         }
         Request::Exploration { file, scope, words } => {
-            let found = find_scope(alloc, &file, scope, words.options.bound, sources, watch)?;
+            let found = find_scope(rt, alloc, &file, scope, words.options.bound, sources, watch)?;
             Ok(Found::Explored(found))
         }
         Request::Pair(words) => Ok(Found::Paired(find_pair(alloc, &words, sources)?)),
         Request::ListingInC { file } => Ok(Found::Exported(load_listing(alloc, sources, file)?)),
         Request::Listing { file, words } => {
-            let run = find_code_run(rt, alloc, file, words, sources)?;
+            let run = find_code_run(rt, alloc, file, words, sources, watch)?;
             Ok(Found::Executed(run))
         }
     }

@@ -1,6 +1,7 @@
 //! What a call of the program finds in its files, and of their programs' runs, before anything is written of it.
 #![tactic(auto)]
 
+pub mod cost_laws;
 mod ends;
 mod exploring;
 mod finding;
@@ -15,6 +16,7 @@ mod pairing;
 mod running;
 mod status;
 mod sweeping;
+mod timed;
 mod tracing;
 
 pub use finding::find;

@@ -207,7 +207,7 @@ fn on_scope<'a>(
     bound: u32,
 ) -> Result<Comparison, Halted<'a>>
     ensures found { IfOk result (λ r. pairs.found_is r
-        ≡ pairs.found first.now second.now compared.now bound (inputs_of few.scope)) }
+        ≡ pairs.found first.now second.now compared.now bound (pairs.most_told few.scope.count) (inputs_of few.scope)) }
     ensures refused { IfErr result (λ h. spec.IsTooLong first.now second.now few.scope.count h.stop h.about) }
 {
     match compare_scope(alloc, first, second, compared, few.scope, bound) {
@@ -227,7 +227,7 @@ fn on_files<'a, S: Sources>(
     sources: &mut S,
 ) -> Result<Comparison, Halted<'a>>
     ensures found { IfOk result (λ r. (inputs : List (List ℤ)) × AllZip (spec.IsInputOfFile (S.Sources.holds sources.old)) files.now inputs
-        × (pairs.found_is r ≡ pairs.found first.now second.now compared.now bound inputs)) }
+        × (pairs.found_is r ≡ pairs.found first.now second.now compared.now bound (pairs.most_told (pairs.longest inputs)) inputs)) }
     ensures refused { IfErr result (λ h. spec.StopsAtInputs (S.Sources.holds sources.old) files.now h
         ⊎ ((values : ℕ) × spec.AreMostIn (S.Sources.holds sources.old) files.now values
         × spec.IsTooLong first.now second.now values h.stop h.about)) }
@@ -249,6 +249,7 @@ fn on_drawn<'a>(
     bound: u32,
 ) -> Result<Comparison, Halted<'a>>
     ensures found { IfOk result (λ r. pairs.found_is r ≡ pairs.found first.now second.now compared.now bound
+        (pairs.most_told (total_size first.now.layout))
         (drawn_inputs drawn.drawing.low drawn.drawing.high drawn.drawing.seed (total_size first.now.layout) drawn.count)) }
     ensures refused { IfErr result (λ h. spec.IsTooLong first.now second.now (total_size first.now.layout) h.stop h.about) }
 {

@@ -9,30 +9,33 @@ ghost use Rattle.command_facts.specs.Refused as refused;
 
 use crate::found::Facts;
 use crate::tracing::trace_of;
+use call_progress::Watch;
 use command_requests::{CostWords, RunWords, Verb};
 use exchange_counts::Counts;
 use pram_check::Program;
 use program_runs::{outcome_of_program, run_program};
-use program_texts::{Refusal, mean_program};
+use program_texts::Refusal;
 use std::alloc::Global;
 use std::sync::Wait;
 use std::thread::Threads;
+use watched_runs::watched_run;
 use work_time::cost_of;
-use workers::OpenGate;
+use workers::Gate;
 use write_rules::Outcome;
 
 // The outcome by the definition.
-fn mean(
+fn mean<V: Watch>(
     alloc: Global,
     program: &Program,
     input: &[i64],
     words: RunWords<'_>,
+    watch: &mut V,
 ) -> Result<(Outcome, Facts), Refusal>
     ensures meaning { IfOk result (λ f. IsMeaningOf program.now input.now words.entry.options.bound (verdict_of f.0)) }
     ensures facts { IfOk result (λ f. f.1 ≡ Facts.Nothing) }
     ensures stopped { IfErr result (refused.IsRunRefusedBy Verb.Meaning program.now input.now words.entry) }
 {
-    let outcome = mean_program(alloc, program, input, words.options.bound)?;
+    let outcome = watched_run(alloc, program, input, words.options.bound, watch)?;
     Ok((outcome, Facts::Nothing))
 }
 
@@ -59,51 +62,63 @@ fn cost(
     ensures stopped { IfErr result (refused.IsRunRefusedBy Verb.Cost program.now input.now words.entry) }
 {
     let schedule = processors_of(words.costs);
-    let (outcome, cost) = cost_of(alloc, program, input, words.options.bound, schedule)?;
+    let workers = words.costs.workers;
+    let (outcome, cost) = cost_of(
+        alloc,
+        program,
+        input,
+        words.options.bound,
+        schedule,
+        workers,
+    )?;
     Ok((outcome, Facts::Cost(cost)))
 }
 
 // The outcome by workers, and the exchanges.
-fn by_workers<R: Threads + Wait + Sync>(
+fn by_workers<R: Threads + Wait + Sync, G: Gate + Sync>(
     rt: &R,
     alloc: Global,
     program: &Program,
     input: &[i64],
     words: RunWords<'_>,
+    gate: &G,
 ) -> Result<(Outcome, Counts), Refusal>
     ensures meaning { IfOk result (λ f. IsMeaningOf program.now input.now words.entry.options.bound (verdict_of f.0)) }
     ensures ran { IfOk result (λ f. IsProgramRunWith program.now input.now words.entry.options words.entry.reserve (verdict_of f.0) f.1) }
     ensures stopped { IfErr result (IsProgramRefusedWith program.now input.now words.entry.options words.entry.reserve) }
 {
     let (options, reserve) = (words.options, words.reserve);
-    run_program(rt, alloc, program, input, options, reserve, &OpenGate)
+    run_program(rt, alloc, program, input, options, reserve, gate)
 }
 
 // The outcome by workers, and what is told of the exchanges.
-fn trace<R: Threads + Wait + Sync>(
+fn trace<R: Threads + Wait + Sync, G: Gate + Sync>(
     rt: &R,
     alloc: Global,
     program: &Program,
     input: &[i64],
     words: RunWords<'_>,
+    gate: &G,
 ) -> Result<(Outcome, Facts), Refusal>
     ensures meaning { IfOk result (λ f. IsMeaningOf program.now input.now words.entry.options.bound (verdict_of f.0)) }
     ensures facts { IfOk result (λ f. spec.AreFactsOf Verb.Trace program.now input.now words.entry (verdict_of f.0) f.1) }
     ensures stopped { IfErr result (refused.IsRunRefusedBy Verb.Trace program.now input.now words.entry) }
 {
-    let (outcome, counts) = by_workers(rt, alloc, program, input, words)?;
+    let (outcome, counts) = by_workers(rt, alloc, program, input, words, gate)?;
     let told = trace_of(alloc, program, input, words, &outcome, counts)?;
     Ok((outcome, Facts::Exchanges(told)))
 }
 
-/// The outcome of a program, and what the call asks for beside it.
-pub(crate) fn facts_of<R: Threads + Wait + Sync>(
+/// The outcome of a program, and what the call asks for beside it. The watch is told how far the run is, but for one whose costs are
+/// counted.
+pub(crate) fn facts_of<R: Threads + Wait + Sync, V: Watch + Gate + Sync>(
     rt: &R,
     alloc: Global,
     verb: Verb,
     program: &Program,
     input: &[i64],
     words: RunWords<'_>,
+    watch: &mut V,
 ) -> Result<(Outcome, Facts), Refusal>
     ensures meaning { IfOk result (λ f. IsMeaningOf program.now input.now words.entry.options.bound (verdict_of f.0)) }
     ensures facts { IfOk result (λ f. spec.AreFactsOf verb program.now input.now words.entry (verdict_of f.0) f.1) }
@@ -113,18 +128,16 @@ pub(crate) fn facts_of<R: Threads + Wait + Sync>(
         Verb::Cost => cost(alloc, program, input, words),
         Verb::Run => {
             let (options, reserve) = (words.options, words.reserve);
-            let outcome = outcome_of_program(
-                rt, alloc, program, input, options, reserve, &OpenGate,
-            )?;
+            let outcome = outcome_of_program(rt, alloc, program, input, options, reserve, &*watch)?;
             Ok((outcome, Facts::Nothing))
         }
-        Verb::Trace => trace(rt, alloc, program, input, words),
+        Verb::Trace => trace(rt, alloc, program, input, words, &*watch),
         Verb::Meaning
         | Verb::Check
         | Verb::Plan
         | Verb::Export
         | Verb::Rules
         | Verb::Expand
-        | Verb::Steps => mean(alloc, program, input, words),
+        | Verb::Steps => mean(alloc, program, input, words, watch),
     }
 }

@@ -1,12 +1,12 @@
 //! Exit statuses of what was found.
 
-ghost use Rattle.std.specs.Prelude.{◌≡◌};
+ghost use Rattle.std.specs.Prelude.{◌≡◌, map};
 ghost use Rattle.std.specs.List.{list_any};
-ghost use Rattle.comparisons.specs.Found.{found_is};
+ghost use Rattle.comparisons.specs.Found.{differing_is, found_is};
 ghost use Rattle.command_facts.specs.Calls as spec;
 
 use crate::found::Found;
-use comparisons::Comparison;
+use comparisons::{Comparison, FoundDifference};
 use explorations::Findings;
 use program_texts::Status;
 use sweep_texts::{Ending, SizeRow};
@@ -85,14 +85,21 @@ fn status_of_findings(findings: &Findings) -> Status
     }
 }
 
+// The exit status of two programs, where they differ on these inputs.
+fn status_of_differing(told: &[FoundDifference]) -> Status
+    ensures { result ≡ spec.status_of_differing (map differing_is told.now) }
+{
+    match told {
+        [] => Status::Done,
+        [_, ..] => Status::Faulted,
+    }
+}
+
 // The exit status of two programs on the same inputs.
 fn status_of_pair(comparison: &Comparison) -> Status
     ensures { result ≡ spec.status_of_pair (found_is comparison.now) }
 {
-    match &comparison.first {
-        None => Status::Done,
-        Some(_) => Status::Faulted,
-    }
+    status_of_differing(&comparison.told)
 }
 
 /// The exit status that goes with what was found, however it is told. That of a run that is still to be told comes with its outcome.

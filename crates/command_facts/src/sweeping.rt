@@ -25,6 +25,7 @@ use command_sizes::sizes_of;
 use diagnoses::write_refused_line;
 use pram_trees::Layout;
 use program_texts::{Refusal, Stop};
+use progress_lines::Unwatched;
 use sized_texts::{SizeFault, Sweep, fill, read_sweep};
 use std::alloc::{AllocError, Global};
 use std::str;
@@ -63,6 +64,7 @@ fn counts_of(cost: &Cost) -> Counts
         reads: cost.reads,
         writes: cost.writes,
         most_exchanges: cost.most_exchanges,
+        most_words: cost.most_words,
     }
 }
 
@@ -120,7 +122,7 @@ fn run_by<R: Threads + Wait + Sync, S: Sources>(
     ensures out { IfOk result (spec.RunsAs (S.Sources.holds sources.old) at.now words.entry) }
     ensures same { IsSame (S.Sources.holds sources.new) (S.Sources.holds sources.old) }
 {
-    match find_run(rt, alloc, Verb::Cost, at, words, sources) {
+    match find_run(rt, alloc, Verb::Cost, at, words, sources, &mut Unwatched) {
         Ok(run) => ending_of(alloc, &run),
         Err(halted) => refused(alloc, &halted),
     }
@@ -161,6 +163,7 @@ fn with_opening<'a>(words: RunWords<'a>, opening: Opening<'a>) -> RunWords<'a>
     RunWords {
         opening,
         options: words.options,
+        seconds: words.seconds,
         reserve: words.reserve,
         costs: words.costs,
         steps: words.steps,

@@ -24,5 +24,15 @@ returns-clause-refused g c =
     inr (
       loaded.program,
       program_in (g.S.Sources.holds c.args.sources.now) c.args.file.now loaded c.in_ok-loaded.ensures.loaded,
-      subst (λ n. IsRefusedFor c.args.scope.scope.count n why.stop why.about) cells c.halted.ensures,
+      subst (λ n. IsRefusedFor c.args.scope.workers c.args.scope.scope.count n why.stop why.about) cells
+          (c.halted.ensures c.args.scope.workers),
+    )
+
+pub returns-in-Err-clause-refused : goal.returns-in-Err-clause-refused
+returns-in-Err-clause-refused g c =
+    let loaded = c.in_ok-loaded.loaded in
+    inr (
+      loaded.program,
+      program_in (g.S.Sources.holds c.args.sources.now) c.args.file.now loaded c.in_ok-loaded.ensures.loaded,
+      c.in-Err.ensures.refused c.args.scope.scope.count (total_size loaded.program.layout),
     )

@@ -19,7 +19,7 @@ pub returns-clause-found : goal.returns-clause-found
 returns-clause-found g c = record {
   loaded = c.in_ok-loaded.ensures.loaded;
   given = c.in_ok-loaded.ensures.input;
-  asked = refl;
+  made = c.made-words.ensures;
   there = c.in_ok-loaded.ensures.there;
   fits = fits_by _ _ _ _ (c.len-values.ensures ∙ c.in_ok-loaded.input.ok.0) (c.cells-cells.ensures.total ∙ ap total_size c.layout.ensures)
       c.if-values-cells.false;
