@@ -17,6 +17,10 @@ use Rattle.program_texts.specs.declared.from_text.Refusal.TheVariants as refusal
 use Rattle.program_texts.specs.declared.status.Status.{Status}
 use Rattle.program_texts.specs.declared.stop.Stop.{Stop}
 use Rattle.program_texts.specs.declared.stop.Stop.TheVariants as stop
+use Rattle.diagnoses.specs.Sources.{text_in}
+use Rattle.serde_json.specs.Data.{Data}
+use Rattle.json_texts.specs.StepFacts.{steps_from}
+use Rattle.step_entries.specs.Entries.{Entry}
 use Rattle.command_facts.specs.declared.found.FoundSteps.{FoundSteps}
 use Rattle.command_facts.specs.Found.{IsOutcomeOf, entries_of}
 use Rattle.command_facts.specs.Written.{Wrote}
@@ -24,13 +28,17 @@ use Rattle.command_json.specs.Stepped.{IsCutOff, IsToldBy, all_facts, first_fact
 
 -- ---- what was streamed, by the values that were handed over
 
-pub streamed_by : (s : FoundSteps) (old new : OutState) (given : List ℤ) (r q : Result Outcome StreamFailure) →
-    given ≡ s.input.items → r ≡ q →
-    HasStreamedJson old new (first_facts s) (run_entries s.loaded.program given s.words.options.bound) r →
+pub streamed_by : (s : FoundSteps) (old new : OutState) (text : List ℕ) (given : List ℤ) (r q : Result Outcome StreamFailure) →
+    text ≡ text_in s.loaded.source → given ≡ s.input.items → r ≡ q →
+    HasStreamedJson old new (steps_from s.loaded.program.layout s.loaded.program.tree text s.words.steps.from s.words.steps.to 1)
+    (run_entries s.loaded.program given s.words.options.bound) r →
     HasStreamedJson old new (first_facts s) (entries_of s) q
-streamed_by s old new given r q same is h =
+streamed_by s old new text given r q source same is h =
+    let facts : List ℕ → List Entry → List Data =
+    λ t. steps_from s.loaded.program.layout s.loaded.program.tree t s.words.steps.from s.words.steps.to 1 in
     subst (λ (i : List ℤ). HasStreamedJson old new (first_facts s) (run_entries s.loaded.program i s.words.options.bound) q) same
-    (subst (HasStreamedJson old new (first_facts s) (run_entries s.loaded.program given s.words.options.bound)) is h)
+    (subst (λ (t : List ℕ). HasStreamedJson old new (facts t) (run_entries s.loaded.program given s.words.options.bound) q) source
+    (subst (HasStreamedJson old new (facts text) (run_entries s.loaded.program given s.words.options.bound)) is h))
 
 pub outcome_by : (s : FoundSteps) (o : Outcome) (given : List ℤ) → given ≡ s.input.items →
     length s.input.items ≤ total_size s.loaded.program.layout →

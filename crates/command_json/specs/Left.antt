@@ -1,5 +1,5 @@
 -- What a call that tells its facts as JSON leaves on its streams.
-use Rattle.std.specs.Prelude.{◌≡◌, ◌⊎◌, ℕ, List, [], ◌∷◌, Option, Result, Ok, Err}
+use Rattle.std.specs.Prelude.{◌≡◌, ◌⊎◌, ℕ, List, [], ◌∷◌, ◌++◌, Option, Some, None, Result, Ok, Err, codes, decimal}
 use Rattle.json_lines.specs.Lines.{IsJson}
 use Rattle.text_out.specs.Out.{OutState, with_bytes}
 use Rattle.diagnoses.specs.declared.about.About.{About}
@@ -7,12 +7,14 @@ use Rattle.diagnoses.specs.declared.about.About.TheVariants as about
 use Rattle.diagnoses.specs.RefusedLines.{stop_as_it_stands}
 use Rattle.program_texts.specs.declared.from_text.Refusal.TheVariants as refusal
 use Rattle.write_rules.specs.declared.outcome.Outcome.{Outcome}
+use Rattle.write_rules.specs.declared.outcome.Outcome.TheVariants.{GoesOn}
 use Rattle.program_texts.specs.Status.{status_of}
 use Rattle.program_texts.specs.declared.status.Status.{Status}
 use Rattle.program_texts.specs.declared.status.Status.TheVariants as status
 use Rattle.program_texts.specs.declared.stop.Stop.{Stop}
 use Rattle.program_texts.specs.declared.stop.Stop.TheVariants as stop
 use Rattle.command_requests.specs.declared.request.Request.{Request}
+use Rattle.command_requests.specs.declared.request.RunWords.{RunWords}
 use Rattle.command_facts.specs.declared.found.Found.{Found}
 use Rattle.command_facts.specs.declared.found.Found.TheVariants as found
 use Rattle.command_facts.specs.declared.found.FoundSteps.{FoundSteps}
@@ -51,17 +53,35 @@ pub record IsMemoryTold (old new : OutState) : Type 0 where
 abbrev pub IsRefusalSaid : (words : List (List ℕ)) → Stop → About → OutState → OutState → Type 0
 IsRefusalSaid words why a old new = IsRefusalTold words why a old new ⊎ IsMemoryTold old new
 
+-- `{"bound":123456,"seconds":5}`
+abbrev pub time_line : (seconds bound : ℕ) → List ℕ
+time_line seconds bound = codes "{\"bound\":" ++ (decimal bound ++ (codes ",\"seconds\":" ++ (decimal seconds ++ codes "}\n")))
+
+abbrev pub IsLimitTold : (seconds : Option ℕ) → (bound : ℕ) → OutState → OutState → Type 0
+IsLimitTold None bound old new = new ≡ old
+IsLimitTold (Some seconds) bound old new = IsReported old new (time_line seconds bound)
+
+-- where time was over for a run, behind how many statements it was
+abbrev pub IsTimeTold : Outcome → RunWords → OutState → OutState → Type 0
+IsTimeTold (GoesOn output) words old new = IsLimitTold words.seconds words.options.bound old new
+IsTimeTold _ words old new = new ≡ old
+
+abbrev pub IsFoundInTime : Found → OutState → OutState → Type 0
+IsFoundInTime (found.Run r) old new = IsTimeTold r.outcome r.words old new
+IsFoundInTime _ old new = new ≡ old
+
 -- ---- both streams
 
--- After what was found is told, with the exit status: its facts stand on standard output, whole, and nothing on standard error; or why not.
+-- After what was found is told, with the exit status: its facts stand on standard output, whole, and on standard error nothing but that its
+-- time was over; or why not.
 pub data LeavesFound (words : List (List ℕ)) (f : Found) (out out_new err err_new : OutState) : Status → Type 0 where
-  Told : (text : List ℕ) → IsJsonOf f text → out_new ≡ with_bytes out text → err_new ≡ err
+  Told : (text : List ℕ) → IsJsonOf f text → out_new ≡ with_bytes out text → IsFoundInTime f err err_new
       → LeavesFound words f out out_new err err_new (status_of_found f)
   CutOff : (why : Stop) → WritesFound f out out_new (Err why) → IsRefusalSaid words why about.Nothing err err_new
       → LeavesFound words f out out_new err err_new status.Refused
   -- a run is told statement by statement as it goes: the outcome is that of the program, and it gives the status
   ToldAsItRan : (s : FoundSteps) (o : Outcome) (text : List ℕ) → f ≡ found.Stepped s → IsOutcomeOf s o → IsJson (all_facts s o) text
-      → out_new ≡ with_bytes out text → err_new ≡ err → LeavesFound words f out out_new err err_new (status_of o)
+      → out_new ≡ with_bytes out text → IsTimeTold o s.words err err_new → LeavesFound words f out out_new err err_new (status_of o)
   BrokenOff : (s : FoundSteps) (why : Stop) → f ≡ found.Stepped s → IsCutOff s out out_new why
       → IsRefusalSaid words why about.Nothing err err_new → LeavesFound words f out out_new err err_new status.Refused
 

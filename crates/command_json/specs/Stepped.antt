@@ -9,18 +9,21 @@ use Rattle.step_entries.specs.Entries.{Entry}
 use Rattle.program_texts.specs.declared.from_text.Refusal.TheVariants as refusal
 use Rattle.program_texts.specs.declared.stop.Stop.{Stop}
 use Rattle.program_texts.specs.declared.stop.Stop.TheVariants as stop
+use Rattle.diagnoses.specs.Sources.{text_in}
 use Rattle.command_facts.specs.declared.found.FoundSteps.{FoundSteps}
 use Rattle.command_facts.specs.Found.{IsOutcomeOf, entries_of}
 use Rattle.json_texts.specs.StepFacts.{steps_facts, steps_from}
 
 -- the facts of those of some first statements that are asked for
 abbrev pub first_facts : FoundSteps → List Entry → List Data
-first_facts s first = steps_from s.loaded.program.layout s.loaded.program.tree s.words.steps.from s.words.steps.to 1 first
+first_facts s first =
+    steps_from s.loaded.program.layout s.loaded.program.tree (text_in s.loaded.source) s.words.steps.from s.words.steps.to 1 first
 
 -- the facts of all that are asked for, and of what the run comes to
 abbrev pub all_facts : FoundSteps → Outcome → List Data
 all_facts s o =
-    steps_facts s.loaded.program.layout s.loaded.program.tree (verdict_of o) (entries_of s) s.words.steps.from s.words.steps.to
+    steps_facts s.loaded.program.layout s.loaded.program.tree (text_in s.loaded.source) (verdict_of o) (entries_of s) s.words.steps.from
+    s.words.steps.to
 
 -- what stands on standard output where the run is not told to its end: a beginning of the lines of some of its first statements, or of all
 -- of its text, behind which the writer failed; or where memory was refused the lines of some of its first statements, whole

@@ -6,7 +6,7 @@ ghost use Rattle.pram_model.specs.Layout.{total_size};
 ghost use Rattle.command_facts.specs.Calls.{FitsIn, IsSettled};
 ghost use Rattle.command_json.specs.Left.{LeavesFound, LeavesJson};
 
-use crate::reporting::report;
+use crate::reporting::{report, tell_found_in_time, tell_time};
 use crate::stepping::write_stepped;
 use crate::telling::write_found;
 use call_progress::Watch;
@@ -18,6 +18,7 @@ use std::sync::Wait;
 use std::thread::Threads;
 use system_files::Sources;
 use text_out::Out;
+use workers::Gate;
 
 // A run of a program is told as it runs.
 fn tell_steps<O: Out, E: Out>(
@@ -34,7 +35,10 @@ fn tell_steps<O: Out, E: Out>(
         (E.Out.state err.old) (E.Out.state err.new) result }
 {
     match write_stepped(alloc, steps, out) {
-        Ok(outcome) => Status::of(&outcome),
+        Ok(outcome) => {
+            tell_time(err, &outcome, &steps.words);
+            Status::of(&outcome)
+        }
         Err(stop) => {
             report(alloc, err, words, &Halted::from(stop));
             Status::Refused
@@ -57,7 +61,10 @@ fn tell<O: Out, E: Out>(
         (E.Out.state err.old) (E.Out.state err.new) result }
 {
     match write_found(alloc, found, out) {
-        Ok(status) => status,
+        Ok(status) => {
+            tell_found_in_time(err, found);
+            status
+        }
         Err(stop) => {
             report(alloc, err, words, &Halted::from(stop));
             Status::Refused
@@ -88,7 +95,7 @@ fn tell_found<O: Out, E: Out>(
 
 // A request that was read.
 #[tactic(auto, using(command_facts::proofs::Steps::found_fits))]
-fn answer_request<R: Threads + Wait + Sync, S: Sources, V: Watch, O: Out, E: Out>(
+fn answer_request<R: Threads + Wait + Sync, S: Sources, V: Watch + Gate + Sync, O: Out, E: Out>(
     rt: &R,
     alloc: Global,
     request: Request<'_>,
@@ -114,12 +121,19 @@ fn answer_request<R: Threads + Wait + Sync, S: Sources, V: Watch, O: Out, E: Out
 
 /// Answers the request of a call of these words in JSON, or says why they are none, and answers the exit status.
 ///
-/// `check`, `meaning`, `cost`, `rules`, `explore`, `compare`, `run` and `exec` write one object; `steps` and `trace` an object a line, and on the last line how the run
-/// came out. What is refused is one object on `err`, with what there is to say of it, and there nothing else is written: what [`find`](command_facts::find) refuses, E17
-/// where standard output failed, and E16 where memory was refused; behind whole lines of the first statements, where a run is told
-/// statement by statement. `expand`, `plan`, `export`, `explain` and the version are not told as JSON
-/// (P1).
-pub fn answer_in_json<'a, R: Threads + Wait + Sync, S: Sources, V: Watch, O: Out, E: Out>(
+/// `check`, `meaning`, `cost`, `rules`, `explore`, `run` and `exec` write one object; `compare` one for each input that is told and one for
+/// all; `steps` and `trace` an object a line, and on the last line how the run came out. What is refused is one object on `err`, with what
+/// there is to say of it, and there nothing else is written: what [`find`](command_facts::find) refuses, E17 where standard output failed,
+/// and E16 where memory was refused; behind whole lines of the first statements, where a run is told statement by statement. `expand`,
+/// `plan`, `export`, `explain` and the version are not told as JSON (P1).
+pub fn answer_in_json<
+    'a,
+    R: Threads + Wait + Sync,
+    S: Sources,
+    V: Watch + Gate + Sync,
+    O: Out,
+    E: Out,
+>(
     rt: &R,
     alloc: Global,
     asked: Result<Request<'a>, Stop<'a>>,

@@ -2,6 +2,7 @@
 
 ghost use Rattle.std.specs.Prelude.{◌<◌, ◌^◌, ◌∷◌, [], IfOk, map};
 ghost use Rattle.std.specs.String.{string_bytes};
+ghost use Rattle.text_out.specs.Out.{Writes};
 ghost use Rattle.json_lines.specs.Lines.{IsJson};
 ghost use Rattle.json_texts.specs.MessageFacts.{refusal_facts};
 ghost use Rattle.refusal_messages.specs.Messages.{message_is};
@@ -10,14 +11,17 @@ ghost use Rattle.diagnoses.specs.Stops.{bytes_in as bytes_of, name_in as name_of
 ghost use Rattle.command_facts.specs.Written.{IsReported};
 ghost use Rattle.command_json.specs.Left as spec;
 
-use command_facts::Halted;
+use command_facts::{Found, Halted};
 use command_messages::message_for;
+use command_requests::RunWords;
 use diagnoses::{bytes_in, name_in, refusal_as_it_stands};
+use itoa::Buffer;
 use json_texts::{json_refusal, out_of_memory_line};
 use program_texts::Stop;
 use refusal_messages::Message;
 use std::alloc::{AllocError, Global};
-use text_out::Out;
+use text_out::{Out, WriteFault};
+use write_rules::Outcome;
 
 // The line of a refusal with this message, with its offset in the file.
 fn placed_line(alloc: Global, halted: &Halted<'_>, message: &Message) -> Result<String, AllocError>
@@ -59,5 +63,53 @@ pub(crate) fn report<E: Out>(alloc: Global, err: &mut E, words: &[String], halte
     match refusal_line(alloc, words, halted) {
         Ok(line) => write_line(err, line.as_bytes()),
         Err(_) => write_line(err, out_of_memory_line()),
+    }
+}
+
+fn write_time<E: Out>(err: &mut E, seconds: u32, bound: u32) -> Result<(), WriteFault>
+    requires err { (E.Out.state err.old).failures < 2 ^ 62 }
+    ensures written { Writes (E.Out.state err.old) (E.Out.state err.new) (spec.time_line seconds bound) result }
+{
+    err.write_parts(&[
+        b"{\"bound\":",
+        Buffer::new().format(bound).as_bytes(),
+        b",\"seconds\":",
+        Buffer::new().format(seconds).as_bytes(),
+        b"}\n",
+    ])
+}
+
+fn say_time<E: Out>(err: &mut E, seconds: u32, bound: u32)
+    requires err { (E.Out.state err.old).failures < 2 ^ 62 }
+    ensures written { IsReported (E.Out.state err.old) (E.Out.state err.new) (spec.time_line seconds bound) }
+{
+    if write_time(err, seconds, bound).is_ok() {
+        let _ = err.flush();
+    }
+}
+
+/// Writes to standard error, where time was over for a run that goes on, how many seconds it had and behind how many statements that was.
+pub(crate) fn tell_time<E: Out>(err: &mut E, outcome: &Outcome, words: &RunWords<'_>)
+    requires err { (E.Out.state err.old).failures < 2 ^ 62 }
+    ensures told { spec.IsTimeTold outcome.now words.now (E.Out.state err.old) (E.Out.state err.new) }
+{
+    match outcome {
+        Outcome::Ended { .. } | Outcome::Faulted { .. } => {}
+        Outcome::GoesOn { .. } => {
+            if let Some(seconds) = words.seconds {
+                say_time(err, seconds, words.options.bound)
+            }
+        }
+    }
+}
+
+/// The same of what was found.
+pub(crate) fn tell_found_in_time<E: Out>(err: &mut E, found: &Found<'_>)
+    requires err { (E.Out.state err.old).failures < 2 ^ 62 }
+    ensures told { spec.IsFoundInTime found.now (E.Out.state err.old) (E.Out.state err.new) }
+{
+    match found {
+        Found::Run(run) => tell_time(err, &run.outcome, &run.words),
+        _ => {}
     }
 }

@@ -36,7 +36,17 @@ fn stream_lines<'a, O: Out>(
         steps.words.steps.from as usize,
         steps.words.steps.to as usize,
     );
-    match stream_json(alloc, program, &steps.input, bound, first, last, out) {
+    let source = steps.loaded.source.text();
+    match stream_json(
+        alloc,
+        program,
+        source,
+        &steps.input,
+        bound,
+        first,
+        last,
+        out,
+    ) {
         Ok(outcome) => Ok(outcome),
         Err(StreamFailure::WriteFailed) => Err(Stop::WriteFailed),
         Err(StreamFailure::OutOfMemory) => Err(Stop::Refused(Refusal::OutOfMemory)),

@@ -14,6 +14,7 @@ use std::sync::Wait;
 use std::thread::Threads;
 use system_files::Sources;
 use text_out::Out;
+use workers::Gate;
 
 // The streams of the call, of which standard error has explanations where it is a terminal or a word asks for them, and the lines of editors
 // where words ask for these.
@@ -35,7 +36,14 @@ fn explaining(terminal: Terminal, words: &[String]) -> Terminal
 /// [`answer_in_json`](command_json::answer_in_json). In words a refusal and a fault are explained where standard error is a terminal or one
 /// of the words is `--explain`; and a refusal is told in the lines that editors read where
 /// [`asks_for_gnu`](command_requests::asks_for_gnu) says so. While many runs are made, the watch is told how far they are.
-pub fn command<R: Threads + Wait + Sync, W: Reader, S: Sources, V: Watch, O: Out, E: Out>(
+pub fn command<
+    R: Threads + Wait + Sync,
+    W: Reader,
+    S: Sources,
+    V: Watch + Gate + Sync,
+    O: Out,
+    E: Out,
+>(
     rt: &R,
     alloc: Global,
     reader: &W,

@@ -1,12 +1,24 @@
 //! The program `pramc`, over the system's files and streams.
 #![tactic(auto)]
 
-use pramc::{CommandLine, ProgressLine, Terminal, command};
-use std::io::IsTerminal;
+use pramc::{CommandLine, ErrorStream, ProgressLine, Terminal, command};
+use std::io::{IsTerminal, Print};
 use std::process::ExitCode;
 use std::{env, io};
 use system_files::{Stream, SystemFiles};
 use text_out::Out;
+
+// Standard error, to which all threads of a call can write.
+#[derive(Drop)]
+struct Errors<'a> {
+    rt: &'a HostRuntime,
+}
+
+impl<'a> ErrorStream for Errors<'a> {
+    fn put(&self, bytes: &[u8]) {
+        let _ = self.rt.stderr().write_all(bytes);
+    }
+}
 
 // What the streams are. Colours are wanted unless `NO_COLOR` is set and not empty.
 fn terminal(rt: &HostRuntime) -> Terminal {
@@ -58,7 +70,7 @@ fn main(rt: HostRuntime) -> ExitCode {
     };
     let terminal = terminal(&rt);
     let mut files = SystemFiles::new(&rt, rt.stdin());
-    let mut progress = ProgressLine::new(&rt, rt.stderr(), terminal.errors);
+    let mut progress = ProgressLine::new(&rt, Errors { rt: &rt }, terminal.errors);
     let mut out = Stream::new(rt.stdout());
     let status = command(
         &rt,

@@ -13,6 +13,9 @@ use Rattle.step_journal.specs.Between.{between}
 use Rattle.step_journal.specs.Entries.{run_entries}
 use Rattle.step_streams.specs.Streamed.{HasStreamed}
 use Rattle.step_streams.specs.declared.failure.StreamFailure.{StreamFailure}
+use Rattle.step_streams.specs.declared.failure.StreamFailure.TheVariants as failure
+use Rattle.page_streams.specs.Streamed.{HasStreamedPage, IsPageOfRun}
+use Rattle.diagnoses.specs.Sources.{text_in}
 use Rattle.step_pictures.specs.Picture.{part_of, picture}
 use Rattle.step_texts.specs.declared.telling.Telling.{Telling}
 use Rattle.program_texts.specs.Shown.{shown}
@@ -133,6 +136,31 @@ outcome_by s o given same fits is = record {
   fits = fits;
   outcome = subst (λ (i : List ℤ). IsOutcome s.loaded.program i s.words.options.bound (verdict_of o)) same is;
 }
+
+-- a page that was streamed by the values that were handed over
+pub page_by : (s : FoundSteps) (old new : OutState) (file text : List ℕ) (given : List ℤ) (r q : Result Outcome StreamFailure) →
+    file ≡ s.loaded.source.name.now → text ≡ text_in s.loaded.source → given ≡ s.input.items → r ≡ q →
+    HasStreamedPage (IsPageOfRun file text s.loaded.program given s.words.options.bound s.words.steps.from s.words.steps.to) old new r →
+    HasStreamedPage (IsPageOfRun s.loaded.source.name.now (text_in s.loaded.source) s.loaded.program s.input.items s.words.options.bound
+    s.words.steps.from s.words.steps.to) old new q
+page_by s old new file text given r q same_file same_text same is h =
+    let Is : (file text : List ℕ) → List ℤ → Outcome → List ℕ → Type 0 =
+    λ file text given. IsPageOfRun file text s.loaded.program given s.words.options.bound s.words.steps.from s.words.steps.to in
+    subst (λ (f : List ℕ). HasStreamedPage (Is f (text_in s.loaded.source) s.input.items) old new q) same_file
+    (subst (λ (t : List ℕ). HasStreamedPage (Is file t s.input.items) old new q) same_text
+    (subst (λ (i : List ℤ). HasStreamedPage (Is file text i) old new q) same
+    (subst (HasStreamedPage (Is file text given) old new) is h)))
+
+-- the writer failed in it
+pub page_cut : (on : Terminal) (s : FoundSteps) (old new : OutState) → s.words.form ≡ form.Page →
+    length s.input.items ≤ total_size s.loaded.program.layout →
+    HasStreamedPage (IsPageOfRun s.loaded.source.name.now (text_in s.loaded.source) s.loaded.program s.input.items s.words.options.bound
+    s.words.steps.from s.words.steps.to) old new (Err failure.WriteFailed) → IsCutOff on s old new stop.WriteFailed
+page_cut on s old new asked fits h =
+    let o = h.0 in
+    let shows = h.1 in
+    cut_in_text on s old form.Page asked o (record { fits = fits; outcome = h.2.0 }) new (status_of o) stop.WriteFailed shows h.2.1
+    (refl, h.3)
 
 -- how statements are told
 pub telling_by : (on : Terminal) (s : FoundSteps) (text : List ℕ) (tree : ProgramTree) (telling : Telling) →

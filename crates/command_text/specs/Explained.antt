@@ -1,6 +1,10 @@
 -- What is said on standard error.
-use Rattle.std.specs.Prelude.{◌≡◌, ◌⊎◌, ℕ, List, ◌++◌, Bool, true, false, Option, None, codes, decimal}
+use Rattle.std.specs.Prelude.{◌≡◌, ◌⊎◌, ℕ, ℤ, List, [], ◌++◌, Bool, true, false, Option, Some, None, codes, decimal}
 use Rattle.text_out.specs.Out.{OutState}
+use Rattle.pram_check.specs.Checked.{Checked}
+use Rattle.endless_runs.specs.Endless.{NeverEnds}
+use Rattle.endless_runs.specs.declared.cycle.Cycle.{Cycle}
+use Rattle.write_rules.specs.declared.fault.Fault.{Fault}
 use Rattle.write_rules.specs.declared.outcome.Outcome.{Outcome}
 use Rattle.write_rules.specs.declared.outcome.Outcome.TheVariants.{Faulted, GoesOn}
 use Rattle.program_texts.specs.declared.stop.Stop.{Stop}
@@ -59,12 +63,46 @@ IsReasonOf r why = (why ≡ run_reason r.loaded.program r.input.items r.words.op
 abbrev pub bound_sentence : ℕ → List ℕ
 bound_sentence bound = codes "the run met its bound of " ++ (decimal bound ++ codes " statements: --bound N gives it others\n")
 
--- of a program's run a fault is explained with its line of the text, and with why it came; and that its bound was met
-abbrev pub IsRunExplained : Bool → FoundRun → Outcome → OutState → OutState → Type 0
-IsRunExplained true r (Faulted fault output) old new =
+-- `--seconds 5 ended the run after statement 123456`
+abbrev pub time_sentence : (seconds bound : ℕ) → List ℕ
+time_sentence seconds bound =
+    codes "--seconds " ++ (decimal seconds ++ (codes " ended the run after statement " ++ (decimal bound ++ codes "\n")))
+
+-- `this never ends: the loop of line 9 comes back to the same state after 4 statements`
+abbrev pub cycle_sentence : Cycle → List ℕ
+cycle_sentence c = codes "this never ends: the loop of line " ++ (decimal c.line
+    ++ (codes " comes back to the same state after " ++ (decimal c.statements ++ codes " statements\n")))
+
+abbrev pub cycle_text : Option Cycle → List ℕ
+cycle_text None = []
+cycle_text (Some c) = cycle_sentence c
+
+-- it is said of a program that never ends on an input, and of others nothing; nor of one of which that isn't known
+abbrev pub IsCycleSaid : Checked → (input : List ℤ) → List ℕ → Type 0
+IsCycleSaid p input text = (text ≡ []) ⊎ ((c : Cycle) × NeverEnds p input × (text ≡ cycle_sentence c))
+
+-- a run met its bound, and what is known of it without one
+abbrev pub IsBoundSaid : FoundRun → OutState → OutState → Type 0
+IsBoundSaid r old new = (said : List ℕ) × IsCycleSaid r.loaded.program r.input.items said
+    × IsReported old new (bound_sentence r.words.options.bound ++ said)
+
+-- why a run within a bound goes on: there was no more time, which is always said, or it met its bound
+abbrev pub IsLimitSaid : (explains : Bool) → (seconds : Option ℕ) → FoundRun → OutState → OutState → Type 0
+IsLimitSaid explains (Some seconds) r old new = IsReported old new (time_sentence seconds r.words.options.bound)
+IsLimitSaid true None r old new = IsBoundSaid r old new
+IsLimitSaid false None r old new = new ≡ old
+
+-- of a program's run a fault is explained with its line of the text, and with why it came
+abbrev pub IsFaultExplained : Bool → FoundRun → Fault → OutState → OutState → Type 0
+IsFaultExplained true r fault old new =
     (why : Reason) × IsReasonOf r why × IsReported old new (fault_diagnosis r.loaded.source r.loaded.program.layout fault why)
-IsRunExplained true r (GoesOn output) old new = IsReported old new (bound_sentence r.words.options.bound)
-IsRunExplained _ r o old new = new ≡ old
+IsFaultExplained false r fault old new = new ≡ old
+
+-- and that its bound was met, or its time over
+abbrev pub IsRunExplained : Bool → FoundRun → Outcome → OutState → OutState → Type 0
+IsRunExplained explains r (Faulted fault output) old new = IsFaultExplained explains r fault old new
+IsRunExplained explains r (GoesOn output) old new = IsLimitSaid explains r.words.seconds r old new
+IsRunExplained explains r _ old new = new ≡ old
 
 -- of a listing's code what happened is said, since its lines aren't the program's
 abbrev pub IsCodeExplained : Bool → FoundCode → Outcome → OutState → OutState → Type 0

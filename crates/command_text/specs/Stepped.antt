@@ -15,7 +15,7 @@ use Rattle.command_facts.specs.declared.found.FoundSteps.{FoundSteps}
 use Rattle.command_facts.specs.Found.{IsOutcomeOf, entries_of, with_outcome}
 use Rattle.command_text.specs.declared.terminal.Terminal.{Terminal}
 use Rattle.command_text.specs.Steps.{IsTelling}
-use Rattle.command_text.specs.Texts.{AreStepsText}
+use Rattle.command_text.specs.Texts.{AreStepsText, IsPageOf}
 
 -- the text of a run that came to this, in the form that is asked for
 abbrev pub IsToldText : Terminal → FoundSteps → Outcome → List ℕ → Type 0
@@ -36,6 +36,13 @@ abbrev pub IsCutIn : FoundSteps → Telling → (old new : OutState) → Stop �
 IsCutIn s telling old new stop.WriteFailed = StopsIn old new (lines_of s telling (entries_of s))
 IsCutIn s telling old new (stop.Refused refusal.OutOfMemory) = WroteFirst old new (lines_of s telling) (entries_of s)
 IsCutIn s telling old new _ = ⊥
+
+-- ---- as a page
+
+-- a page of the run was taken
+abbrev pub IsPageTaken : FoundSteps → (old new : OutState) → Outcome → Type 0
+IsPageTaken s old new o =
+    (shows : List ℕ) × IsPageOf (with_outcome s o) (entries_of s) shows × (new ≡ with_bytes old shows)
 
 -- ---- what stands on standard output
 

@@ -1,5 +1,5 @@
 -- The text by which what was found is told.
-use Rattle.std.specs.Prelude.{◌≡◌, ℕ, List, [], ◌++◌, Bool, Vec, true, false, codes, decimal, map}
+use Rattle.std.specs.Prelude.{◌≡◌, ℕ, List, ◌++◌, Bool, Vec, true, false, codes, decimal, map}
 use Rattle.std.specs.Global.{Global}
 use Rattle.pram_model.specs.Layout.{total_size}
 use Rattle.pram_model.specs.Rules.{rule_word}
@@ -14,7 +14,7 @@ use Rattle.sweep_texts.specs.CsvText.{csv_text}
 use Rattle.sweep_texts.specs.SweepText.{sweep_text}
 use Rattle.memory_texts.specs.Chosen.{shown_by}
 use Rattle.write_rules.specs.Verdict.{verdict_of}
-use Rattle.program_texts.specs.Shown.{line, shown}
+use Rattle.program_texts.specs.Shown.{line}
 use Rattle.diagnoses.specs.Sources.{text_in}
 use Rattle.explanations.specs.Explained.{explanation}
 use Rattle.rule_comparison.specs.ComparisonText.{comparison_text}
@@ -24,6 +24,7 @@ use Rattle.explorations.specs.Found.{found_is}
 use Rattle.exploration_texts.specs.FindingsText.{findings_text}
 use Rattle.mpi_export.specs.Program.{c_text}
 use Rattle.step_entries.specs.Entries.{Entry}
+use Rattle.page_streams.specs.Pages.{IsPage}
 use Rattle.step_texts.specs.declared.telling.Telling.{Telling}
 use Rattle.command_requests.specs.declared.form.Form.{Form}
 use Rattle.command_requests.specs.declared.form.Form.TheVariants as form
@@ -36,7 +37,7 @@ use Rattle.command_facts.specs.declared.found.FoundSweep.{FoundSweep}
 use Rattle.command_text.specs.declared.terminal.Terminal.{Terminal}
 use Rattle.command_text.specs.Costs.{costs_text}
 use Rattle.command_text.specs.Spans.{chosen_spans}
-use Rattle.command_text.specs.Steps.{IsPage, IsTelling, told_text}
+use Rattle.command_text.specs.Steps.{IsTelling, told_text}
 use Rattle.command_text.specs.Traces.{counts_text, outcome_text}
 
 abbrev pub version_text : List ℕ

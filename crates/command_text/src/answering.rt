@@ -19,6 +19,7 @@ use std::sync::Wait;
 use std::thread::Threads;
 use system_files::Sources;
 use text_out::Out;
+use workers::Gate;
 
 // A run of a program is told as it runs.
 fn tell_steps<O: Out, E: Out>(
@@ -98,7 +99,7 @@ fn tell_found<O: Out, E: Out>(
 
 // A request that was read.
 #[tactic(auto, using(command_facts::proofs::Steps::found_fits))]
-fn answer_request<R: Threads + Wait + Sync, S: Sources, V: Watch, O: Out, E: Out>(
+fn answer_request<R: Threads + Wait + Sync, S: Sources, V: Watch + Gate + Sync, O: Out, E: Out>(
     rt: &R,
     alloc: Global,
     request: Request<'_>,
@@ -141,7 +142,7 @@ fn answer_request<R: Threads + Wait + Sync, S: Sources, V: Watch, O: Out, E: Out
 /// sentence, of a word the option that doesn't take it and what that wants; and so of a fault, of a program's run with its line. Where
 /// standard output is a terminal, statements stand beside their lines of the program's text, and what changes is coloured if that is
 /// wanted.
-pub fn answer<'a, R: Threads + Wait + Sync, S: Sources, V: Watch, O: Out, E: Out>(
+pub fn answer<'a, R: Threads + Wait + Sync, S: Sources, V: Watch + Gate + Sync, O: Out, E: Out>(
     rt: &R,
     alloc: Global,
     asked: Result<Request<'a>, Stop<'a>>,

@@ -1,10 +1,11 @@
 //! What a call writes to standard error.
 
-ghost use Rattle.std.specs.Prelude.{◌≡◌, ◌⊎◌, ◌<◌, ◌^◌, ℕ, List, map};
+ghost use Rattle.std.specs.Prelude.{◌≡◌, ◌⊎◌, ◌<◌, ◌^◌, ◌++◌, ℕ, List, Some, map};
 ghost use Rattle.std.specs.String.{string_bytes};
 ghost use Rattle.text_out.specs.Out.{Writes};
 ghost use Rattle.diagnoses.specs.FaultTexts.{fault_diagnosis, fault_sentence};
 ghost use Rattle.diagnoses.specs.Reasons.{Reason as Why, reason_is, run_reason as why, unknown};
+ghost use Rattle.endless_runs.specs.Endless.{NeverEnds};
 ghost use Rattle.command_facts.specs.Written.{IsReported};
 ghost use Rattle.command_text.specs.Explained as spec;
 
@@ -15,6 +16,7 @@ use diagnoses::{
     Reason, run_reason, write_fault_sentence, write_refused_line, write_run_fault,
     write_stop_diagnosis,
 };
+use endless_runs::{Cycle, find_cycle};
 use itoa::Buffer;
 use pram_check::Program;
 use program_texts::Stop;
@@ -22,6 +24,9 @@ use std::alloc::Global;
 use text_out::{Out, WriteFault};
 use word_faults::{Given, write_word_fault, wrong_option};
 use write_rules::{Fault, Outcome};
+
+// The most cells of a run that is searched for a loop by which it never ends.
+const MOST_SEARCHED: u32 = 65_536;
 
 // The option of the call that doesn't take the word for which it stops.
 fn wrong_of(words: &[String], stop: &Stop<'_>) -> Option<Given>
@@ -146,28 +151,104 @@ fn write_bound<E: Out>(err: &mut E, bound: u32) -> Result<(), WriteFault>
     ])
 }
 
-// Writes that a run met its bound.
-fn say_bound<E: Out>(err: &mut E, bound: u32)
+fn write_cycle<E: Out>(err: &mut E, cycle: Cycle) -> Result<(), WriteFault>
     requires err { (E.Out.state err.old).failures < 2 ^ 62 }
-    ensures written { IsReported (E.Out.state err.old) (E.Out.state err.new) (spec.bound_sentence bound) }
+    ensures written { Writes (E.Out.state err.old) (E.Out.state err.new) (spec.cycle_sentence cycle) result }
 {
-    if write_bound(err, bound).is_ok() {
+    err.write_parts(&[
+        b"this never ends: the loop of line ",
+        Buffer::new().format(cycle.line).as_bytes(),
+        b" comes back to the same state after ",
+        Buffer::new().format(cycle.statements).as_bytes(),
+        b" statements\n",
+    ])
+}
+
+// A loop by which a run never ends, where it has no more cells than these: it is run again for that, with some of its states kept.
+fn cycle_of(alloc: Global, run: &FoundRun<'_>) -> Option<Cycle>
+    ensures { (cycle : Cycle) → result ≡ Some cycle → NeverEnds run.now.loaded.program run.now.input.items }
+{
+    let program = &run.loaded.program;
+    if program.layout().cells() > MOST_SEARCHED {
+        return None;
+    }
+    find_cycle(alloc, program, &run.input, run.words.options.bound)
+}
+
+fn write_bound_of<E: Out>(err: &mut E, bound: u32, cycle: Option<Cycle>) -> Result<(), WriteFault>
+    requires err { (E.Out.state err.old).failures < 2 ^ 62 }
+    ensures written { Writes (E.Out.state err.old) (E.Out.state err.new) (spec.bound_sentence bound ++ spec.cycle_text cycle) result }
+{
+    write_bound(err, bound)?;
+    match cycle {
+        Some(cycle) => write_cycle(err, cycle),
+        None => Ok(()),
+    }
+}
+
+// Writes that a run met its bound, and that it never ends where that is known.
+fn say_bound<E: Out>(alloc: Global, err: &mut E, run: &FoundRun<'_>)
+    requires err { (E.Out.state err.old).failures < 2 ^ 62 }
+    ensures written { spec.IsBoundSaid run.now (E.Out.state err.old) (E.Out.state err.new) }
+{
+    let cycle = cycle_of(alloc, run);
+    if write_bound_of(err, run.words.options.bound, cycle).is_ok() {
         let _ = err.flush();
     }
 }
 
-/// Writes what is said of the fault of a program's run, or that its bound was met, where that is asked for.
+fn write_time<E: Out>(err: &mut E, seconds: u32, bound: u32) -> Result<(), WriteFault>
+    requires err { (E.Out.state err.old).failures < 2 ^ 62 }
+    ensures written { Writes (E.Out.state err.old) (E.Out.state err.new) (spec.time_sentence seconds bound) result }
+{
+    err.write_parts(&[
+        b"--seconds ",
+        Buffer::new().format(seconds).as_bytes(),
+        b" ended the run after statement ",
+        Buffer::new().format(bound).as_bytes(),
+        b"\n",
+    ])
+}
+
+// Writes that there was no more time for a run.
+fn say_time<E: Out>(err: &mut E, seconds: u32, bound: u32)
+    requires err { (E.Out.state err.old).failures < 2 ^ 62 }
+    ensures written { IsReported (E.Out.state err.old) (E.Out.state err.new) (spec.time_sentence seconds bound) }
+{
+    if write_time(err, seconds, bound).is_ok() {
+        let _ = err.flush();
+    }
+}
+
+// Writes why a run goes on: its time was over, or if that is asked for that its bound was met.
+fn say_limit<E: Out>(alloc: Global, err: &mut E, run: &FoundRun<'_>, explains: bool)
+    requires err { (E.Out.state err.old).failures < 2 ^ 62 }
+    ensures left { spec.IsLimitSaid explains run.now.words.seconds run.now (E.Out.state err.old) (E.Out.state err.new) }
+{
+    match run.words.seconds {
+        Some(seconds) => say_time(err, seconds, run.words.options.bound),
+        None => {
+            if explains {
+                say_bound(alloc, err, run)
+            }
+        }
+    }
+}
+
+/// Writes what is said of the fault of a program's run, or that its bound was met, where that is asked for; and always that its time was
+/// over.
 pub(crate) fn explain_run<E: Out>(alloc: Global, err: &mut E, run: &FoundRun<'_>, explains: bool)
     requires err { (E.Out.state err.old).failures < 2 ^ 62 }
     ensures left { spec.IsRunExplained explains run.now run.now.outcome (E.Out.state err.old) (E.Out.state err.new) }
 {
-    if !explains {
-        return;
-    }
     match &run.outcome {
         Outcome::Ended { .. } => {}
-        Outcome::GoesOn { .. } => say_bound(err, run.words.options.bound),
-        Outcome::Faulted { fault, .. } => say_run_fault(alloc, err, run, fault),
+        Outcome::GoesOn { .. } => say_limit(alloc, err, run, explains),
+        Outcome::Faulted { fault, .. } => {
+            if explains {
+                say_run_fault(alloc, err, run, fault)
+            }
+        }
     }
 }
 

@@ -295,7 +295,7 @@ fn write_flow_behind<'a, 'b, O: Out>(
     Ok(run)
 }
 
-// A run as a page, written when it is over.
+// A run as a page, with what it came to.
 fn write_page_behind<'a, 'b, O: Out>(
     alloc: Global,
     steps: FoundSteps<'b>,
@@ -306,10 +306,8 @@ fn write_page_behind<'a, 'b, O: Out>(
     requires out { (O.Out.state out.old).failures < 2 ^ 62 }
     ensures told { (on : Terminal) → stepped.IsToldRun on steps.entry (O.Out.state out.old) (O.Out.state out.new) result }
 {
-    let (outcome, entries) = run_whole(alloc, &steps)?;
-    let run = steps.with_outcome(outcome);
-    write_as_page(alloc, &run, &entries, out)?;
-    Ok(run)
+    let outcome = write_as_page(alloc, &steps, out)?;
+    Ok(steps.with_outcome(outcome))
 }
 
 // A run in words, with what it came to.
@@ -346,7 +344,8 @@ fn write_picture_behind<'a, 'b, O: Out>(
 /// Runs a program and tells it statement by statement, in words as it runs, drawn, or as a page; and answers the run with what it came to.
 ///
 /// In words a line is written as soon as its statement has run, and none is kept; of a picture those statements are kept that are asked
-/// for; of the flow of data and of a page all of them. E17 where the writer failed, E16 where memory was refused.
+/// for; of a page no more than the lines that could stand in it; of the flow of data all statements. E17 where the writer failed, E16 where
+/// memory was refused.
 pub(crate) fn write_stepped<'a, 'b, O: Out>(
     alloc: Global,
     on: Terminal,

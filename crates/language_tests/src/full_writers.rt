@@ -2,7 +2,7 @@
 
 use crate::rows::{SILENT, Shelf, call};
 use pram_syntax::{Buffer, Out, OutFailed};
-use pramc::{CommandLine, Nobody, Status, command};
+use pramc::{CommandLine, Status, Unwatched, command};
 use std::test::Fail;
 
 const SUM: &[u8] =
@@ -25,7 +25,7 @@ fn a_version_that_is_cut_off_is_told(rt: HostRuntime) -> Result<(), Fail> {
             &words,
             SILENT,
             &mut shelf,
-            &mut Nobody,
+            &mut Unwatched,
             &mut out,
             &mut err,
         );
@@ -88,7 +88,7 @@ fn a_full_output_is_told(rt: HostRuntime) -> Result<(), Fail> {
                 &words,
                 SILENT,
                 &mut shelf,
-                &mut Nobody,
+                &mut Unwatched,
                 &mut out,
                 &mut err
             ) == status
@@ -127,7 +127,7 @@ fn a_text_that_is_cut_off_is_told(rt: HostRuntime) -> Result<(), Fail> {
                 &words,
                 SILENT,
                 &mut shelf,
-                &mut Nobody,
+                &mut Unwatched,
                 &mut out,
                 &mut err,
             );

@@ -1,7 +1,7 @@
 // Calls of the program over files in memory: what they print, and the exit status.
 
 use pram_syntax::Buffer;
-use pramc::{Beside, CommandLine, Nobody, SourceFault, Sources, Status, Terminal, command};
+use pramc::{Beside, CommandLine, SourceFault, Sources, Status, Terminal, Unwatched, command};
 use std::alloc::{AllocError, Global};
 use std::sync::Wait;
 use std::thread::Threads;
@@ -88,7 +88,7 @@ pub(crate) fn call_on<R: Threads + Wait + Sync>(
         words,
         terminal,
         &mut shelf,
-        &mut Nobody,
+        &mut Unwatched,
         &mut out,
         &mut err,
     );

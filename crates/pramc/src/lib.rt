@@ -1,7 +1,7 @@
 //! Programs compiled, run and shown, and the whole command, but for the system's files and streams.
 #![tactic(auto)]
 
-pub use call_progress::{Nobody, ProgressLine, Watch};
+pub use call_progress::Watch;
 pub use command_line::command;
 pub use command_text::Terminal;
 pub use command_words::CommandLine;
@@ -12,6 +12,7 @@ pub use program_runs::{
 pub use program_texts::{
     Refusal, Status, Stop, mean_program, meaning_of_text, read_program, show, write_stop,
 };
+pub use progress_lines::{ErrorStream, ProgressLine, Unwatched};
 pub use run_options::{MapChoice, Options, Reserve};
 pub use system_files::{Beside, SourceFault, Sources};
 pub use workers::{Gate, OpenGate};

@@ -63,7 +63,7 @@ struct Rises<'c> {
 }
 
 impl<'c> Gate for Rises<'c> {
-    fn pass<R: Wait>(&self, _rt: &R, worker: u32, _phase: u64) {
+    fn pass<R: Wait>(&self, _rt: &R, worker: u32, _phase: u64, _statements: u32) {
         if worker != 0 {
             return;
         }

@@ -40,7 +40,7 @@ impl Steps {
 }
 
 impl Gate for Steps {
-    fn pass<R: Wait>(&self, _rt: &R, worker: u32, phase: u64) {
+    fn pass<R: Wait>(&self, _rt: &R, worker: u32, phase: u64, _statements: u32) {
         match self.passed.get(worker as usize) {
             Some(mine) if phase > 0 && self.all_passed(phase - 1) => {
                 if mine.swap(phase) != phase - 1 {

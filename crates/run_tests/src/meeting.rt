@@ -50,7 +50,7 @@ impl<'c, C: Clock> Meeting<'c, C> {
 }
 
 impl<'c, C: Clock> Gate for Meeting<'c, C> {
-    fn pass<R: Wait>(&self, _rt: &R, worker: u32, phase: u64) {
+    fn pass<R: Wait>(&self, _rt: &R, worker: u32, phase: u64, _statements: u32) {
         if phase == 1 {
             let (mine, other) = match worker {
                 0 => (&self.first_came, &self.second_came),

@@ -2,7 +2,7 @@
 
 use crate::calls::{SILENT, Shelf, call, owned};
 use pram_syntax::{Buffer, Out, OutFailed};
-use pramc::{CommandLine, Nobody, Status, command};
+use pramc::{CommandLine, Status, Unwatched, command};
 use std::test::Fail;
 
 // What is told where a stream fails.
@@ -58,7 +58,7 @@ fn facts_that_are_cut_off_are_told(rt: HostRuntime) -> Result<(), Fail> {
                 words,
                 SILENT,
                 &mut shelf,
-                &mut Nobody,
+                &mut Unwatched,
                 &mut out,
                 &mut err,
             );

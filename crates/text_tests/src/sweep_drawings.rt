@@ -14,6 +14,7 @@ fn counts(time: u32, work: u64) -> Counts {
         reads: 23,
         writes: 15,
         most_exchanges: 15,
+        most_words: None,
     }
 }
 

@@ -12,6 +12,7 @@ const EIGHT: Counts = Counts {
     reads: 23,
     writes: 15,
     most_exchanges: 15,
+    most_words: None,
 };
 
 const CUT: Counts = Counts {
@@ -21,6 +22,7 @@ const CUT: Counts = Counts {
     reads: 8,
     writes: 8,
     most_exchanges: 4,
+    most_words: Some(40),
 };
 
 // One of each kind.
@@ -123,12 +125,31 @@ fn a_record_a_size(rt: HostRuntime) -> Result<(), Fail> {
     let out = csv(rt.alloc(), b"n", &rows)?;
     assert_eq!(rt;
         out.bytes(),
-        b"n,time,work,width,reads,writes,exchanges,outcome\n\
-8,17,28,8,23,15,15,ended\n\
-9,17,28,8,23,15,15,goes on\n\
-10,3,9,8,8,8,,fault read-conflict a[1] line 4\n\
-11,,,,,,,refused E11 InputTooLong\n"
+        b"n,time,work,width,reads,writes,exchanges,words,outcome\n\
+8,17,28,8,23,15,15,,ended\n\
+9,17,28,8,23,15,15,,goes on\n\
+10,3,9,8,8,8,,,fault read-conflict a[1] line 4\n\
+11,,,,,,,,refused E11 InputTooLong\n"
             .as_slice()
+    );
+    Ok(())
+}
+
+#[test]
+fn words_stand_behind_the_exchanges(rt: HostRuntime) -> Result<(), Fail> {
+    let rows = [SizeRow {
+        size: 8,
+        ending: Ending::GoesOn(CUT),
+    }];
+    let out = told(rt.alloc(), b"n", &rows)?;
+    assert_eq!(rt;
+        out.bytes(),
+        b"n 8 time 3 work 9 width 8 reads 8 writes 8 exchanges at most 4 words at most 40 goes on\n".as_slice()
+    );
+    let out = csv(rt.alloc(), b"n", &rows)?;
+    assert_eq!(rt;
+        out.bytes(),
+        b"n,time,work,width,reads,writes,exchanges,words,outcome\n8,3,9,8,8,8,4,40,goes on\n".as_slice()
     );
     Ok(())
 }
@@ -143,7 +164,7 @@ fn marks_stand_in_quotes(rt: HostRuntime) -> Result<(), Fail> {
     let out = csv(rt.alloc(), b"a\nb", &rows)?;
     assert_eq!(rt;
         out.bytes(),
-        b"\"a\nb\",time,work,width,reads,writes,exchanges,outcome\n1,,,,,,,\"no \"\"a\"\", no b\"\n".as_slice()
+        b"\"a\nb\",time,work,width,reads,writes,exchanges,words,outcome\n1,,,,,,,,\"no \"\"a\"\", no b\"\n".as_slice()
     );
     Ok(())
 }

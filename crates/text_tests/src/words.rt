@@ -27,6 +27,10 @@ fn an_option_that_takes_the_word_is_passed(rt: HostRuntime) -> Result<(), Fail> 
     let alloc = rt.alloc();
     let words = words_of(alloc, "cost f --bound 0 --schedule 0")?;
     assert!(rt; wrong_option(&words, "0") == Some(Given::Schedule));
+    let workers = words_of(alloc, "cost f --bound 0 --workers 0")?;
+    assert!(rt; wrong_option(&workers, "0") == Some(Given::ToldWorkers));
+    let running = words_of(alloc, "run f --workers x")?;
+    assert!(rt; wrong_option(&running, "x") == Some(Given::Workers));
     let joined = words_of(alloc, "run f --reserve=3 --bound=3")?;
     assert!(rt; wrong_option(&joined, "3") == Some(Given::Reserve));
     let names = words_of(alloc, "run f --show a,nope")?;

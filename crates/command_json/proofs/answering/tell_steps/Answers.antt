@@ -10,7 +10,7 @@ returns-in-Ok g c =
     let t = c.in-Ok.ensures.told in
     record {
       leaves = subst (LeavesFound (map string_bytes c.args.words.now) (found.Stepped c.args.steps.now) _ _ _ _) (sym c.of.ensures)
-          (ToldAsItRan c.args.steps.now c.in-Ok.outcome t.1.0 refl t.0 t.1.1 t.1.2 refl);
+          (ToldAsItRan c.args.steps.now c.in-Ok.outcome t.1.0 refl t.0 t.1.1 t.1.2 c.tell_time.ensures.told);
     }
 
 pub returns-in-Err : goal.returns-in-Err

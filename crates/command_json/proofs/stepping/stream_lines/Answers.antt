@@ -11,20 +11,20 @@ returns-in-Ok-clause-outcome g c =
 
 pub returns-in-Ok-clause-lines : goal.returns-in-Ok-clause-lines
 returns-in-Ok-clause-lines g c =
-    streamed_by c.args.steps.now (g.O.Out.state c.args.out.now) (g.O.Out.state c.stream_json.new.out) _ (Ok c.in-Ok.outcome)
-    (Ok c.in-Ok.outcome) c.deref.ensures.value refl c.in-Ok.ensures.written
+    streamed_by c.args.steps.now (g.O.Out.state c.args.out.now) (g.O.Out.state c.stream_json.new.out) _ _ (Ok c.in-Ok.outcome)
+    (Ok c.in-Ok.outcome) c.text-source.ensures.value c.deref.ensures.value refl c.in-Ok.ensures.written
 
 pub returns-in-Err-WriteFailed-clause-cut : goal.returns-in-Err-WriteFailed-clause-cut
 returns-in-Err-WriteFailed-clause-cut g c =
     let e = c.in-Err-WriteFailed in
     stopped_in_lines c.args.steps.now _ _
-    (streamed_by c.args.steps.now _ _ _ _ _ c.deref.ensures.value (ap Err e.field-0-is) e.ensures.written)
+    (streamed_by c.args.steps.now _ _ _ _ _ _ c.text-source.ensures.value c.deref.ensures.value (ap Err e.field-0-is) e.ensures.written)
 
 pub returns-in-Err-OutOfMemory-clause-cut : goal.returns-in-Err-OutOfMemory-clause-cut
 returns-in-Err-OutOfMemory-clause-cut g c =
     let e = c.in-Err-OutOfMemory in
     behind_lines c.args.steps.now _ _
-    (streamed_by c.args.steps.now _ _ _ _ _ c.deref.ensures.value (ap Err e.field-0-is) e.ensures.written)
+    (streamed_by c.args.steps.now _ _ _ _ _ _ c.text-source.ensures.value c.deref.ensures.value (ap Err e.field-0-is) e.ensures.written)
 
 pub returns-in-Err-InputTooLong-clause-cut : goal.returns-in-Err-InputTooLong-clause-cut
 returns-in-Err-InputTooLong-clause-cut g c =

@@ -1,4 +1,4 @@
-use Rattle.std.proofs.Common.{map, refl, subst, sym}
+use Rattle.std.proofs.Common.{map, refl}
 use Rattle.std.specs.String.{string_bytes}
 use Rattle.command_facts.proofs.Alone.{told_alone}
 use Rattle.command_text.specs.Explained.{IsRefusalReported}

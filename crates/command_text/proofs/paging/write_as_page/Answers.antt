@@ -1,33 +1,30 @@
-use Rattle.std.proofs.Common.{◌∙◌, List, ap, length, map, min, refl, subst, sym, ℕ}
-use Rattle.std.proofs.lemmas.List.{length-map}
-use Rattle.std.specs.String.{string_bytes}
-use Rattle.diagnoses.specs.Sources.{text_in}
-use Rattle.step_entries.specs.Entries.{entry_is}
-use Rattle.command_facts.proofs.Writing.{wrote_some}
-use Rattle.command_text.specs.Steps.{AreFacts}
-use Rattle.command_text.proofs.PageParts.{between_so}
+use Rattle.std.proofs.Common.{Err, Ok}
+use Rattle.command_requests.specs.declared.form.Form.TheVariants as form
+use Rattle.command_facts.proofs.Writing.{wrote}
+use Rattle.program_texts.specs.Status.{status_of}
+use Rattle.command_text.proofs.StepsWritten.{cut_in_text, cut_told, whole}
 use Rattle.command_text.proofs.paging.write_as_page.Goals as goal
+
+pub returns-in_err-outcome : goal.returns-in_err-outcome
+returns-in_err-outcome g c = record {
+  told = λ on. cut_told on c.args.steps.now _ _ _ c.in_err-outcome.field-0.0 c.from_residual.ensures.1 (c.in_err-outcome.ensures.cut on);
+}
+
+pub returns-in_err-finish : goal.returns-in_err-finish
+returns-in_err-finish g c =
+    let s = c.args.steps.now in
+    let o = c.in_ok-outcome.outcome in
+    let page = c.in_ok-outcome.ensures.page in
+    record {
+      told = λ on. cut_told on s _ _ _ c.in_err-finish.field-0.0 c.from_residual-in_err-finish.ensures.1
+          (cut_in_text on s _ form.Page c.requires.form o c.in_ok-outcome.ensures.outcome _ (status_of o) _ page.0 page.1
+          (wrote _ _ page.0 _ _ _ (Err _) c.of.ensures page.2 c.in_err-finish.ensures.ok c.in_err-finish.ensures.failed));
+    }
 
 pub returns : goal.returns
 returns g c =
-    let run = c.args.run.now in
-    let words = run.words.steps in
-    let entries = map entry_is c.args.entries.now in
-    let facts = c.as_bytes-facts.result.now in
-    let kept = c.kept_lines-kept.result in
-    record {
-      written = wrote_some _ _ _ _ _ _ c.write_paged.result (record {
-        facts = facts;
-        are = subst (λ (f : List ℕ). AreFacts run.loaded.source.name.now (text_in run.loaded.source) run.loaded.program run.input.items
-            run.outcome entries words.from words.to f) (sym c.as_bytes-facts.ensures.value) c.in_ok-text.ensures.facts;
-        front = kept.front;
-        back = kept.back;
-        cut = c.kept_lines-kept.ensures.cut;
-        state = c.as_bytes.result.now;
-        between = between_so run.input.items _ entries _ facts kept.front kept.back _ _ (string_bytes c.in_ok-state.state) c.as_bytes.result.now
-            c.deref.ensures.value c.gap_end.ensures
-            (c.min-last.ensures ∙ ap (λ (n : ℕ). min words.to n) (sym (length-map c.args.entries.now entry_is))) c.as_bytes.ensures.value
-            c.in_ok-state.ensures.stands;
-        is = refl;
-      }) c.write_paged.ensures.written;
-    }
+    let s = c.args.steps.now in
+    let o = c.in_ok-outcome.outcome in
+    let page = c.in_ok-outcome.ensures.page in
+    let w = wrote _ _ page.0 _ _ _ (Ok _) c.of.ensures page.2 c.in_ok-finish.ensures.ok c.in_ok-finish.ensures.failed in
+    record { told = λ on. whole on s _ form.Page c.requires.form o c.in_ok-outcome.ensures.outcome _ page.0 page.1 w.1 }

@@ -1,4 +1,4 @@
-use Rattle.std.proofs.Common.{List, ℤ, ◌≡◌, ◌∙◌, ap, length, map, subst}
+use Rattle.std.proofs.Common.{List, ℤ, ◌∙◌, ap, length}
 use Rattle.step_journal.specs.Between.{between}
 use Rattle.step_journal.specs.Entries.{run_entries}
 use Rattle.command_text.proofs.StepsWritten.{outcome_by}

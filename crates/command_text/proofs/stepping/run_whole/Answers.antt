@@ -1,4 +1,4 @@
-use Rattle.std.proofs.Common.{List, ℤ, ◌≡◌, ◌∙◌, ap}
+use Rattle.std.proofs.Common.{List, ℤ, ◌∙◌, ap}
 use Rattle.step_journal.specs.Entries.{run_entries}
 use Rattle.command_text.proofs.StepsWritten.{outcome_by}
 use Rattle.command_text.proofs.stepping.run_whole.Goals as goal

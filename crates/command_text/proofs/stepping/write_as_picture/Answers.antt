@@ -1,7 +1,6 @@
-use Rattle.std.proofs.Common.{◌∙◌, Err, Ok, ap, refl, map}
+use Rattle.std.proofs.Common.{Err, Ok, refl}
 use Rattle.command_requests.specs.declared.form.Form.TheVariants as form
 use Rattle.program_texts.specs.Status.{status_of}
-use Rattle.step_entries.specs.Entries.{entry_is}
 use Rattle.command_facts.specs.Found.{entries_of, with_outcome}
 use Rattle.command_text.specs.Texts.{picture_text}
 use Rattle.command_text.proofs.StepsWritten.{cut_in_text, cut_told, picture_as, unwritten, whole}
