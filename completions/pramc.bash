@@ -12,18 +12,18 @@ _pramc() {
         --map) words="identity affine:" ;;
         --under) words="erew crew common priority sum" ;;
         --format) words="text json csv gnu" ;;
-        --bound | --workers | --reserve | --schedule | --sweep | --from | --to | --size | --random | --seed | --show | --only | --bsp | --cells | --values | --permutations | --count | --time-at-most | --work-at-most) return ;;
+        --bound | --seconds | --workers | --reserve | --schedule | --sweep | --from | --to | --size | --random | --seed | --show | --only | --bsp | --cells | --values | --permutations | --count | --time-at-most | --work-at-most) return ;;
         *)
             case ${COMP_WORDS[1]} in
             check) words="--size --format --explain --help" ;;
             plan | expand) words="--size --explain --help" ;;
-            meaning) words="--bound $cells --show --quiet --size --format --explain --help" ;;
+            meaning) words="--bound --seconds $cells --show --quiet --size --format --explain --help" ;;
             rules) words="--bound $cells --size --format --explain --help" ;;
-            explore) words="--cells --values --permutations --under --bound --size --format --explain --help" ;;
+            explore) words="--cells --values --permutations --under --workers --bound --size --format --explain --help" ;;
             compare) words="--input --cells --values --permutations --random --count --seed --only --time-at-most --work-at-most --bound --size --format --explain --help" ;;
             export) words="--listing --size --explain --help" ;;
-            cost) words="--bound $cells --schedule --lines --sweep --svg --size --format --explain --help" ;;
-            steps) words="--bound $cells --from --to --locals --svg --flow --only --html --size --format --explain --help" ;;
+            cost) words="--bound --seconds $cells --workers --schedule --lines --sweep --svg --size --format --explain --help" ;;
+            steps) words="--bound --seconds $cells --from --to --locals --svg --flow --only --html --size --format --explain --help" ;;
             run) words="--bound $cells --workers --map --reserve --show --quiet --size --format --explain --help" ;;
             exec) words="--bound $cells --workers --map --reserve --show --quiet --format --explain --help" ;;
             trace) words="--bound $cells --workers --map --reserve --lines --bsp --outcome --svg --size --format --explain --help" ;;

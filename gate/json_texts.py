@@ -3,8 +3,9 @@
 
 json_texts.py PROGRAM: each object of JSON is on a line of its own and has each name once; it says what the text of the same call says, and
 the exit status is the same. So it is with a run that is cut short, with changed texts that are refused, whose lines and columns are counted
-here, and with words that are. What `steps --locals` says is what its JSON says; and a sweep over the sizes of an example, of which some
-are cut short or refused, says the same as text, as JSON and as CSV.
+here, and with words that are. What `steps --locals` says is what its JSON says; a sweep over the sizes of an example, of which some
+are cut short or refused, says the same as text, as JSON and as CSV; and two programs on several inputs say of each what they say of it
+alone.
 """
 import csv
 import json
@@ -31,9 +32,11 @@ BESIDE = re.compile(r"(?P<sets>(?: [^ :]+ -?\d+ -> -?\d+)*)(?P<locals>(?: \w+(?:
 LOCAL = re.compile(r"(?: ([A-Za-z_]\w*))? (-?\d+): (-?\d+) -> (-?\d+)")
 MOST_LOCALS = 8
 EXCHANGE = re.compile(r"(\d+) (\w+) sent ((?:\d+ )+)received ((?:\d+ )+)h (\d+) line (\d+)")
-COUNTS = r" time (\d+) work (\d+) width (\d+) reads (\d+) writes (\d+)(?: exchanges at most (\d+))?"
+COUNTS = r" time (\d+) work (\d+) width (\d+) reads (\d+) writes (\d+)(?: exchanges at most (\d+))?(?: words at most (\d+))?"
 SWEPT = re.compile(rf"(\w+) (\d+)(?:{COUNTS})? (ended|goes on|(?:fault|refused) .+)")
-COLUMNS = ["time", "work", "width", "reads", "writes", "exchanges", "outcome"]
+COLUMNS = ["time", "work", "width", "reads", "writes", "exchanges", "words", "outcome"]
+INPUT = re.compile(r"input((?: -?\d+)*): (.+)")
+VALUES = r"(-?\d+|missing), and (-?\d+|missing)"
 REFUSED = re.compile(r"refused (E\d+) (\w+)(?: at (\d+))?(?: (\w+))?")
 
 
@@ -100,7 +103,7 @@ def line_cost(line):
 
 
 def costs(lines):
-    """Costs with `--lines` and `--schedule`."""
+    """Costs with `--lines`, `--schedule` and `--workers`."""
     said, lines = {"lines": []}, list(lines)
     while re.match(r"[a-z]+ .*\d", lines[0]) and not lines[0].startswith("fault"):
         line = lines.pop(0)
@@ -109,6 +112,8 @@ def costs(lines):
             said["lines"].append(line_cost(line))
         elif line.startswith("exchanges at most"):
             said["exchanges_at_most"] = int(words[3])
+        elif line.startswith("words at most"):
+            said["words_at_most"] = int(words[3])
         elif line.startswith("rounds on"):
             said |= {"processors": int(words[2].removesuffix(":")), "rounds": int(words[3])}
         elif line.startswith("at most"):
@@ -174,7 +179,7 @@ def exchanges(lines):
 def swept(line):
     """What is told of a size."""
     name, value, *counts, end = SWEPT.fullmatch(line).groups()
-    numbers = zip(("time", "work", "width", "reads", "writes", "exchanges_at_most"), counts)
+    numbers = zip(("time", "work", "width", "reads", "writes", "exchanges_at_most", "words_at_most"), counts)
     said = {it: int(n) for it, n in numbers if n}
     how, *_ = end.split()
     more = {"fault": {"fault": end}, "refused": {"refusal": end}}.get(how, {})
@@ -186,6 +191,27 @@ def sweep(lines):
     rows = [it for it in lines if SWEPT.fullmatch(it)]
     grown = dict(it.split(" ", 1) for it in lines[len(rows) :])
     return [*map(swept, rows), *([grown] if grown else [])]
+
+
+def way(words):
+    """How a run comes out, without its values."""
+    return {"outcome": "fault", **fault(words)} if words.startswith("fault") else {"outcome": words}
+
+
+def differing(line):
+    """An input on which two programs differ, and what differs on it."""
+    values, words = INPUT.fullmatch(line).groups()
+    said = {"input": values.split()}
+    if above := re.fullmatch(r"(time|work) (\d+) above (\d+)", words):
+        return said | {"differs": above[1], "taken": int(above[2]), "limit": int(above[3])}
+    if item := re.fullmatch(rf"output item (\d+) is {VALUES}", words):
+        said |= {"differs": "output", "item": int(item[1])}
+    elif item := re.fullmatch(rf"(\S+) is {VALUES}", words):
+        said |= {"differs": "cell", "cell": item[1]}
+    else:
+        first, second = words.split(", and ")
+        return said | {"differs": "outcome", "first": way(first), "second": way(second)}
+    return said | {name: it for name, it in zip(("first", "second"), item.groups()[1:]) if it != "missing"}
 
 
 def refusal(line, text):
@@ -258,6 +284,17 @@ def wrong_table(words):
     return [f"pramc {' '.join(map(str, words))} --format csv: status {code}, not {status}\n{said}\n{out}{err}"]
 
 
+def wrong_pair(words, inputs):
+    """What is wrong with the JSON of two programs on these inputs, if anything is: a line for each that differs, and one for the whole."""
+    texts = [called([*words, "--input", it])[1].splitlines()[1:] for it in inputs]
+    code, out, err = called([*words, *(word for it in inputs for word in ("--input", it)), "--format", "json"])
+    said = [differing(line) for lines in texts for line in lines]
+    whole = {"inputs": len(inputs), "same": len(inputs) - len(said)} | (said[0] if said else {})
+    if (code, err, read(out)) == (1 if said else 0, "", [*said, whole]):
+        return []
+    return [f"pramc {' '.join(map(str, words))} on {inputs}: status {code}\n{said}\n{out}{err}"]
+
+
 def shown_place(place):
     """How a place is shown in words: where it is, its line, and a caret below its column."""
     where = ":".join(str(place[it]) for it in ("file", "line", "column") if it in place)
@@ -309,13 +346,25 @@ def changed_texts(text):
     yield text.replace("begin", "begin $", 1)
 
 
+def of_pairs(name, text, folder):
+    """An example beside itself, where it may take no time, and beside one that prints more: on its input, on none, on one value if it fits."""
+    file, other = EXAMPLES / f"{name}.pram", folder / f"{name}_more.pram"
+    other.write_text(re.sub(r"^begin\b", "begin\n  print 1;", text, count=1, flags=re.M))
+    inputs = [EXAMPLES / f"{name}.in"]
+    for at, values in enumerate(("", "1") if inputs[0].read_text().split() else ("",)):
+        inputs.append(folder / f"{name}_pair_{at}.in")
+        inputs[-1].write_text(values)
+    calls = [([file, file], 20000), ([file, file, "--time-at-most", "1"], 20000), ([file, other], 20000), ([other, file], 5)]
+    return [wrong_pair(["compare", *it, "--bound", str(bound)], inputs) for it, bound in calls]
+
+
 def of_example(name, text, folder):
     file, values = EXAMPLES / f"{name}.pram", ["--input", EXAMPLES / f"{name}.in"]
     calls = [(["check", file], accepted)]
     for bound in ([], ["--bound", "5"]):
         more = [file, *values, *bound]
         calls += [(["meaning", *more], meaning), (["run", *more, "--workers", "3"], meaning), (["rules", *more], rules)]
-        calls += [(["cost", *more, "--lines", "--schedule", "3"], costs), (["steps", *more], steps)]
+        calls += [(["cost", *more, "--lines", "--schedule", "3", "--workers", "2"], costs), (["steps", *more], steps)]
         calls += [(["trace", *more, "--workers", "2"], exchanges)]
     plan = folder / f"{name}.bsp"
     plan.write_text(called(["plan", file])[1])
@@ -359,6 +408,7 @@ def of_words():
 def main():
     with tempfile.TemporaryDirectory() as folder, ThreadPoolExecutor(4) as pool:
         found = sum(pool.map(lambda it: of_example(*it, Path(folder)), programs()), [])
+        found += sum(pool.map(lambda it: of_pairs(*it, Path(folder)), programs()), [])
         found += sum(pool.map(lambda it: of_sizes(*it), programs()), [])
     found += of_words()
     for it in sum(found, []):

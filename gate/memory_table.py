@@ -27,6 +27,7 @@ COMMANDS = {
     "rules": ["rules"],
     "steps": ["steps"],
     "of them 3": ["steps", "--from", "1", "--to", "3"],
+    "page": ["steps", "--html"],
     "run": ["run", *WORKERS],
     "trace": ["trace", *WORKERS],
 }
