@@ -1,34 +1,22 @@
 -- What is found block by block.
 use Rattle.std.proofs.Common.{◌≡◌, ℕ, ◌+◌, ◌*◌, ◌≤◌, ℤ, List, [], ◌∷◌, ◌++◌, zero, suc, length, take, drop, get_or, refl, ap, sym, ◌∙◌, arith}
 use Rattle.std.proofs.lemmas.List.{take_all, length-take, length-drop}
+use Rattle.std.proofs.Math.Seq.{take-nil}
 use Rattle.pram_check.specs.Checked.{Checked}
+use Rattle.small_scopes.proofs.Placed.{drop_further}
 use Rattle.explorations.specs.Found.{Found, found}
 use Rattle.explorations.specs.Merged.{merged}
 use Rattle.explorations.proofs.Merges.{blocks_are_merged}
 
-take_none : (k : ℕ) → take {A = List ℤ} k [] ≡ []
-take_none zero = refl
-take_none (suc k) = refl
-
-drop_none : (k : ℕ) → drop {A = List ℤ} k [] ≡ []
-drop_none zero = refl
-drop_none (suc k) = refl
-
 take_more : (a b m : ℕ) (xs : List (List ℤ)) → m ≡ a + b → take a xs ++ take b (drop a xs) ≡ take m xs
 take_more zero b m xs e = ap (λ (j : ℕ). take j xs) (let f : b ≡ m = omega (arith, e) in f)
 take_more (suc a) b zero xs e = absurd (omega (arith, e))
-take_more (suc a) b (suc m) [] e = take_none b
+take_more (suc a) b (suc m) [] e = take-nil b
 take_more (suc a) b (suc m) (x ∷ xs) e = ap (λ ys. x ∷ ys) (take_more a b m xs (omega (arith, e)))
 
 -- further on
-dropped_further : (a b m : ℕ) (xs : List (List ℤ)) → m ≡ a + b → drop b (drop a xs) ≡ drop m xs
-dropped_further zero b m xs e = ap (λ (j : ℕ). drop j xs) (let f : b ≡ m = omega (arith, e) in f)
-dropped_further (suc a) b zero xs e = absurd (omega (arith, e))
-dropped_further (suc a) b (suc m) [] e = drop_none b
-dropped_further (suc a) b (suc m) (x ∷ xs) e = dropped_further a b m xs (omega (arith, e))
-
 pub dropped_on : (a b : ℕ) (xs : List (List ℤ)) → drop (a + b) xs ≡ drop b (drop a xs)
-dropped_on a b xs = sym (dropped_further a b (a + b) xs refl)
+dropped_on a b xs = sym (drop_further a b (a + b) xs refl)
 
 at_next : {X : Type 0} (xs : List X) (x d : X) (ys : List X) → get_or (xs ++ x ∷ ys) (length xs) d ≡ x
 at_next [] x d ys = refl

@@ -1,16 +1,14 @@
 -- The inputs from a place on.
 use Rattle.std.proofs.Common.{◌≡◌, ℕ, ◌+◌, ◌-◌, ◌≤◌, zero, suc, Bool, true, ℤ, List, [], ◌∷◌, drop, refl, ap, sym, ◌∙◌, arith, if◌then◌else◌}
+use Rattle.std.proofs.Math.Seq.{drop-nil}
 use Rattle.small_scopes.specs.Scopes.{inputs_from, inputs_left, inputs_of}
 use Rattle.small_scopes.specs.declared.scope.Scope.{Scope}
 
-drop_none : (k : ℕ) → drop {A = List ℤ} k [] ≡ []
-drop_none zero = refl
-drop_none (suc k) = refl
-
-drop_further : (i k m : ℕ) (xs : List (List ℤ)) → m ≡ i + k → drop k (drop i xs) ≡ drop m xs
+-- further on
+pub drop_further : (i k m : ℕ) (xs : List (List ℤ)) → m ≡ i + k → drop k (drop i xs) ≡ drop m xs
 drop_further zero k m xs e = ap (λ (j : ℕ). drop j xs) (let f : k ≡ m = omega (arith, e) in f)
 drop_further (suc i) k zero xs e = absurd (omega (arith, e))
-drop_further (suc i) k (suc m) [] e = drop_none k
+drop_further (suc i) k (suc m) [] e = drop-nil k
 drop_further (suc i) k (suc m) (x ∷ xs) e = drop_further i k m xs (omega (arith, e))
 
 -- where none is left behind i of them, none is left behind more
@@ -20,7 +18,7 @@ nothing_behind s over xs i n is past le =
     let none : inputs_left s over xs ≡ [] = ap (λ (b : Bool). if b then [] else inputs_from s xs) past in
     let k : ℕ = n - i in
     let m : n ≡ i + k = omega arith in
-    none ∙ sym (drop_none k) ∙ ap (drop k) (sym none ∙ is) ∙ drop_further i k n (inputs_of s) m
+    none ∙ sym (drop-nil k) ∙ ap (drop k) (sym none ∙ is) ∙ drop_further i k n (inputs_of s) m
 
 -- one input further
 pub one_further : (s : Scope) (left rest : List (List ℤ)) (x : List ℤ) (i : ℕ) → left ≡ drop i (inputs_of s) → left ≡ x ∷ rest →
