@@ -1,5 +1,7 @@
 //! What one processor does in a statement.
 
+use crate::reading::Reading;
+
 /// What one processor did in a statement.
 #[derive(Drop)]
 pub struct Act {
@@ -9,4 +11,8 @@ pub struct Act {
     pub reads: Vec<u32>,
     /// The shared cell that it wrote.
     pub write: Option<u32>,
+    /// The position of each of those reads, and what it gave.
+    pub readings: Vec<Reading>,
+    /// What it wrote there, which under `priority` or `sum` may be other than what the cell holds then.
+    pub written: Option<i64>,
 }

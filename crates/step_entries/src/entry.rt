@@ -4,6 +4,7 @@ use crate::act::Act;
 use crate::cause::Cause;
 use crate::change::Change;
 use crate::local_change::LocalChange;
+use crate::own_locals::OwnLocals;
 use pram_tokens::Location;
 use write_rules::Fault;
 
@@ -22,12 +23,13 @@ pub enum Entry {
         printed: Vec<i64>,
     },
     /// It faulted: where it stands; its fault, and why; what each processor had read before the fault's position, and no
-    /// write; and at a cell the indices of the processors that met there.
+    /// write; at a cell the indices of the processors that met there; and the locals of those, or of the one that faulted.
     Faulted {
         location: Location,
         fault: Fault,
         cause: Option<Cause>,
         acts: Vec<Act>,
         met: Vec<i64>,
+        locals: Vec<OwnLocals>,
     },
 }

@@ -6,9 +6,13 @@ mod cause;
 mod change;
 mod entry;
 mod local_change;
+mod own_locals;
+mod reading;
 
 pub use act::Act;
 pub use cause::Cause;
 pub use change::Change;
 pub use entry::Entry;
 pub use local_change::LocalChange;
+pub use own_locals::OwnLocals;
+pub use reading::Reading;

@@ -1,5 +1,5 @@
 -- What processors do in a statement, listed one by one.
-use Rattle.std.proofs.Common.{◌≡◌, ℕ, ◌+◌, ◌<◌, ◌≤◌, List, [], ◌∷◌, ◌++◌, Option, map, drop, length, get_or, append_assoc, append-nil, refl}
+use Rattle.std.proofs.Common.{◌≡◌, ℕ, ℤ, ◌+◌, ◌<◌, ◌≤◌, List, [], ◌∷◌, ◌++◌, Option, map, drop, length, get_or, append_assoc, append-nil, refl}
 use Rattle.std.proofs.Common.{ap}
 use Rattle.std.proofs.Common.{sym, ◌∙◌}
 use Rattle.std.proofs.lemmas.List.{drop_more, drop_all}
@@ -9,7 +9,8 @@ use Rattle.pram_meaning.specs.Conflict.{Part}
 use Rattle.pram_meaning.specs.Judging.{part_is}
 use Rattle.step_entries.specs.declared.act as rust
 use Rattle.step_entries.specs.Entries.{Act, act_is}
-use Rattle.step_journal.specs.Acts.{reads_at, reads_in}
+use Rattle.step_entries.specs.declared.reading.Reading.{Reading}
+use Rattle.step_journal.specs.Acts.{reading_at, readings_from, reads_at, reads_in}
 
 -- ---- reads
 
@@ -30,6 +31,32 @@ reads_go t i x now new b h is e = record {
 
 pub reads_end : (t : Trail) (i : ℕ) (now : List ℕ) → InReadList t i now → length t ≤ i → now ≡ reads_in t
 reads_end t i now b h = sym (b.same ∙ ap (λ xs. now ++ reads_in xs) (drop_all i t h) ∙ append-nil now)
+
+-- ---- reads with their positions and values
+
+pub record InReadings (cells : List ℤ) (t : Trail) (i position : ℕ) (now : List Reading) : Type 0 where
+  pub counted : position ≡ i
+  pub same : readings_from cells 1 t ≡ now ++ readings_from cells (position + 1) (drop i t)
+
+pub readings_start : (cells : List ℤ) (t : Trail) (now : List Reading) → now ≡ [] → InReadings cells t 0 0 now
+readings_start cells t now e = record { counted = refl; same = rw e refl }
+
+pub readings_go : (cells : List ℤ) (t : Trail) (i position : ℕ) (x : Option ℕ) (now new : List Reading) →
+    InReadings cells t i position now → i < length t → x ≡ get_or t i x → new ≡ now ++ reading_at cells (position + 1) x →
+    InReadings cells t (i + 1) (position + 1) new
+readings_go cells t i position x now new b h is e =
+    let rest : List Reading = readings_from cells ((position + 1) + 1) (drop (i + 1) t) in record {
+      counted = ap (λ n. n + 1) b.counted;
+      same = b.same
+          ∙ ap (λ xs. now ++ readings_from cells (position + 1) xs) (drop_more t i x h ∙ ap (λ y. y ∷ drop (i + 1) t) (sym is))
+          ∙ sym (append_assoc now (reading_at cells (position + 1) x) rest)
+          ∙ ap (λ k. k ++ rest) (sym e);
+    }
+
+pub readings_end : (cells : List ℤ) (t : Trail) (i position : ℕ) (now : List Reading) → InReadings cells t i position now →
+    length t ≤ i → now ≡ readings_from cells 1 t
+readings_end cells t i position now b h =
+    sym (b.same ∙ ap (λ xs. now ++ readings_from cells (position + 1) xs) (drop_all i t h) ∙ append-nil now)
 
 -- ---- acts, each by what F says of a part
 

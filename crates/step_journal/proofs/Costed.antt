@@ -9,7 +9,7 @@ use Rattle.pram_meaning.specs.Attempt.{Attempt, Effect, Fails, Trail}
 use Rattle.pram_meaning.specs.Conflict.{Part, trail_of}
 use Rattle.pram_meaning.specs.Moments.{Alone, Closed, Moment, Together, run_moments}
 use Rattle.step_entries.specs.Entries.{Act, Entry}
-use Rattle.step_journal.specs.Acts.{act_before, act_of, reads_in, write_of}
+use Rattle.step_journal.specs.Acts.{act_along, act_before, act_of, held, reads_in, write_of}
 use Rattle.step_journal.specs.Costs.{EntriesAreTimeSteps, act_reads, act_writes, step_of}
 use Rattle.step_journal.specs.Entries.{entries_of, run_entries}
 use Rattle.work_time.specs.Steps as cost
@@ -33,17 +33,17 @@ written : (a : Attempt Effect) → writes_to (write_of a) ≡ attempt_writes a
 written (trying.Gives t g) = refl
 written (Fails t k) = refl
 
-all_reads : (xs : List Part) → sum_by act_reads (map act_of xs) ≡ sum_by part_reads xs
-all_reads [] = refl
-all_reads (x ∷ xs) =
-    let e = sum_by-cons act_reads (act_of x) (map act_of xs) in let f = sum_by-cons part_reads x xs in
-    let g = reads_many (trail_of x.attempt) in let h = all_reads xs in omega (arith, e, f, g, h)
+all_reads : (cells : List ℤ) (xs : List Part) → sum_by act_reads (map (act_of cells) xs) ≡ sum_by part_reads xs
+all_reads cells [] = refl
+all_reads cells (x ∷ xs) =
+    let e = sum_by-cons act_reads (act_of cells x) (map (act_of cells) xs) in let f = sum_by-cons part_reads x xs in
+    let g = reads_many (trail_of x.attempt) in let h = all_reads cells xs in omega (arith, e, f, g, h)
 
-all_writes : (xs : List Part) → sum_by act_writes (map act_of xs) ≡ sum_by part_writes xs
-all_writes [] = refl
-all_writes (x ∷ xs) =
-    let e = sum_by-cons act_writes (act_of x) (map act_of xs) in let f = sum_by-cons part_writes x xs in
-    let g = written x.attempt in let h = all_writes xs in omega (arith, e, f, g, h)
+all_writes : (cells : List ℤ) (xs : List Part) → sum_by act_writes (map (act_of cells) xs) ≡ sum_by part_writes xs
+all_writes cells [] = refl
+all_writes cells (x ∷ xs) =
+    let e = sum_by-cons act_writes (act_of cells x) (map (act_of cells) xs) in let f = sum_by-cons part_writes x xs in
+    let g = written x.attempt in let h = all_writes cells xs in omega (arith, e, f, g, h)
 
 -- ---- a moment
 
@@ -51,17 +51,17 @@ moment_steps : (p : Checked) (x : Moment) → map step_of (entries_of p x) ≡ c
 moment_steps p (Alone here act before (trying.Gives t c) behind) = ap (λ s. s ∷ []) (λ i. record {
   line = here.line;
   processors = 1;
-  reads = (one_sum act_reads (record { processor = None; reads = reads_in t; write = c }) ∙ reads_many t) i;
-  writes = one_sum act_writes (record { processor = None; reads = reads_in t; write = c }) i;
+  reads = (one_sum act_reads (act_along None before.cells t c (held behind.cells c)) ∙ reads_many t) i;
+  writes = one_sum act_writes (act_along None before.cells t c (held behind.cells c)) i;
 })
 moment_steps p (Alone here act before (Fails t k) behind) = refl
 moment_steps p (Together here act before xs None behind) = ap (λ s. s ∷ []) (λ i. record {
   line = here.line;
-  processors = many act_of xs i;
-  reads = all_reads xs i;
-  writes = all_writes xs i;
+  processors = many (act_of before.cells) xs i;
+  reads = all_reads before.cells xs i;
+  writes = all_writes before.cells xs i;
 })
-moment_steps p (Together here act before xs (Some k) behind) = ap (λ n. acting here.line n ∷ []) (many (act_before k.at) xs)
+moment_steps p (Together here act before xs (Some k) behind) = ap (λ n. acting here.line n ∷ []) (many (act_before before.cells k.at) xs)
 moment_steps p Closed = refl
 
 all_steps : (p : Checked) (ms : List Moment) → map step_of (flat_map (entries_of p) ms) ≡ flat_map cost.steps_of ms

@@ -3,7 +3,7 @@ use Rattle.std.proofs.Common.{◌≡◌, ℕ, ℤ, pos, zero, suc, Bool, true, f
 use Rattle.std.proofs.Common.{set}
 use Rattle.std.proofs.Common.{append_assoc, append-nil, if◌then◌else◌, nat_le, refl, ap, sym, ◌∙◌, arith}
 use Rattle.std.proofs.lemmas.Bool.{leb-true, leb-false}
-use Rattle.std.proofs.lemmas.List.{drop_more, drop_all}
+use Rattle.std.proofs.lemmas.List.{drop_more, drop_all, get_or-set_same}
 use Rattle.step_entries.specs.declared.change.Change.{Change}
 use Rattle.step_journal.specs.Changes.{change_at, difference, difference_from}
 use Rattle.pram_values.proofs.TruthValues.{is_equal-self}
@@ -73,6 +73,15 @@ none_from k c [] v h = refl
 none_from k zero (x ∷ cells) v h = absurd (omega (arith, h))
 none_from k (suc c) (x ∷ cells) v h =
     ap (λ ds. ds ++ difference_from (k + 1) cells (set cells c v)) (no_change k x) ∙ none_from (k + 1) c cells v (omega (arith, h))
+
+-- what a cell holds that was written
+pub held_inside : (cells : List ℤ) (c : ℕ) (v : ℤ) → c < length cells → v ≡ get_or (set cells c v) c (pos 0)
+held_inside cells c v h = sym (get_or-set_same cells c v (pos 0) h)
+
+pub held_outside : (cells : List ℤ) (c : ℕ) (v : ℤ) → length cells ≤ c → pos 0 ≡ get_or (set cells c v) c (pos 0)
+held_outside [] c v h = refl
+held_outside (x ∷ cells) zero v h = absurd (omega (arith, h))
+held_outside (x ∷ cells) (suc c) v h = held_outside cells c v (omega (arith, h))
 
 pub one_inside : (cells : List ℤ) (c : ℕ) (v x : ℤ) (now new : List Change) → c < length cells → x ≡ get_or cells c (pos 0) → now ≡ [] →
     new ≡ now ++ change_at c x v → new ≡ difference cells (set cells c v)

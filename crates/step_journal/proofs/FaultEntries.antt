@@ -16,25 +16,28 @@ use Rattle.pram_meaning.specs.Store.{State}
 use Rattle.pram_meaning.proofs.References.{opens}
 use Rattle.step_entries.specs.declared.entry as rust
 use Rattle.step_entries.specs.Causes.{Cause}
-use Rattle.step_entries.specs.Entries.{Act, Entry, Faulting, entry_is}
+use Rattle.step_entries.specs.Entries.{Act, Entry, Faulting, OwnLocals, entry_is}
 use Rattle.fault_causes.specs.Causes.{cause_on}
 use Rattle.step_journal.specs.Acts.{act_before, alone_acts, front}
 use Rattle.step_journal.specs.Entries.{by_one, by_set, entries_of, fault_alone, fault_on, why_alone}
 use Rattle.step_journal.specs.LastFault.{fault_behind, run_fault}
 use Rattle.step_journal.specs.HeardFaults.{FaultHeard}
+use Rattle.step_journal.specs.FaultLocals.{locals_at}
 use Rattle.step_journal.specs.Meeting.{meeting}
 
 -- ---- the entry
 
 pub told_alone : (p : Checked) (here : Location) (act : Action) (m : State) (t : Trail) (k : Kind) (why : Option Cause) (acts : List Act)
-    (met : List ℤ) → why ≡ why_alone p m act → acts ≡ alone_acts (front (length t) t) None → met ≡ [] →
-    Faulting here (fault_alone here.line k) why acts met ≡ by_one p here act m (Fails t k) m
-told_alone p here act m t k why acts met c a w = λ i. Faulting here (fault_alone here.line k) (c i) (a i) (w i)
+    (met : List ℤ) (locals : List OwnLocals) → why ≡ why_alone p m act → acts ≡ alone_acts m.cells (front (length t) t) None None → met ≡ [] → locals ≡ [] →
+    Faulting here (fault_alone here.line k) why acts met locals ≡ by_one p here act m (Fails t k) m
+told_alone p here act m t k why acts met locals c a w l = λ i. Faulting here (fault_alone here.line k) (c i) (a i) (w i) (l i)
 
 pub told_together : (p : Checked) (here : Location) (act : StepAction) (m : State) (xs : List Part) (k : Key) (why : Option Cause)
-    (acts : List Act) (met : List ℤ) → why ≡ cause_on p m act k xs → acts ≡ map (act_before k.at) xs → met ≡ meeting k xs →
-    Faulting here (fault_on here.line k) why acts met ≡ by_set p here act m xs (Some k) m
-told_together p here act m xs k why acts met c a w = λ i. Faulting here (fault_on here.line k) (c i) (a i) (w i)
+    (acts : List Act) (met : List ℤ) (locals : List OwnLocals) → why ≡ cause_on p m act k xs → acts ≡ map (act_before m.cells k.at) xs →
+    met ≡ meeting k xs → locals ≡ locals_at k xs m.team →
+    Faulting here (fault_on here.line k) why acts met locals ≡ by_set p here act m xs (Some k) m
+told_together p here act m xs k why acts met locals c a w l =
+    λ i. Faulting here (fault_on here.line k) (c i) (a i) (w i) (l i)
 
 -- ---- who keeps the last fault has heard of it
 

@@ -2,6 +2,7 @@ pub mod Differing
 pub mod Pushed
 pub mod ActLists
 pub mod ThoseMet
+pub mod MetLocals
 pub mod Applied
 pub mod Told
 pub mod FaultEntries

@@ -39,9 +39,10 @@ use Rattle.fault_causes.specs.Faults.{Explains, IsExplained}
 use Rattle.fault_causes.proofs.Explained as Explained
 use Rattle.fault_causes.proofs.Explained.{bounds_told, member_told, range_told, test_told}
 use Rattle.fault_causes.proofs.SetFaults as SetFaults
-use Rattle.step_journal.specs.Acts.{act_before, act_of, alone_acts, front}
+use Rattle.step_journal.specs.Acts.{act_before, act_of, alone_acts, front, held}
 use Rattle.step_journal.specs.Entries.{fault_alone, fault_on, why_alone}
 use Rattle.step_journal.specs.Locals.{locals_changed}
+use Rattle.step_journal.specs.FaultLocals.{locals_at}
 use Rattle.step_journal.specs.Meeting.{meeting}
 use Rattle.step_journal.proofs.Sound.{Extends, IsTold, closing_told, counted_told, done, extends, fell_told, none_told, ran_told}
 use Rattle.step_journal.proofs.Sound.{then_assoc, then_goes, told, told_from, told_map, told_then, wait_told}
@@ -53,9 +54,10 @@ module _ {A B : Type 0} (p : Checked) (here : Location) (act : Action) (write : 
   come : (x : Attempt A) (m : State) → Explains p x (why_alone p m act) →
       IsTold p m (told p (Alone here act m (writing write x) (left_by left x m) ∷ []))
       (then_do (valued (alone here.line x) m) (λ v m. Goes (f v) (left v m)))
-  come (trying.Gives t v) m why = ran_told p m (left v m) here (alone_acts t (write v)) [] (f v) (kept v m)
+  come (trying.Gives t v) m why = ran_told p m (left v m) here
+      (alone_acts m.cells t (write v) (held (left v m).cells (write v))) [] (f v) (kept v m)
   come (Fails t k) m why = fell_told p m here (fault_alone here.line k) (why_alone p m act)
-      (alone_acts (front (length t) t) None) [] refl why
+      (alone_acts m.cells (front (length t) t) None None) [] [] refl why
 
   alone_told : (n : ℕ) (a : State → Attempt A) → ((m : State) → Explains p (a m) (why_alone p m act)) → (m : State) →
       IsTold p m (told p (alone_moment n here act write left a m))
@@ -124,9 +126,10 @@ module _ {B : Type 0} (p : Checked) (n : ℕ) (here : Location) (act : StepActio
   come_on : (k : Option Key) (xs : List Part) (m : State) → HasCause p act m xs k →
       IsTold p m (told p (moment.by_set here act left m xs k ∷ []))
       (then_do (valued (on_key here.line k xs) m) (λ xs m. Goes (f xs) (left xs m)))
-  come_on None xs m why = ran_told p m (left xs m) here (map act_of xs) (locals_changed act xs m.team) (f xs) (kept xs m)
-  come_on (Some k) xs m why = fell_told p m here (fault_on here.line k) (cause_on p m act k xs) (map (act_before k.at) xs)
-      (meeting k xs) refl why
+  come_on None xs m why = ran_told p m (left xs m) here (map (act_of m.cells) xs) (locals_changed act xs m.team) (f xs) (kept xs m)
+  come_on (Some k) xs m why = fell_told p m here (fault_on here.line k) (cause_on p m act k xs)
+      (map (act_before m.cells k.at) xs)
+      (meeting k xs) (locals_at k xs m.team) refl why
 
   set_told : (a : View → Attempt Effect) → ((s : View) → s.layout ≡ p.layout → Explains p (a s) (cause_in s act)) → (vs : List ℕ)
       (m : State) → IsTold p m (told p (set_moment p n here act left a vs m))
@@ -249,7 +252,7 @@ setting_told : (p : Checked) (n : ℕ) (here : Location) (x : ℕ) (a : ℤ) (m 
 setting_told p n here x a m =
     told_then p m [] (counted n m) (λ u m. Alone here (Sets x) m (trying.Gives [] None) (with_uniform x a m) ∷ [])
     (λ u m. Goes done (with_uniform x a m)) (counted_told p n m)
-    (λ u m. ran_told p m (with_uniform x a m) here (alone_acts [] None) [] done (extends m (with_uniform x a m) refl refl))
+    (λ u m. ran_told p m (with_uniform x a m) here (alone_acts m.cells [] None None) [] done (extends m (with_uniform x a m) refl refl))
 
 -- what follows the count of a setting follows the setting
 set_then : (p : Checked) (x : ℕ) (a : ℤ) (m : State) (xs : List Moment) (b : Done) (f : State → List Moment) (g : State → Done) →

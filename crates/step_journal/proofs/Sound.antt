@@ -12,7 +12,7 @@ use Rattle.pram_meaning.specs.Bounded.{Behaviour, Done, Goes, Reaches, Stops, co
 use Rattle.pram_meaning.specs.Moments.{Closed, Moment, behind, closing}
 use Rattle.pram_meaning.specs.Store.{State}
 use Rattle.step_entries.specs.Causes.{Cause}
-use Rattle.step_entries.specs.Entries.{Act, Entry, Faulting, Ran}
+use Rattle.step_entries.specs.Entries.{Act, Entry, Faulting, OwnLocals, Ran}
 use Rattle.fault_causes.specs.Faults.{IsExplained}
 use Rattle.step_journal.specs.Changes.{with_changes}
 use Rattle.step_journal.specs.Entries.{EndsIn, HasRun, entries_of, items_of, ran, replay}
@@ -53,29 +53,30 @@ IsTold p m es (Reaches out) = Waits m es out
 replay_on : (xs ys : List Entry) (c : List ℤ) → replay (xs ++ ys) c ≡ replay ys (replay xs c)
 replay_on [] ys c = refl
 replay_on (Ran here acts ds vs ls items ∷ xs) ys c = replay_on xs ys (with_changes ds c)
-replay_on (Faulting here fault cause acts met ∷ xs) ys c = replay_on xs ys c
+replay_on (Faulting here fault cause acts met locals ∷ xs) ys c = replay_on xs ys c
 
 items_on : (xs ys : List Entry) → items_of (xs ++ ys) ≡ items_of xs ++ items_of ys
 items_on [] ys = refl
 items_on (Ran here acts ds vs ls items ∷ xs) ys =
     ap (λ r. items ++ r) (items_on xs ys) ∙ sym (append_assoc items (items_of xs) (items_of ys))
-items_on (Faulting here fault cause acts met ∷ xs) ys = items_on xs ys
+items_on (Faulting here fault cause acts met locals ∷ xs) ys = items_on xs ys
 
 all_on : (xs ys : List Entry) → AllByRecursion HasRun xs → AllByRecursion HasRun ys → AllByRecursion HasRun (xs ++ ys)
 all_on [] ys h g = g
 all_on (x ∷ xs) ys h g = (h.0, all_on xs ys h.1 g)
 
 ends_on : (p : Checked) (xs ys : List Entry) (k : Fault) → AllByRecursion HasRun xs → EndsIn p k ys → EndsIn p k (xs ++ ys)
-ends_on p xs ys k h (front, here, cause, acts, met, all, stands, why, is) = (
+ends_on p xs ys k h (front, here, cause, acts, met, locals, all, stands, why, is) = (
   xs ++ front,
   here,
   cause,
   acts,
   met,
+  locals,
   all_on xs front h all,
   stands,
   why,
-  ap (λ zs. xs ++ zs) is ∙ sym (append_assoc xs front (Faulting here k cause acts met ∷ [])),
+  ap (λ zs. xs ++ zs) is ∙ sym (append_assoc xs front (Faulting here k cause acts met locals ∷ [])),
 )
 
 output_on : (m new : State) (xs ys : List Entry) (out : List ℤ) → m.output ++ items_of xs ≡ new.output →
@@ -109,10 +110,10 @@ ran_told p m new here acts locals a h = record {
   all = (tt, tt);
 }
 
-pub fell_told : (p : Checked) (m : State) (here : Location) (k : Fault) (cause : Option Cause) (acts : List Act) (met : List ℤ) →
-    here.line ≡ k.line → IsExplained p k.kind cause → Falls p m (Faulting here k cause acts met ∷ []) k m.output
-fell_told p m here k cause acts met stands why =
-    record { output = append-nil m.output; ends = ([], here, cause, acts, met, tt, stands, why, refl) }
+pub fell_told : (p : Checked) (m : State) (here : Location) (k : Fault) (cause : Option Cause) (acts : List Act) (met : List ℤ)
+    (locals : List OwnLocals) → here.line ≡ k.line → IsExplained p k.kind cause → Falls p m (Faulting here k cause acts met locals ∷ []) k m.output
+fell_told p m here k cause acts met locals stands why =
+    record { output = append-nil m.output; ends = ([], here, cause, acts, met, locals, tt, stands, why, refl) }
 
 -- ---- none
 

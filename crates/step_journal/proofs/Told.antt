@@ -1,5 +1,5 @@
 -- What is told of a moment, as an entry, and that a moment is heard as who is told its entry says.
-use Rattle.std.proofs.Common.{◌≡◌, ◌∙◌, ℤ, Result, Ok, Err, List, [], ◌∷◌, ◌++◌, map, drop, length, refl, ap, subst, sym}
+use Rattle.std.proofs.Common.{Option, ◌≡◌, ◌∙◌, ℤ, Result, Ok, Err, List, [], ◌∷◌, ◌++◌, map, drop, length, refl, ap, subst, sym}
 use Rattle.std.specs.Result.{OnErr, OnOk}
 use Rattle.step_entries.specs.declared.change.Change.{Change}
 use Rattle.step_entries.specs.declared.local_change.LocalChange.{LocalChange}
@@ -12,7 +12,7 @@ use Rattle.pram_meaning.specs.Listening.{done_by, done_on}
 use Rattle.pram_meaning.specs.Moments.{Action, AssignsOn, ChoosesOn, Moment, StepAction, TurnsOn}
 use Rattle.pram_meaning.specs.Store.{State}
 use Rattle.step_entries.specs.Entries.{Act, Entry, Ran}
-use Rattle.step_journal.specs.Acts.{act_of, alone_acts}
+use Rattle.step_journal.specs.Acts.{act_of, alone_acts, held}
 use Rattle.step_journal.specs.Changes.{difference}
 use Rattle.step_journal.specs.Entries.{entries_of, ran}
 use Rattle.step_journal.specs.HeardLaws.{Broken, Heard, Left}
@@ -23,11 +23,14 @@ use Rattle.step_journal.proofs.Pushed.{nothing_gained}
 -- ---- the entry of a statement that ran
 
 pub done_alone : (here : Location) (act : Action) (m : State) (t : Trail) (g : Effect) (acts : List Act) (cells variables : List Change)
-    (locals : List LocalChange) (items : List ℤ) → acts ≡ alone_acts t g.cell → cells ≡ difference m.cells (done_by act g m).cells →
+    (locals : List LocalChange) (items : List ℤ) (w : Option ℤ) → acts ≡ alone_acts m.cells t g.cell w →
+    w ≡ held (done_by act g m).cells g.cell → cells ≡ difference m.cells (done_by act g m).cells →
     variables ≡ difference m.uniforms (done_by act g m).uniforms → locals ≡ [] →
     items ≡ drop (length m.output) (done_by act g m).output →
-    Ran here acts cells variables locals items ≡ ran here (alone_acts t g.cell) [] m (done_by act g m)
-done_alone here act m t g acts cells variables locals items a c v l o = λ i. Ran here (a i) (c i) (v i) (l i) (o i)
+    Ran here acts cells variables locals items
+    ≡ ran here (alone_acts m.cells t g.cell (held (done_by act g m).cells g.cell)) [] m (done_by act g m)
+done_alone here act m t g acts cells variables locals items w a is c v l o =
+    let told = a ∙ ap (alone_acts m.cells t g.cell) is in λ i. Ran here (told i) (c i) (v i) (l i) (o i)
 
 -- a set changes no uniform variable, and prints nothing
 cells_alone : (p : Checked) (act : StepAction) (xs : List Part) (m : State) →
@@ -39,9 +42,9 @@ cells_alone p (TurnsOn e) xs m = (refl, refl)
 cells_alone p (ChoosesOn e) xs m = (refl, refl)
 
 pub done_together : (p : Checked) (here : Location) (act : StepAction) (m : State) (xs : List Part) (acts : List Act)
-    (cells variables : List Change) (locals : List LocalChange) (items : List ℤ) → acts ≡ map act_of xs →
+    (cells variables : List Change) (locals : List LocalChange) (items : List ℤ) → acts ≡ map (act_of m.cells) xs →
     cells ≡ difference m.cells (done_on p act xs m).cells → variables ≡ [] → locals ≡ locals_changed act xs m.team → items ≡ [] →
-    Ran here acts cells variables locals items ≡ ran here (map act_of xs) (locals_changed act xs m.team) m (done_on p act xs m)
+    Ran here acts cells variables locals items ≡ ran here (map (act_of m.cells) xs) (locals_changed act xs m.team) m (done_on p act xs m)
 done_together p here act m xs acts cells variables locals items a c v l o =
     let same = cells_alone p act xs m in
     let variables_are = none_of_it m.uniforms variables v ∙ ap (difference m.uniforms) (sym same.0) in

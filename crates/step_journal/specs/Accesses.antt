@@ -8,6 +8,8 @@ use Rattle.pram_values.specs.Value.{fits}
 use Rattle.pram_meaning.specs.declared.key.Key.{Key}
 use Rattle.pram_meaning.specs.declared.read.Read.{Read}
 use Rattle.pram_meaning.specs.Conflict.{Part, keys, least, reads_of, writes_to}
+use Rattle.pram_meaning.specs.Store.{Member}
+use Rattle.step_journal.specs.FaultLocals.{locals_at}
 use Rattle.step_journal.specs.Meeting.{meeting}
 
 -- the fault of a statement with these parts is this one, at this cell
@@ -36,3 +38,9 @@ abbrev pub TwoMeet : Type 0
 TwoMeet =
     (rule : Rule) (xs : List Part) (k : Key) (c : ℕ) → FaultsAt rule xs k c →
     AllByRecursion (λ w. fits w.value ≡ true) (writes_to c xs) → 2 ≤ length (meeting k xs)
+
+-- The locals that are told of a fault at a cell are those of the processors that met there, in their order.
+abbrev pub LocalsAreOfThose : Type 0
+LocalsAreOfThose =
+    (xs : List Part) (k : Key) (c : ℕ) (team : List Member) → k.place ≡ Cell c →
+    map (λ l. l.processor) (locals_at k xs team) ≡ meeting k xs

@@ -18,7 +18,7 @@ act_writes a = writes_to a.write
 abbrev pub step_of : Entry → TimeStep
 step_of (Ran here acts cells variables locals items) =
     record { line = here.line; processors = length acts; reads = sum_by act_reads acts; writes = sum_by act_writes acts }
-step_of (Faulting here fault cause acts met) = acting fault.line (length acts)
+step_of (Faulting here fault cause acts met locals) = acting fault.line (length acts)
 
 -- The time steps by which a run's cost is counted are its entries, one by one: so its time is their number, and its work, its width, its
 -- accesses and the costs of each line are theirs.

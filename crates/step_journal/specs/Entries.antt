@@ -15,11 +15,12 @@ use Rattle.pram_meaning.specs.Store.{State, seen}
 use Rattle.pram_tokens.specs.declared.token.Location.{Location}
 use Rattle.step_entries.specs.Causes.{Cause}
 use Rattle.step_entries.specs.declared.local_change.LocalChange.{LocalChange}
-use Rattle.step_entries.specs.Entries.{Act, Entry, Ran, Faulting}
+use Rattle.step_entries.specs.Entries.{Act, Entry, OwnLocals, Ran, Faulting}
 use Rattle.fault_causes.specs.Causes.{cause_alone, cause_on}
 use Rattle.fault_causes.specs.Faults.{IsExplained}
-use Rattle.step_journal.specs.Acts.{act_before, act_of, alone_acts, front}
+use Rattle.step_journal.specs.Acts.{act_before, act_of, alone_acts, front, held}
 use Rattle.step_journal.specs.Changes.{difference, with_changes}
+use Rattle.step_journal.specs.FaultLocals.{locals_at}
 use Rattle.step_journal.specs.Locals.{locals_changed}
 use Rattle.step_journal.specs.Meeting.{meeting}
 
@@ -43,15 +44,17 @@ why_alone p before act = cause_alone p.procs (seen p before) act
 
 -- what is told of the one processor outside pardo, whose attempt this is
 abbrev pub by_one : Checked → Location → Action → State → Attempt (Option ℕ) → State → Entry
-by_one p here act before (Gives t c) behind = ran here (alone_acts t c) [] before behind
+by_one p here act before (Gives t c) behind = ran here (alone_acts before.cells t c (held behind.cells c)) [] before behind
 by_one p here act before (Fails t kind) behind =
-    Faulting here (fault_alone here.line kind) (why_alone p before act) (alone_acts (front (length t) t) None) []
+    Faulting here (fault_alone here.line kind) (why_alone p before act)
+    (alone_acts before.cells (front (length t) t) None None) [] []
 
 -- what is told of a set, whose statement has this least fault, or none
 abbrev pub by_set : Checked → Location → StepAction → State → List Part → Option Key → State → Entry
-by_set p here act before xs None behind = ran here (map act_of xs) (locals_changed act xs before.team) before behind
+by_set p here act before xs None behind = ran here (map (act_of before.cells) xs) (locals_changed act xs before.team) before behind
 by_set p here act before xs (Some k) behind =
-    Faulting here (fault_on here.line k) (cause_on p before act k xs) (map (act_before k.at) xs) (meeting k xs)
+    Faulting here (fault_on here.line k) (cause_on p before act k xs) (map (act_before before.cells k.at) xs) (meeting k xs)
+    (locals_at k xs before.team)
 
 -- what is told of a moment of a program's run: a statement's difference of the state behind it from the one before it, or its fault and why
 -- it came
@@ -70,7 +73,7 @@ run_entries p input n = flat_map (entries_of p) (run_moments p input n)
 abbrev pub replay : List Entry → List ℤ → List ℤ
 replay [] cells = cells
 replay (Ran here acts changed variables locals items ∷ es) cells = replay es (with_changes changed cells)
-replay (Faulting here fault cause acts met ∷ es) cells = replay es cells
+replay (Faulting here fault cause acts met locals ∷ es) cells = replay es cells
 
 -- the memory of an outcome that has one
 abbrev pub HasMemory : Verdict → List ℤ → Type 0
@@ -89,7 +92,7 @@ ChangesGiveTheMemory =
 abbrev pub items_of : List Entry → List ℤ
 items_of [] = []
 items_of (Ran here acts changed variables locals items ∷ es) = items ++ items_of es
-items_of (Faulting here fault cause acts met ∷ es) = items_of es
+items_of (Faulting here fault cause acts met locals ∷ es) = items_of es
 
 abbrev pub output_of : Verdict → List ℤ
 output_of (Ended output memory) = output
@@ -106,13 +109,13 @@ ItemsGiveTheOutput =
 -- a statement that didn't fault
 abbrev pub HasRun : Entry → Type 0
 HasRun (Ran here acts changed variables locals items) = ⊤
-HasRun (Faulting here fault cause acts met) = ⊥
+HasRun (Faulting here fault cause acts met locals) = ⊥
 
 -- the last entry is this fault on its line, with a cause that has it, and no other is a fault
 abbrev pub EndsIn : Checked → Fault → List Entry → Type 0
 EndsIn p fault es = (front : List Entry) × (here : Location) × (cause : Option Cause) × (acts : List Act) ×
-    (met : List ℤ) × AllByRecursion HasRun front
-    × (here.line ≡ fault.line) × IsExplained p fault.kind cause × (es ≡ front ++ Faulting here fault cause acts met ∷ [])
+    (met : List ℤ) × (locals : List OwnLocals) × AllByRecursion HasRun front
+    × (here.line ≡ fault.line) × IsExplained p fault.kind cause × (es ≡ front ++ Faulting here fault cause acts met locals ∷ [])
 
 abbrev pub HasItsFault : Checked → Verdict → List Entry → Type 0
 HasItsFault p (Ended output memory) es = AllByRecursion HasRun es

@@ -8,7 +8,7 @@ use Rattle.step_journal.specs.Entries.{run_entries}
 abbrev pub fault_behind : Option Entry → List Entry → Option Entry
 fault_behind before [] = before
 fault_behind before (Ran here acts changed variables locals items ∷ es) = fault_behind None es
-fault_behind before (Faulting here fault cause acts met ∷ es) = fault_behind (Some (Faulting here fault cause acts met)) es
+fault_behind before (Faulting here fault cause acts met locals ∷ es) = fault_behind (Some (Faulting here fault cause acts met locals)) es
 
 -- the entry of the fault with which a program's run on an input ends, within n statements
 abbrev pub run_fault : Checked → List ℤ → ℕ → Option Entry

@@ -3,6 +3,7 @@ pub mod Meeting
 pub mod Accesses
 pub mod Changes
 pub mod Locals
+pub mod FaultLocals
 pub mod Entries
 pub mod Costs
 pub mod LastFault

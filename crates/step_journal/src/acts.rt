@@ -4,12 +4,13 @@ ghost use Rattle.std.specs.Prelude.{◌≡◌, ◌++◌, IfOk, OnOk, Some, map};
 ghost use Rattle.pram_meaning.specs.Attempt.{Attempt};
 ghost use Rattle.pram_meaning.specs.Judging.{part_is};
 ghost use Rattle.step_entries.specs.Entries.{act_is};
-ghost use Rattle.step_journal.specs.Acts.{act_before, act_of, reads_at, reads_in};
+ghost use Rattle.step_journal.specs.Acts.{act_before, act_of, reading_at, readings_from, reads_at, reads_in};
 ghost use Rattle.step_journal.specs.Acts as spec;
 
 use pram_meaning::part::Part;
+use pram_meaning::view::number_at;
 use std::alloc::{AllocError, Global};
-use step_entries::Act;
+use step_entries::{Act, Reading};
 
 // The cell of one access, put behind the others.
 fn add_read(reads: &mut Vec<u32>, access: Option<u32>) -> Result<(), AllocError>
@@ -33,6 +34,62 @@ fn reads_of(alloc: Global, trail: &[Option<u32>]) -> Result<Vec<u32>, AllocError
     Ok(reads)
 }
 
+// An access at a position, if it is a read, with what its cell holds, put behind the others.
+fn add_reading(
+    readings: &mut Vec<Reading>,
+    cells: &[i64],
+    position: usize,
+    access: Option<u32>,
+) -> Result<(), AllocError>
+    ensures { OnOk result (readings.new.items ≡ readings.old.items ++ reading_at cells.now position access) }
+{
+    if let Some(cell) = access {
+        let value = number_at(cells, cell as usize);
+        readings.push(Reading { position, value })?;
+    }
+    Ok(())
+}
+
+// The reads along a trail, in cells that hold this, each with its position and what it gave.
+#[tactic(auto, using(crate::proofs::ActLists::readings_start, crate::proofs::ActLists::readings_go, crate::proofs::ActLists::readings_end))]
+fn readings_of(
+    alloc: Global,
+    cells: &[i64],
+    trail: &[Option<u32>],
+) -> Result<Vec<Reading>, AllocError>
+    ensures { IfOk result (λ readings. readings.items ≡ readings_from cells.now 1 trail.now) }
+{
+    let mut readings = Vec::new(alloc);
+    let mut position = 0;
+    for access in trail {
+        position += 1;
+        add_reading(&mut readings, cells, position, *access)?;
+    }
+    Ok(readings)
+}
+
+// What a processor does that reads along a trail, and writes this.
+fn act_along(
+    alloc: Global,
+    processor: Option<i64>,
+    cells: &[i64],
+    trail: &[Option<u32>],
+    write: Option<u32>,
+    written: Option<i64>,
+) -> Result<Act, AllocError>
+    ensures { IfOk result (λ act. act_is act ≡ spec.act_along processor cells.now trail.now write written) }
+{
+    let reads = reads_of(alloc, trail)?;
+    let readings = readings_of(alloc, cells, trail)?;
+    Ok(Act {
+        processor,
+        reads,
+        write,
+        readings,
+        written,
+    })
+}
+
 /// A trail's front: what comes before a position, counted from 1.
 #[tactic(auto, using(std::proofs::lemmas::List::take_min))]
 pub fn front(at: usize, trail: &[Option<u32>]) -> &[Option<u32>]
@@ -42,21 +99,19 @@ pub fn front(at: usize, trail: &[Option<u32>]) -> &[Option<u32>]
     &trail[..end]
 }
 
-/// What the one processor outside pardo does: its reads, and the cell that it writes.
+/// What the one processor outside pardo does, before which the cells hold this: its reads, and the cell and the value that it writes.
 pub fn alone_acts(
     alloc: Global,
+    cells: &[i64],
     trail: &[Option<u32>],
     write: Option<u32>,
+    written: Option<i64>,
 ) -> Result<Vec<Act>, AllocError>
-    ensures { IfOk result (λ acts. map act_is acts.items ≡ spec.alone_acts trail.now write) }
+    ensures { IfOk result (λ acts. map act_is acts.items ≡ spec.alone_acts cells.now trail.now write written) }
 {
-    let reads = reads_of(alloc, trail)?;
+    let act = act_along(alloc, None, cells, trail, write, written)?;
     let mut acts = Vec::new(alloc);
-    acts.push(Act {
-        processor: None,
-        reads,
-        write,
-    })?;
+    acts.push(act)?;
     Ok(acts)
 }
 
@@ -70,60 +125,63 @@ fn write_of(x: &Part) -> Option<u32>
     }
 }
 
-// A processor of a set, with its reads along a trail, and a write if it has one.
-fn act_along(
-    alloc: Global,
-    x: &Part,
-    trail: &[Option<u32>],
-    write: Option<u32>,
-) -> Result<Act, AllocError>
-    ensures { IfOk result (λ act. act_is act ≡ record { processor = Some x.now.processor; reads = reads_in trail.now; write = write }) }
+// What a part writes there.
+fn written_of(x: &Part) -> Option<i64>
+    ensures { result ≡ spec.written_of (part_is x.now).attempt }
 {
-    let reads = reads_of(alloc, trail)?;
-    Ok(Act {
-        processor: Some(x.processor),
-        reads,
-        write,
-    })
+    match x.outcome {
+        Ok(effect) => match effect.cell {
+            Some(_) => Some(effect.value),
+            None => None,
+        },
+        Err(_) => None,
+    }
 }
 
 // What a processor of a set does.
 #[tactic(auto, using(pram_meaning::proofs::Trails::trail_is))]
-fn act_in(alloc: Global, x: &Part) -> Result<Act, AllocError>
-    ensures { IfOk result (λ act. act_is act ≡ act_of (part_is x.now)) }
+fn act_in(alloc: Global, cells: &[i64], x: &Part) -> Result<Act, AllocError>
+    ensures { IfOk result (λ act. act_is act ≡ act_of cells.now (part_is x.now)) }
 {
-    act_along(alloc, x, &x.trail, write_of(x))
+    let (write, written) = (write_of(x), written_of(x));
+    act_along(alloc, Some(x.processor), cells, &x.trail, write, written)
 }
 
-/// What each processor of a set does, in the order of the set.
+/// What each processor of a set does, before which the cells hold this, in the order of the set.
 #[tactic(auto, using(crate::proofs::ActLists::acts_start, crate::proofs::ActLists::acts_go, crate::proofs::ActLists::acts_end))]
-pub fn acts_of(alloc: Global, parts: &[Part]) -> Result<Vec<Act>, AllocError>
-    ensures { IfOk result (λ acts. map act_is acts.items ≡ map act_of (map part_is parts.now)) }
+pub fn acts_of(alloc: Global, cells: &[i64], parts: &[Part]) -> Result<Vec<Act>, AllocError>
+    ensures { IfOk result (λ acts. map act_is acts.items ≡ map (act_of cells.now) (map part_is parts.now)) }
 {
     let mut acts = Vec::new(alloc);
     for x in parts {
-        acts.push(act_in(alloc, x)?)?;
+        acts.push(act_in(alloc, cells, x)?)?;
     }
     Ok(acts)
 }
 
 // What a processor of a set has done where the statement faults at this position.
 #[tactic(auto, using(pram_meaning::proofs::Trails::trail_is))]
-fn act_at(alloc: Global, at: usize, x: &Part) -> Result<Act, AllocError>
-    ensures { IfOk result (λ act. act_is act ≡ act_before at (part_is x.now)) }
+fn act_at(alloc: Global, cells: &[i64], at: usize, x: &Part) -> Result<Act, AllocError>
+    ensures { IfOk result (λ act. act_is act ≡ act_before cells.now at (part_is x.now)) }
 {
-    act_along(alloc, x, front(at, &x.trail), None)
+    let trail = front(at, &x.trail);
+    act_along(alloc, Some(x.processor), cells, trail, None, None)
 }
 
 /// What each processor of a set has done where the statement faults at this position, in the order
 /// of the set: its reads before it, and no write.
 #[tactic(auto, using(crate::proofs::ActLists::acts_start, crate::proofs::ActLists::acts_go, crate::proofs::ActLists::acts_end))]
-pub fn acts_before(alloc: Global, at: usize, parts: &[Part]) -> Result<Vec<Act>, AllocError>
-    ensures { IfOk result (λ acts. map act_is acts.items ≡ map (act_before at) (map part_is parts.now)) }
+pub fn acts_before(
+    alloc: Global,
+    cells: &[i64],
+    at: usize,
+    parts: &[Part],
+) -> Result<Vec<Act>, AllocError>
+    ensures { IfOk result (λ acts. map act_is acts.items ≡ map (act_before cells.now at) (map part_is parts.now)) }
 {
     let mut acts = Vec::new(alloc);
     for x in parts {
-        acts.push(act_at(alloc, at, x)?)?;
+        acts.push(act_at(alloc, cells, at, x)?)?;
     }
     Ok(acts)
 }

@@ -10,6 +10,7 @@ ghost use Rattle.step_entries.specs.Entries.{entry_is};
 ghost use Rattle.step_journal.specs.Entries.{by_one, by_set};
 
 use crate::acts::{acts_before, alone_acts, front};
+use crate::fault_locals::locals_at;
 use crate::meetings::meeting;
 use fault_causes::{cause_alone, cause_on};
 use pram_check::Program;
@@ -38,7 +39,7 @@ pub(crate) fn fault_alone(
     ensures { IfOk result (λ entry. entry_is entry ≡ by_one program.now location (action_is action.now) (state_of run.now)
         (Fails trail.now kind) (state_of run.now)) }
 {
-    let acts = alone_acts(alloc, front(trail.len(), trail), None)?;
+    let acts = alone_acts(alloc, &run.cells, front(trail.len(), trail), None, None)?;
     let fault = Fault {
         kind,
         line: location.line,
@@ -51,6 +52,7 @@ pub(crate) fn fault_alone(
         cause,
         acts,
         met: Vec::new(alloc),
+        locals: Vec::new(alloc),
     })
 }
 
@@ -69,8 +71,9 @@ pub(crate) fn fault_together(
     ensures { IfOk result (λ entry. entry_is entry ≡ by_set program.now location (step_action_is action.now)
         (state_in run.now team.now.items) (map part_is parts.now) (Some key) (state_in run.now team.now.items)) }
 {
-    let acts = acts_before(alloc, key.at, parts)?;
+    let acts = acts_before(alloc, &run.cells, key.at, parts)?;
     let met = meeting(alloc, key, parts)?;
+    let locals = locals_at(alloc, team, key, parts)?;
     let cause = cause_on(alloc, program, run, team, action, parts, key)?;
     let fault = Fault {
         kind: key.kind,
@@ -83,5 +86,6 @@ pub(crate) fn fault_together(
         cause,
         acts,
         met,
+        locals,
     })
 }

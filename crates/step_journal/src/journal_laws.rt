@@ -1,6 +1,6 @@
 //! Laws of runs that are told.
 
-ghost use Rattle.step_journal.specs.Accesses.{ReadersMeet, TwoMeet, WritersMeet};
+ghost use Rattle.step_journal.specs.Accesses.{LocalsAreOfThose, ReadersMeet, TwoMeet, WritersMeet};
 ghost use Rattle.step_journal.specs.Costs.{EntriesAreTimeSteps};
 ghost use Rattle.step_journal.specs.Entries.{ChangesGiveTheMemory, ItemsGiveTheOutput, TheFaultIsLast};
 
@@ -19,12 +19,13 @@ pub fn items_give_the_output()
 
 /// The processors that meet at the cell of a statement's fault have accessed it there, and there are
 /// two of them at least: at a read conflict they are those that read it at the fault's position, and
-/// at every other fault of a cell those that write it.
-#[tactic(auto, using(crate::proofs::ThoseMet::readers_meet, crate::proofs::ThoseMet::writers_meet, crate::proofs::ThoseMet::two_meet))]
+/// at every other fault of a cell those that write it. The locals that are told beside them are theirs.
+#[tactic(auto, using(crate::proofs::ThoseMet::readers_meet, crate::proofs::ThoseMet::writers_meet, crate::proofs::ThoseMet::two_meet, crate::proofs::MetLocals::locals_are_of_those))]
 pub fn those_that_meet_access_the_cell()
     ensures readers { ReadersMeet }
     ensures writers { WritersMeet }
     ensures two { TwoMeet }
+    ensures locals { LocalsAreOfThose }
 {}
 
 /// The last entry that is told of a run is its fault, exactly where its outcome is one, with a cause that has that fault; no other is.

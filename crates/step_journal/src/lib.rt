@@ -5,6 +5,7 @@ mod acts;
 mod differences;
 mod effects;
 mod excerpt;
+mod fault_locals;
 mod fault_run;
 mod faults;
 mod journal;

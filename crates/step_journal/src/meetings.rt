@@ -21,8 +21,8 @@ fn is_cell(cell: u32, access: Option<u32>) -> bool
     }
 }
 
-// Whether the cell is read at this position, counted from 1.
-fn reads(at: usize, cell: u32, trail: &[Option<u32>]) -> bool
+/// Whether the cell is read at this position, counted from 1.
+pub(crate) fn reads(at: usize, cell: u32, trail: &[Option<u32>]) -> bool
     ensures { result ≡ has_read at cell trail.now }
 {
     match trail.get(at.saturating_sub(1)) {
@@ -31,8 +31,8 @@ fn reads(at: usize, cell: u32, trail: &[Option<u32>]) -> bool
     }
 }
 
-// Whether a part writes the cell.
-fn writes(cell: u32, x: &Part) -> bool
+/// Whether a part writes the cell.
+pub(crate) fn writes(cell: u32, x: &Part) -> bool
     ensures { result ≡ has_written cell (part_is x.now).attempt }
 {
     match x.outcome {

@@ -11,7 +11,7 @@ ghost use Rattle.step_journal.specs.Entries.{ran};
 ghost use Rattle.step_journal.specs.Locals as locals;
 
 use crate::acts::{acts_of, alone_acts};
-use crate::effects::{cells_changed, items_printed, variables_changed};
+use crate::effects::{cells_changed, items_printed, variables_changed, written_alone};
 use crate::locals::locals_changed;
 use crate::set_effects::cells_changed_on;
 use pram_check::Program;
@@ -26,7 +26,6 @@ use std::alloc::{AllocError, Global};
 use step_entries::Entry;
 
 /// That of the one processor outside pardo, whose attempt gives this.
-#[tactic(auto, using(crate::proofs::Told::done_alone))]
 pub(crate) fn ran_alone(
     alloc: Global,
     run: &Run,
@@ -35,10 +34,12 @@ pub(crate) fn ran_alone(
     trail: &[Option<u32>],
     effect: &Effect,
 ) -> Result<Entry, AllocError>
-    ensures { IfOk result (λ entry. entry_is entry ≡ ran location (acts.alone_acts trail.now effect.now.cell) [] (state_of run.now)
-        (done_by (action_is action.now) (effect_is effect.now) (state_of run.now))) }
+    ensures { let before = state_of run.now in let behind = done_by (action_is action.now) (effect_is effect.now) before in
+        IfOk result (λ entry. entry_is entry ≡ ran location
+        (acts.alone_acts before.cells trail.now effect.now.cell (acts.held behind.cells effect.now.cell)) [] before behind) }
 {
-    let acts = alone_acts(alloc, trail, effect.cell)?;
+    let written = written_alone(run, action, effect);
+    let acts = alone_acts(alloc, &run.cells, trail, effect.cell, written)?;
     let cells = cells_changed(alloc, run, action, effect)?;
     let variables = variables_changed(alloc, run, action, effect)?;
     let printed = items_printed(alloc, run, action, effect)?;
@@ -64,11 +65,11 @@ pub(crate) fn ran_together(
     parts: &[Part],
 ) -> Result<Entry, AllocError>
     ensures { let before = state_in run.now team.now.items in IfOk result (λ entry. entry_is entry ≡ ran location
-        (map acts.act_of (map part_is parts.now))
+        (map (acts.act_of before.cells) (map part_is parts.now))
         (locals.locals_changed (step_action_is action.now) (map part_is parts.now) before.team) before
         (done_on program.now (step_action_is action.now) (map part_is parts.now) before)) }
 {
-    let acts = acts_of(alloc, parts)?;
+    let acts = acts_of(alloc, &run.cells, parts)?;
     let locals = locals_changed(alloc, team, action, parts)?;
     let cells = cells_changed_on(alloc, slate, program, run, action, parts)?;
     Ok(Entry::Ran {
