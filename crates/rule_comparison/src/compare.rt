@@ -14,19 +14,22 @@ use crate::comparison::Comparison;
 use crate::finding::Finding;
 use crate::first_end::FirstEnd;
 use crate::input::have_64_bits;
+use call_progress::Watch;
 use pram_check::Program;
-use pram_meaning::{MeaningRefusal, reference_run};
+use pram_meaning::MeaningRefusal;
 use pram_trees::Rule;
+use run_watching::watched_run;
 use std::alloc::Global;
 use write_rules::Outcome;
 
 // The outcome under that rule, and the program under it.
-fn run_under(
+fn run_under<V: Watch>(
     alloc: Global,
     program: Program,
     rule: Rule,
     input: &[i64],
     bound: u32,
+    watch: &mut V,
 ) -> Result<(Program, Outcome), MeaningRefusal>
     ensures program { IfOk result (λ found. found.0 ≡ under rule program) }
     ensures outcome { IfOk result (λ found. IsOutcome (under rule program) input.now bound (verdict_of found.1)) }
@@ -34,31 +37,32 @@ fn run_under(
     ensures too_long { (result ≡ Err MeaningRefusal.InputTooLong) ↔ (total_size program.layout < length input.now) }
 {
     let program = program.under(rule);
-    let outcome = reference_run(alloc, &program, input, bound)?;
+    let outcome = watched_run(alloc, &program, input, bound, watch)?;
     Ok((program, outcome))
 }
 
 // What is found under that rule, and the program under it.
-fn find_under(
+fn find_under<V: Watch>(
     alloc: Global,
     program: Program,
     rule: Rule,
     first: &mut FirstEnd,
     input: &[i64],
     bound: u32,
+    watch: &mut V,
 ) -> Result<(Program, Finding), MeaningRefusal>
     ensures program { IfOk result (λ found. found.0 ≡ under rule program) }
     ensures found { IfOk result (λ found. IsFoundUnder rule program input.now bound first.old found.1 first.new) }
     ensures fits { IfOk result (λ found. length input.now ≤ total_size program.layout) }
     ensures too_long { (result ≡ Err MeaningRefusal.InputTooLong) ↔ (total_size program.layout < length input.now) }
 {
-    let (program, outcome) = run_under(alloc, program, rule, input, bound)?;
+    let (program, outcome) = run_under(alloc, program, rule, input, bound, watch)?;
     let finding = first.judge(outcome);
     Ok((program, finding))
 }
 
 // What is found under that rule, by a run only where what is known is a conflict.
-fn find(
+fn find<V: Watch>(
     alloc: Global,
     program: Program,
     rule: Rule,
@@ -66,6 +70,7 @@ fn find(
     first: &mut FirstEnd,
     input: &[i64],
     bound: u32,
+    watch: &mut V,
 ) -> Result<(Program, Finding), MeaningRefusal>
     requires fits { length input.now ≤ total_size program.layout }
     requires values { AreValues input.now }
@@ -76,7 +81,7 @@ fn find(
 {
     program.bounded();
     if known.is_conflict() {
-        find_under(alloc, program, rule, first, input, bound)
+        find_under(alloc, program, rule, first, input, bound, watch)
     } else {
         Ok((program.under(rule), known))
     }
@@ -84,7 +89,7 @@ fn find(
 
 // Where the program declares sum, its end has to come before that under common, which may be another. What is known of sum from there
 // on: what is found under it, and else what is found under crew.
-fn find_ahead(
+fn find_ahead<V: Watch>(
     alloc: Global,
     program: Program,
     declared: Rule,
@@ -92,6 +97,7 @@ fn find_ahead(
     first: &mut FirstEnd,
     input: &[i64],
     bound: u32,
+    watch: &mut V,
 ) -> Result<(Program, Finding), MeaningRefusal>
     requires fits { length input.now ≤ total_size program.layout }
     requires values { AreValues input.now }
@@ -104,19 +110,21 @@ fn find_ahead(
         Rule::Erew | Rule::Crew | Rule::Common | Rule::Priority => {
             Ok((program.under(Rule::Crew), crew))
         }
-        Rule::Sum => find(alloc, program, Rule::Sum, crew, first, input, bound),
+        Rule::Sum => find(alloc, program, Rule::Sum, crew, first, input, bound, watch),
     }
 }
 
 /// How the program comes out under each of the five rules on the input within `bound` statements, and whether as under the rule that it
 /// declares, where it ends under that, and else as under the first, in the order erew, crew, common, priority, sum, under which it ends.
 /// The first cells get the values of the input. E11 where there are more values than cells; E16 only where memory was refused.
-/// The program is run under a rule only where no run under a stricter one tells: once, where it comes to no conflict under erew.
-pub fn compare_rules(
+/// The program is run under a rule only where no run under a stricter one tells: once, where it comes to no conflict under erew. The watch is
+/// told how far each run is.
+pub fn compare_rules<V: Watch>(
     alloc: Global,
     program: Program,
     input: &[i64],
     bound: u32,
+    watch: &mut V,
 ) -> Result<Comparison, MeaningRefusal>
     // Each finding is that of the program's outcome under its rule.
     ensures comparison { IfOk result (IsComparison program input.now bound) }
@@ -128,10 +136,28 @@ pub fn compare_rules(
     program.bounded();
     have_64_bits(input);
     let mut first = FirstEnd::none();
-    let (program, erew) = find_under(alloc, program, Rule::Erew, &mut first, input, bound)?;
-    let (program, crew) = find(alloc, program, Rule::Crew, erew, &mut first, input, bound)?;
-    let (program, ahead) = find_ahead(alloc, program, rule, crew, &mut first, input, bound)?;
-    let (program, common) = find(alloc, program, Rule::Common, crew, &mut first, input, bound)?;
+    let (program, erew) = find_under(alloc, program, Rule::Erew, &mut first, input, bound, watch)?;
+    let (program, crew) = find(
+        alloc,
+        program,
+        Rule::Crew,
+        erew,
+        &mut first,
+        input,
+        bound,
+        watch,
+    )?;
+    let (program, ahead) = find_ahead(alloc, program, rule, crew, &mut first, input, bound, watch)?;
+    let (program, common) = find(
+        alloc,
+        program,
+        Rule::Common,
+        crew,
+        &mut first,
+        input,
+        bound,
+        watch,
+    )?;
     let (program, priority) = find(
         alloc,
         program,
@@ -140,8 +166,18 @@ pub fn compare_rules(
         &mut first,
         input,
         bound,
+        watch,
     )?;
-    let (program, sum) = find(alloc, program, Rule::Sum, ahead, &mut first, input, bound)?;
+    let (program, sum) = find(
+        alloc,
+        program,
+        Rule::Sum,
+        ahead,
+        &mut first,
+        input,
+        bound,
+        watch,
+    )?;
     Ok(Comparison {
         layout: program.into_layout(),
         declared: rule,

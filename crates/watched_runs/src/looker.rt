@@ -22,8 +22,8 @@ const STRIDE: u32 = 16;
 #[derive(Drop)]
 pub(crate) struct Looker<'w, V: Watch> {
     pub(crate) watch: &'w mut V,
-    /// How many milliseconds the call may have been going, where that is bounded.
-    pub(crate) until: Option<u64>,
+    /// How many milliseconds the call may have been going.
+    pub(crate) until: u64,
     pub(crate) is_over: bool,
 }
 
@@ -33,13 +33,11 @@ impl<'w, V: Watch> Looker<'w, V> {
             return Ok(());
         }
         self.watch.ran(statements);
-        match self.until {
-            Some(until) if until <= self.watch.elapsed() => {
-                self.is_over = true;
-                Err(AllocError)
-            }
-            _ => Ok(()),
+        if self.watch.elapsed() < self.until {
+            return Ok(());
         }
+        self.is_over = true;
+        Err(AllocError)
     }
 }
 

@@ -32,7 +32,7 @@ pub fn bound_in_time<V: Watch>(
     let until = watch.elapsed().saturating_add(milliseconds);
     let mut looker = Looker {
         watch,
-        until: Some(until),
+        until,
         is_over: false,
     };
     let interpreter = Interpreter {

@@ -1,13 +1,13 @@
 -- A whole run that was heard comes to the outcome, and is counted.
-use Rattle.std.proofs.Common.{◌≡◌, ℕ, List, ℤ, Result, Err, ap, sym, ◌∙◌, subst, arith}
+use Rattle.std.proofs.Common.{◌≡◌, ℕ, List, ℤ, Result, Ok, Err, ap, sym, ◌∙◌, subst, arith}
 use Rattle.std.specs.List.{flat_map}
 use Rattle.std.specs.Bool.{⊤}
 use Rattle.pram_check.specs.Checked.{Checked}
-use Rattle.pram_meaning.specs.Bounded.{Goes, Reaches, Stops, perform_list}
+use Rattle.pram_meaning.specs.Bounded.{Behaviour, Goes, Reaches, Stops, perform_list}
 use Rattle.pram_meaning.specs.Listening.{HasHeard}
 use Rattle.pram_meaning.specs.Moments.{Moment, list_moments, run_moments}
 use Rattle.pram_meaning.specs.Outcome.{IsOutcome, opening}
-use Rattle.pram_meaning.specs.Runs.{state_of}
+use Rattle.pram_meaning.specs.Runs.{IsBehaviour, state_of}
 use Rattle.pram_meaning.specs.Store.{State}
 use Rattle.pram_meaning.specs.declared.run.Halt.{Halt}
 use Rattle.pram_meaning.specs.declared.run.Halt.TheVariants as halt
@@ -53,6 +53,14 @@ outer_reads_counted p input n run a b o none h =
     ap (λ m. reads (flat_map steps_outside (list_moments p n p.body m))) o in
     let i = h.outer_reads in
     omega (arith, e, none, i)
+
+-- what was heard of a run that ends, and how it ends
+pub heard_of_end : (r : Result (Unit {0}) Halt) (x : Unit {0}) (a b : Meter) (ms : List Moment) → r ≡ Ok x →
+    HasHeard r HasCounted (λ a m b. ⊤) a ms b → HasCounted a ms b
+heard_of_end r x a b ms e heard = subst (λ r. HasHeard r HasCounted (λ a m b. ⊤) a ms b) e heard
+
+pub end_of : (r : Result (Unit {0}) Halt) (x : Unit {0}) (m : State) (s : Behaviour (Unit {0})) → r ≡ Ok x → IsBehaviour r m s → s ≡ Goes x m
+end_of r x m s e h = subst (λ r. IsBehaviour r m s) e h
 
 -- what was heard of a run that halts, but for want of memory
 pub heard_of_fault : (r : Result (Unit {0}) Halt) (h : Halt) (k : Fault) (a b : Meter) (ms : List Moment) → r ≡ Err h → h ≡ halt.Fault k →

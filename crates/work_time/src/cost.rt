@@ -14,6 +14,7 @@ use crate::line_cost::LineCost;
 use crate::row_costs::costs_by_line;
 use crate::whole::run_whole;
 use crate::words::words_asked;
+use call_progress::Watch;
 use pram_check::Program;
 use pram_meaning::MeaningRefusal;
 use std::alloc::Global;
@@ -40,20 +41,22 @@ pub struct Cost {
 
 /// Runs a program on an input, for at most `bound` statements, as [`pram_meaning::reference_run`]
 /// does, and says beside the outcome what the run costs; rounds are those on `schedule` processors,
-/// and words those of `workers`, as `IsProgramRun` of `program_runs` counts them.
+/// and words those of `workers`, as `IsProgramRun` of `program_runs` counts them. The watch is told
+/// how far the run is.
 /// A statement that faults counts in time and work, and none of its accesses does; a run that
 /// faults has the bounds of what it came to. E11 where there are more values than cells; E16 only
 /// where memory was refused.
 ///
 /// JáJá, An Introduction to Parallel Algorithms, chapter 1: work and time, and Brent's scheduling
 /// principle.
-pub fn cost_of(
+pub fn cost_of<V: Watch>(
     alloc: Global,
     program: &Program,
     input: &[i64],
     bound: u32,
     schedule: u32,
     workers: Option<u32>,
+    watch: &mut V,
 ) -> Result<(Outcome, Cost), MeaningRefusal>
     requires some { 0 < schedule }
     ensures outcome { IfOk result (λ r. IsOutcome program.now input.now bound (verdict_of r.0)) }
@@ -75,7 +78,7 @@ pub fn cost_of(
     // Brent's principle.
     ensures brent { IfOk result (λ r. r.1.rounds ≤ r.1.most_rounds) }
 {
-    let (outcome, ledger, outer_reads) = run_whole(alloc, program, input, bound, schedule)?;
+    let (outcome, ledger, outer_reads) = run_whole(alloc, program, input, bound, schedule, watch)?;
     let Ok(lines) = costs_by_line(alloc, &ledger.lines) else {
         return Err(MeaningRefusal::OutOfMemory);
     };

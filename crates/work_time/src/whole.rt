@@ -11,21 +11,25 @@ ghost use Rattle.work_time.specs.Ledgers.{ledger_is};
 
 use crate::ledger::Ledger;
 use crate::meter::Meter;
+use call_progress::Watch;
 use pram_check::Program;
 use pram_meaning::interpreter::Interpreter;
 use pram_meaning::run::Halt;
 use pram_meaning::{MeaningRefusal, open};
+use run_watching::run_watched;
 use std::alloc::Global;
 use write_rules::Outcome;
 
-/// The outcome of a program on an input, what was counted of its run, and how many of the reads were made outside pardo.
+/// The outcome of a program on an input, what was counted of its run, and how many of the reads were made outside pardo. The watch is told
+/// how far the run is.
 #[tactic(auto, using(pram_meaning::proofs::References::opens, crate::proofs::Complete::stopped, crate::proofs::Complete::reached))]
-pub fn run_whole(
+pub fn run_whole<V: Watch>(
     alloc: Global,
     program: &Program,
     input: &[i64],
     bound: u32,
     schedule: u32,
+    watch: &mut V,
 ) -> Result<(Outcome, Ledger, u128), MeaningRefusal>
     requires some { 0 < schedule }
     ensures outcome { IfOk result (λ r. IsOutcome program.now input.now bound (verdict_of r.0)) }
@@ -41,7 +45,7 @@ pub fn run_whole(
         Ok(run) => run,
         Err(_) => return Err(MeaningRefusal::OutOfMemory),
     };
-    let mut meter = Meter {
+    let meter = Meter {
         schedule,
         ledger: Ledger::new(alloc),
         outer_reads: 0,
@@ -51,7 +55,7 @@ pub fn run_whole(
         program,
         bound,
     };
-    let done = interpreter.run_body(&mut run, &mut meter);
+    let (meter, done) = run_watched(&interpreter, &mut run, meter, watch);
     let Meter {
         ledger,
         outer_reads,

@@ -11,18 +11,18 @@ use Rattle.rule_comparison.proofs.compare.compare_rules.Goals as goal
 
 -- a run under erew tells crew
 pub find-requires-clause-known : goal.find-requires-clause-known
-find-requires-clause-known c =
+find-requires-clause-known g c =
     let erew = c.in_ok-program in
     (Erew, from_erew, then_known Erew c.args.program erew.program _ _ _ _ _ erew.ensures.program erew.ensures.found)
 
 pub find_ahead-requires-clause-crew : goal.find_ahead-requires-clause-crew
-find_ahead-requires-clause-crew c =
+find_ahead-requires-clause-crew g c =
     let crew = c.in_ok-program-2 in
     then_known Crew c.in_ok-program.program crew.program _ _ _ _ _ crew.ensures.program crew.ensures.found
 
 -- one under crew tells common
 pub find-requires-2-clause-known : goal.find-requires-2-clause-known
-find-requires-2-clause-known c =
+find-requires-2-clause-known g c =
     let crew = c.in_ok-program-2 in
     let early = c.in_ok-program-3 in
     let rule = ahead c.rule-rule.result in
@@ -32,7 +32,7 @@ find-requires-2-clause-known c =
 
 -- one under common tells priority
 pub find-requires-3-clause-known : goal.find-requires-3-clause-known
-find-requires-3-clause-known c =
+find-requires-3-clause-known g c =
     let common = c.in_ok-program-4 in (
       Common,
       to_priority,
@@ -41,7 +41,7 @@ find-requires-3-clause-known c =
 
 -- one under crew tells sum, if that wasn't gone through before
 pub find-requires-4-clause-known : goal.find-requires-4-clause-known
-find-requires-4-clause-known c =
+find-requires-4-clause-known g c =
     let crew = c.in_ok-program-2 in
     let early = c.in_ok-program-3 in
     let common = c.in_ok-program-4 in
@@ -57,7 +57,7 @@ find-requires-4-clause-known c =
     )
 
 pub returns-clause-comparison : goal.returns-clause-comparison
-returns-clause-comparison c =
+returns-clause-comparison g c =
     let p = c.args.program in
     let input = c.args.input.now in
     let n = c.args.bound in

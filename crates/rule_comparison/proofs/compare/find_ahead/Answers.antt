@@ -8,10 +8,10 @@ use Rattle.rule_comparison.proofs.Told.{crew_ahead}
 use Rattle.rule_comparison.proofs.compare.find_ahead.Goals as goal
 
 pub find-requires-clause-known : goal.find-requires-clause-known
-find-requires-clause-known c = (Crew, from_crew refl, c.requires.crew)
+find-requires-clause-known g c = (Crew, from_crew refl, c.requires.crew)
 
 pub returns-in-Erew : goal.returns-in-Erew
-returns-in-Erew c =
+returns-in-Erew g c =
     let p = c.args.program in
     let first = c.args.first.now in
     let same : ahead c.args.declared ≡ Crew = crew_ahead c.args.declared c.in-Erew.is in

@@ -14,14 +14,14 @@ use Rattle.work_time.proofs.Timed.{time_kept}
 use Rattle.work_time.proofs.cost.cost_of.Goals as goal
 
 pub returns-clause-time : goal.returns-clause-time
-returns-clause-time c =
+returns-clause-time g c =
     let steps = run_steps c.args.program.now c.args.input.now c.args.bound in
     let events = events_of c.args.program.now c.args.input.now c.args.bound in
     let ledger = c.in_ok-outcome.ledger in
     time_is c.args.schedule steps (tally_is ledger.all) (all_told c.args.schedule steps events ledger c.in_ok-outcome.ensures.totals)
 
 pub returns-clause-within : goal.returns-clause-within
-returns-clause-within c =
+returns-clause-within g c =
     let steps = run_steps c.args.program.now c.args.input.now c.args.bound in
     let events = events_of c.args.program.now c.args.input.now c.args.bound in
     let ledger = c.in_ok-outcome.ledger in
@@ -30,42 +30,42 @@ returns-clause-within c =
     (time_is c.args.schedule steps (tally_is ledger.all) (all_told c.args.schedule steps events ledger c.in_ok-outcome.ensures.totals))
 
 pub returns-clause-work : goal.returns-clause-work
-returns-clause-work c =
+returns-clause-work g c =
     let steps = run_steps c.args.program.now c.args.input.now c.args.bound in
     let events = events_of c.args.program.now c.args.input.now c.args.bound in
     let ledger = c.in_ok-outcome.ledger in
     work_is c.args.schedule steps (tally_is ledger.all) (all_told c.args.schedule steps events ledger c.in_ok-outcome.ensures.totals)
 
 pub returns-clause-width : goal.returns-clause-width
-returns-clause-width c =
+returns-clause-width g c =
     let steps = run_steps c.args.program.now c.args.input.now c.args.bound in
     let events = events_of c.args.program.now c.args.input.now c.args.bound in
     let ledger = c.in_ok-outcome.ledger in
     width_is c.args.schedule steps (tally_is ledger.all) (all_told c.args.schedule steps events ledger c.in_ok-outcome.ensures.totals)
 
 pub returns-clause-reads : goal.returns-clause-reads
-returns-clause-reads c =
+returns-clause-reads g c =
     let steps = run_steps c.args.program.now c.args.input.now c.args.bound in
     let events = events_of c.args.program.now c.args.input.now c.args.bound in
     let ledger = c.in_ok-outcome.ledger in
     reads_are c.args.schedule steps (tally_is ledger.all) (all_told c.args.schedule steps events ledger c.in_ok-outcome.ensures.totals)
 
 pub returns-clause-writes : goal.returns-clause-writes
-returns-clause-writes c =
+returns-clause-writes g c =
     let steps = run_steps c.args.program.now c.args.input.now c.args.bound in
     let events = events_of c.args.program.now c.args.input.now c.args.bound in
     let ledger = c.in_ok-outcome.ledger in
     writes_are c.args.schedule steps (tally_is ledger.all) (all_told c.args.schedule steps events ledger c.in_ok-outcome.ensures.totals)
 
 pub returns-clause-rounds : goal.returns-clause-rounds
-returns-clause-rounds c =
+returns-clause-rounds g c =
     let steps = run_steps c.args.program.now c.args.input.now c.args.bound in
     let events = events_of c.args.program.now c.args.input.now c.args.bound in
     let ledger = c.in_ok-outcome.ledger in
     rounds_are c.args.schedule steps (tally_is ledger.all) (all_told c.args.schedule steps events ledger c.in_ok-outcome.ensures.totals)
 
 pub returns-clause-lines : goal.returns-clause-lines
-returns-clause-lines c =
+returns-clause-lines g c =
     let steps = run_steps c.args.program.now c.args.input.now c.args.bound in
     let events = events_of c.args.program.now c.args.input.now c.args.bound in
     let ledger = c.in_ok-outcome.ledger in
@@ -73,7 +73,7 @@ returns-clause-lines c =
     (c.in-Ok.ensures ∙ ap (λ rows. costs_of_rows rows (length rows)) c.deref.ensures.value)
 
 pub returns-clause-brent : goal.returns-clause-brent
-returns-clause-brent c =
+returns-clause-brent g c =
     let steps = run_steps c.args.program.now c.args.input.now c.args.bound in
     let events = events_of c.args.program.now c.args.input.now c.args.bound in
     let ledger = c.in_ok-outcome.ledger in
@@ -81,14 +81,14 @@ returns-clause-brent c =
     (all_told c.args.schedule steps events ledger c.in_ok-outcome.ensures.totals) c.from.ensures c.from-2.ensures
 
 pub returns-clause-most_exchanges : goal.returns-clause-most_exchanges
-returns-clause-most_exchanges c =
+returns-clause-most_exchanges g c =
     let steps = run_steps c.args.program.now c.args.input.now c.args.bound in
     let events = events_of c.args.program.now c.args.input.now c.args.bound in
     c.in-Ok-close.ensures
     ∙ ap closed (exchanges_told c.args.schedule steps events c.in_ok-outcome.ledger c.in_ok-outcome.ensures.totals) ∙ closed_is events
 
 pub returns-clause-most_words : goal.returns-clause-most_words
-returns-clause-most_words c =
+returns-clause-most_words g c =
     let program = c.args.program.now in
     let input = c.args.input.now in
     let steps = run_steps program input c.args.bound in

@@ -5,11 +5,12 @@ ghost use Rattle.pram_model.specs.Layout.{total_size};
 ghost use Rattle.write_rules.specs.Verdict.{verdict_of};
 ghost use Rattle.pram_meaning.specs.Outcome.{IsOutcome};
 
-use crate::looker::Looker;
+use crate::watched::Watched;
 use call_progress::Watch;
 use pram_check::Program;
 use pram_meaning::interpreter::Interpreter;
 use pram_meaning::run::Halt;
+use pram_meaning::silent::Silent;
 use pram_meaning::{MeaningRefusal, open};
 use std::alloc::Global;
 use write_rules::Outcome;
@@ -35,17 +36,16 @@ pub fn watched_run<V: Watch>(
         Ok(run) => run,
         Err(_) => return Err(MeaningRefusal::OutOfMemory),
     };
-    let mut looker = Looker {
+    let mut watched = Watched {
+        listener: Silent {},
         watch,
-        until: None,
-        is_over: false,
     };
     let interpreter = Interpreter {
         alloc,
         program,
         bound,
     };
-    match interpreter.run_body(&mut run, &mut looker) {
+    match interpreter.run_body(&mut run, &mut watched) {
         Ok(()) => Ok(Outcome::Ended {
             output: run.output,
             memory: run.cells,

@@ -1,6 +1,6 @@
 use Rattle.pram_meaning.specs.Runs.{state_of}
 use Rattle.pram_meaning.proofs.References.{ended}
-use Rattle.watched_runs.proofs.running.watched_run.Goals as goal
+use Rattle.run_watching.proofs.running.watched_run.Goals as goal
 
 pub returns-in-Ok-run_body-clause-outcome : goal.returns-in-Ok-run_body-clause-outcome
 returns-in-Ok-run_body-clause-outcome g c =
