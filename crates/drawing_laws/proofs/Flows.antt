@@ -1,7 +1,6 @@
 -- The picture of what passes through shared memory, piece by piece.
 use Rattle.std.proofs.Common.{ℕ, ◌+◌, ◌-◌, Bool, true, false, List, [], ◌∷◌, refl}
-use Rattle.std.specs.Prelude.{ℤ, Vec, codes, length, min, nat_le, nat_lt, take, ◌&&◌}
-use Rattle.std.specs.Global.{Global}
+use Rattle.std.specs.Prelude.{ℤ, codes, length, min, nat_le, nat_lt, take, ◌&&◌}
 use Rattle.pram_model.specs.Layout.{SharedEntry, total_size}
 use Rattle.pram_values.specs.declared.place.Place.{Place}
 use Rattle.pram_values.specs.declared.place.Place.TheVariants as place
@@ -9,16 +8,16 @@ use Rattle.program_texts.specs.Shown.{spaced}
 use Rattle.step_entries.specs.Entries.{Act, Entry, Faulting, Ran}
 use Rattle.flow_pictures.specs.declared.spans.CellSpan.{CellSpan}
 use Rattle.flow_pictures.specs.Cells.{rows_and_next}
-use Rattle.flow_pictures.specs.Choice.{acts_in, asked, choice, drawn, location_in, number_at}
+use Rattle.flow_pictures.specs.Choice.{acts_in, location_in}
 use Rattle.flow_pictures.specs.Columns.{bottom, fault_part, heading, heavy, met_cut, met_text, number_text, place_frame}
-use Rattle.flow_pictures.specs.Marks.{Arrow, Node, Reading, arrows, aside_of, has_read, nodes, readings}
+use Rattle.flow_pictures.specs.Drawing.{Column, Drawing, drawing, entries_of}
+use Rattle.flow_pictures.specs.Marks.{Arrow, Node, Reading, arrows, has_read, nodes, readings, value_in}
 use Rattle.flow_pictures.specs.Picture.{cell_cut, cell_line, cells_text, columns, flow, head, key_text, only_text, opening_text}
 use Rattle.flow_pictures.specs.Picture.{picture_of, range_text, row_head, row_heads, statement_cut, statement_line, statements_text, wire}
 use Rattle.flow_pictures.specs.Places.{picture_height, picture_width, x_of, y_at, y_of}
 use Rattle.flow_pictures.specs.Texts.{arrow_text, box, digits, line_between, line_front, marks_of, node_text, outline, reading_text}
 use Rattle.flow_pictures.specs.Texts.{rectangle, source_at, source_front, source_text, squeeze, stroke, value_front, value_text}
 use Rattle.flow_pictures.specs.Texts.{value_width}
-use Rattle.flow_pictures.specs.Values.{value_behind}
 use Rattle.drawing_laws.specs.WellFormed.{IsDocument}
 use Rattle.drawing_laws.specs.Words.{HasWords}
 use Rattle.drawing_laws.proofs.Bytes.{bytes_keep}
@@ -129,20 +128,19 @@ met_keep y (i ∷ met) = within (line_opens y) word (closes_behind (spaced_keep 
 module _ (layout : List SharedEntry) (words : HasWords layout) where
   fault_keep : (rows : List ℕ) (x y : ℕ) (e : Entry) → Keeps (fault_part layout rows x y e)
   fault_keep rows x y (Ran here acts cells variables locals printed) = nothing_keeps
-  fault_keep rows x y (Faulting here fault cause acts met) = both (frame_keeps (x - 28) 258 56 34)
+  fault_keep rows x y (Faulting here fault cause acts met locals) = both (frame_keeps (x - 28) 258 56 34)
       (both (place_keeps rows x fault.place)
       (both (within (line_opens y) (fault_keeps layout words fault) text_ends) (met_keep (y + 18) met)))
 
   -- ---- columns and rows
 
-  columns_keep : (text : List ℕ) (asides : List (Vec Bool Global)) (opening : List ℤ) (es : List Entry) (rows : List ℕ) (j : ℕ)
-      (ps : List (ℕ × Entry)) → Keeps (columns layout text asides opening es rows j ps)
-  columns_keep text asides opening es rows j [] = nothing_keeps
-  columns_keep text asides opening es rows j (p ∷ ps) = both
-      (both (heading_keeps text j p.0 p.1)
-      (both (marks_keep rows j (aside_of asides p.0) (value_behind opening es p.0) (acts_in p.1))
-      (fault_keep rows (x_of j) (bottom rows) p.1)))
-      (columns_keep text asides opening es rows (j + 1) ps)
+  columns_keep : (text : List ℕ) (rows : List ℕ) (j : ℕ) (cs : List Column) → Keeps (columns layout text rows j cs)
+  columns_keep text rows j [] = nothing_keeps
+  columns_keep text rows j (c ∷ cs) = both
+      (both (heading_keeps text j c.number c.entry)
+      (both (marks_keep rows j c.aside (value_in (acts_in c.entry) c.written) (acts_in c.entry))
+      (fault_keep rows (x_of j) (bottom rows) c.entry)))
+      (columns_keep text rows (j + 1) cs)
 
   row_keeps : (wide y cell : ℕ) (v : ℤ) → Keeps (row_head layout wide y cell v)
   row_keeps wide y cell v =
@@ -195,20 +193,18 @@ head_keeps layout only n from to columns touching rows found =
 opens : (wide tall : ℕ) → Goes start (opening_text wide tall) (inside (codes "svg" ∷ []))
 opens wide tall = record { is = simp numbers }
 
-goes : (layout : List SharedEntry) → HasWords layout → (text : List ℕ) (asides : List (Vec Bool Global)) (opening : List ℤ)
-    (es : List Entry) (only : List CellSpan) (from to : ℕ) (c : _) (found : List ℕ) →
-    Goes start (picture_of layout text asides opening es only from to c found) done
-goes layout words text asides opening es only from to c found =
-    let wide = picture_width (length (drawn c es)) in
+goes : (layout : List SharedEntry) → HasWords layout → (text : List ℕ) (only : List CellSpan) (d : Drawing) (found : List ℕ) →
+    Goes start (picture_of layout text only d found) done
+goes layout words text only d found =
+    let wide = picture_width (length d.columns) in
     let rows = take 64 found in
     goes_on (opens wide (picture_height (length rows)))
-    (goes_on (kept (head_keeps layout only (length es) from to (length (drawn c es)) (length (drawn (asked from to es) es)) (length rows)
-    (length found)) _ _)
-    (goes_on (kept (rows_keep layout words wide (value_behind opening es (number_at c es 0 - 1)) 0 rows) _ _)
-    (goes_on (kept (columns_keep layout words text asides opening es rows 1 (drawn c es)) _ _) svg_ends)))
+    (goes_on (kept (head_keeps layout only d.count d.from d.to (length d.columns) d.touching (length rows) (length found)) _ _)
+    (goes_on (kept (rows_keep layout words wide d.before 0 rows) _ _)
+    (goes_on (kept (columns_keep layout words text rows 1 d.columns) _ _) svg_ends)))
 
-pub flow_is_document : (layout : List SharedEntry) → HasWords layout → (text : List ℕ) (asides : List (Vec Bool Global)) (opening : List ℤ)
-    (es : List Entry) (only : List CellSpan) (from to : ℕ) → IsDocument (flow layout text asides opening es only from to)
-flow_is_document layout words text asides opening es only from to =
-    document (flow layout text asides opening es only from to)
-    (goes layout words text asides opening es only from to (choice from to es) (rows_and_next only (choice from to es) es)).is
+pub flow_is_document : (layout : List SharedEntry) → HasWords layout → (text : List ℕ) (aside : Entry → List Bool) (opening : List ℤ)
+    (es : List Entry) (only : List CellSpan) (from to : ℕ) → IsDocument (flow layout text aside opening es only from to)
+flow_is_document layout words text aside opening es only from to =
+    let d = drawing aside opening es from to in
+    document (flow layout text aside opening es only from to) (goes layout words text only d (rows_and_next only (entries_of d.columns))).is

@@ -158,7 +158,7 @@ module _ (layout : List SharedEntry) (words : HasWords layout) where
 
   ending_keeps : (y : ℕ) (e : Entry) → Keeps (ending_of layout y e)
   ending_keeps y (Ran here acts cells variables locals items) = nothing_keeps
-  ending_keeps y (Faulting here fault cause acts met) = both (fault_line_keeps y fault) (met_line_keeps (y + 18) met)
+  ending_keeps y (Faulting here fault cause acts met locals) = both (fault_line_keeps y fault) (met_line_keeps (y + 18) met)
 
   first_ending_keeps : (y : ℕ) (es : List Entry) → Keeps (first_ending layout y es)
   first_ending_keeps y [] = nothing_keeps

@@ -1,7 +1,6 @@
 //! What holds of each picture, whatever it is of.
 
-ghost use Rattle.std.specs.Prelude.{ℕ, ℤ, Bool, List, Vec, codes};
-ghost use Rattle.std.specs.Global.{Global};
+ghost use Rattle.std.specs.Prelude.{ℕ, ℤ, Bool, List, codes};
 ghost use Rattle.pram_model.specs.Declarations.{IsLayout};
 ghost use Rattle.pram_model.specs.Layout.{SharedEntry};
 ghost use Rattle.step_entries.specs.Entries.{Entry};
@@ -34,9 +33,9 @@ pub fn a_sweep_is_well_formed()
 
 /// The picture of what passes through shared memory is a document, whatever bytes the program's text has; of names as above.
 pub fn a_flow_is_well_formed()
-    ensures { (layout : List SharedEntry) → HasWords layout → (text : List ℕ) (asides : List (Vec Bool Global)) (opening : List ℤ)
+    ensures { (layout : List SharedEntry) → HasWords layout → (text : List ℕ) (aside : Entry → List Bool) (opening : List ℤ)
         (entries : List Entry) (only : List CellSpan) (from to : ℕ) →
-        IsDocument (flow layout text asides opening entries only from to) }
+        IsDocument (flow layout text aside opening entries only from to) }
 {}
 
 /// The names of each layout that a program can have have letters, digits and `_` alone. Every accepted program has such a layout

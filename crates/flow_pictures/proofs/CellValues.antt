@@ -1,43 +1,43 @@
--- Values behind changes and behind statements, one by one.
-use Rattle.std.proofs.Common.{◌≡◌, ◌∙◌, ℕ, ℤ, ◌+◌, ◌<◌, ◌≤◌, List, ap, drop, get_or, length, map, refl, sym}
-use Rattle.std.proofs.lemmas.List.{drop_all}
+-- Values of cells as they change.
+use Rattle.std.proofs.Common.{◌≡◌, ◌∙◌, ℕ, zero, suc, ℤ, pos, ◌+◌, ◌<◌, ◌≤◌, Bool, true, false, List, [], ◌∷◌, ◌++◌, ap, arith, drop, get_or, length, nat_eq}
+use Rattle.std.proofs.Common.{refl, set, subst, sym}
+use Rattle.std.proofs.lemmas.Bool.Decides.{nat_tests}
+use Rattle.std.proofs.lemmas.List.{drop_all, get_or-set_other, get_or-set_same}
 use Rattle.std.specs.List.{fold}
+use Rattle.std.specs.Prelude.{if◌then◌else◌}
 use Rattle.step_entries.specs.declared.change.Change.{Change}
-use Rattle.step_entries.specs.declared.entry as entry
-use Rattle.step_entries.specs.Entries.{entry_is}
-use Rattle.flow_pictures.specs.Values.{changed, value_after}
+use Rattle.flow_pictures.specs.Values.{changed, value_at}
 use Rattle.flow_pictures.proofs.Kept.{at_item}
 
-pub record InChanges (cell : ℕ) (start : ℤ) (ds : List Change) (i : ℕ) (now : ℤ) : Type 0 where
-  pub same : fold (changed cell) start ds ≡ fold (changed cell) now (drop i ds)
+-- a 0 behind them changes nothing
+pub with_zero : (xs : List ℤ) (k : ℕ) → value_at (xs ++ pos 0 ∷ []) k ≡ value_at xs k
+with_zero [] zero = refl
+with_zero [] (suc k) = refl
+with_zero (x ∷ xs) zero = refl
+with_zero (x ∷ xs) (suc k) = with_zero xs k
 
-pub changes_start : (cell : ℕ) (start : ℤ) (ds : List Change) → InChanges cell start ds 0 start
-changes_start cell start ds = record { same = refl }
+-- one that is set
+pub set_by : (xs : List ℤ) (at k : ℕ) (v : ℤ) (b : Bool) → nat_eq at k ≡ b → at < length xs →
+    value_at (set xs at v) k ≡ (if b then v else value_at xs k)
+set_by xs at k v true is within =
+    let same : at ≡ k = grind (arith, nat_tests, is) in
+    subst (λ k. value_at (set xs at v) k ≡ v) same (get_or-set_same xs at v (pos 0) within)
+set_by xs at k v false is within = get_or-set_other xs at k v (pos 0) (λ same. no (grind (arith, nat_tests, is, same)))
+  where
+    no : ⊥ → ⊥
+    no x = x
 
-pub changes_go : (cell : ℕ) (start : ℤ) (ds : List Change) (i : ℕ) (d : Change) (now new : ℤ) → InChanges cell start ds i now →
-    i < length ds → d ≡ get_or ds i d → new ≡ changed cell now d → InChanges cell start ds (i + 1) new
-changes_go cell start ds i d now new b h is e = record {
-  same = b.same ∙ at_item (fold (changed cell) now) ds i d h is ∙ ap (λ v. fold (changed cell) v (drop (i + 1) ds)) (sym e);
+-- ---- changes, one by one
+
+pub record InChanges (k : ℕ) (start : ℤ) (ds : List Change) (i : ℕ) (now : ℤ) : Type 0 where
+  pub same : fold (changed k) start ds ≡ fold (changed k) now (drop i ds)
+
+pub changes_go : (k : ℕ) (start : ℤ) (ds : List Change) (i : ℕ) (d : Change) (now new : ℤ) → InChanges k start ds i now →
+    i < length ds → d ≡ get_or ds i d → new ≡ changed k now d → InChanges k start ds (i + 1) new
+changes_go k start ds i d now new b h is e = record {
+  same = b.same ∙ at_item (fold (changed k) now) ds i d h is ∙ ap (λ v. fold (changed k) v (drop (i + 1) ds)) (sym e);
 }
 
-pub changes_end : (cell : ℕ) (start : ℤ) (ds : List Change) (i : ℕ) (now : ℤ) → InChanges cell start ds i now → length ds ≤ i →
-    now ≡ fold (changed cell) start ds
-changes_end cell start ds i now b h = sym (b.same ∙ ap (fold (changed cell) now) (drop_all i ds h))
-
-pub record InEntries (cell : ℕ) (start : ℤ) (es : List entry.Entry.Entry) (i : ℕ) (now : ℤ) : Type 0 where
-  pub same : fold (value_after cell) start (map entry_is es) ≡ fold (value_after cell) now (map entry_is (drop i es))
-
-pub entries_start : (cell : ℕ) (start : ℤ) (es : List entry.Entry.Entry) → InEntries cell start es 0 start
-entries_start cell start es = record { same = refl }
-
-pub entries_go : (cell : ℕ) (start : ℤ) (es : List entry.Entry.Entry) (i : ℕ) (e : entry.Entry.Entry) (now new : ℤ) →
-    InEntries cell start es i now → i < length es → e ≡ get_or es i e → new ≡ value_after cell now (entry_is e) →
-    InEntries cell start es (i + 1) new
-entries_go cell start es i e now new b h is n = record {
-  same = b.same ∙ at_item (λ xs. fold (value_after cell) now (map entry_is xs)) es i e h is
-      ∙ ap (λ v. fold (value_after cell) v (map entry_is (drop (i + 1) es))) (sym n);
-}
-
-pub entries_end : (cell : ℕ) (start : ℤ) (es : List entry.Entry.Entry) (i : ℕ) (now : ℤ) → InEntries cell start es i now →
-    length es ≤ i → now ≡ fold (value_after cell) start (map entry_is es)
-entries_end cell start es i now b h = sym (b.same ∙ ap (λ xs. fold (value_after cell) now (map entry_is xs)) (drop_all i es h))
+pub changes_end : (k : ℕ) (start : ℤ) (ds : List Change) (i : ℕ) (now : ℤ) → InChanges k start ds i now → length ds ≤ i →
+    now ≡ fold (changed k) start ds
+changes_end k start ds i now b h = sym (b.same ∙ ap (fold (changed k) now) (drop_all i ds h))

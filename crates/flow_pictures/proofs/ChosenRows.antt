@@ -1,6 +1,6 @@
 -- Each row is of a cell that was touched and is chosen.
 use Rattle.std.proofs.Common.{◌≡◌, ◌⊎◌, inl, inr, ℕ, zero, suc, ◌+◌, ◌<◌, ◌≤◌, Bool, true, false, List, [], ◌∷◌, Option, None, Some, ap, arith, drop}
-use Rattle.std.proofs.Common.{get_or, length, min, nat_lt, refl, subst, sym, take}
+use Rattle.std.proofs.Common.{get_or, length, map, min, nat_lt, refl, subst, sym, take}
 use Rattle.std.proofs.lemmas.Bool.{cases_lt}
 use Rattle.std.proofs.lemmas.List.{take-append-drop}
 use Rattle.std.proofs.lemmas.List.Elements.{Contains-append_cases, Contains-append_left}
@@ -9,9 +9,8 @@ use Rattle.std.specs.Prelude.{if◌then◌else◌}
 use Rattle.pram_model.proofs.Truths.{unsome}
 use Rattle.step_entries.specs.Entries.{Entry}
 use Rattle.flow_pictures.specs.declared.spans.CellSpan.{CellSpan}
-use Rattle.flow_pictures.specs.Cells.{entry_cells, is_chosen, least_from, nearer, rows_and_next, rows_from, touched, with_row}
-use Rattle.flow_pictures.specs.Choice.{choice, drawn}
-use Rattle.flow_pictures.specs.Laws.{cells}
+use Rattle.flow_pictures.specs.Cells.{entry_cells, is_chosen, least_from, nearer, rows_from, touched, with_row}
+use Rattle.flow_pictures.specs.Laws.{cells, found, statements}
 use Rattle.flow_pictures.proofs.Members.{first, later, passes_test}
 
 nearer_none : (x d c : ℕ) (b : Bool) → (if b then None else Some d) ≡ Some c → d ≡ c
@@ -65,8 +64,8 @@ rows_there (suc more) x ds c one = row_there more x ds c (least_from x ds) refl 
 
 pub row_is_chosen : (only : List CellSpan) (es : List Entry) (from to c : ℕ) → Contains (cells only es from to) c → is_chosen only c ≡ true
 row_is_chosen only es from to c one =
-    let found = rows_and_next only (choice from to es) es in
-    let among : Contains found c = subst (λ (rows : List ℕ). Contains rows c) (take-append-drop 64 found)
-    (Contains-append_left (take 64 found) (drop 64 found) c one) in
-    passes_test (is_chosen only) (flat_map (λ p. entry_cells p.1) (drawn (choice from to es) es)) c
-    (rows_there 65 0 (touched only (choice from to es) es) c among)
+    let all = found only es from to in
+    let drawn = map (λ p. p.1) (statements es from to) in
+    let among : Contains all c = subst (λ (rows : List ℕ). Contains rows c) (take-append-drop 64 all)
+    (Contains-append_left (take 64 all) (drop 64 all) c one) in
+    passes_test (is_chosen only) (flat_map entry_cells drawn) c (rows_there 65 0 (touched only drawn) c among)

@@ -1,16 +1,18 @@
 -- That nothing is left out where all has room, and a fault never.
-use Rattle.std.proofs.Common.{◌≡◌, ◌⊎◌, inl, inr, ℕ, zero, suc, ◌+◌, ◌-◌, ◌<◌, ◌≤◌, Bool, true, false, ◌&&◌, ◌||◌, List, [], ◌∷◌, ap, arith, get_or}
-use Rattle.std.proofs.Common.{Option, None, Some, length, map, min, nat_le, nat_lt, refl, subst, sym}
+use Rattle.std.proofs.Common.{◌≡◌, ◌⊎◌, inl, inr, ℕ, zero, suc, ◌+◌, ◌-◌, ◌<◌, ◌≤◌, Bool, true, false, ◌&&◌, List, [], ◌∷◌, ◌++◌, ap, arith, get_or}
+use Rattle.std.proofs.Common.{Option, None, Some, length, map, min, nat_le, nat_lt, refl, subst, sym, take}
 use Rattle.std.proofs.lemmas.Bool.{cases_lt}
 use Rattle.std.proofs.lemmas.Bool.Decides.{nat_tests}
-use Rattle.std.proofs.lemmas.List.{get_or_past, length-map, take_all}
-use Rattle.std.specs.List.{Contains, enumerate_from, fold, list_any}
+use Rattle.std.proofs.lemmas.List.{take_all}
+use Rattle.std.proofs.lemmas.List.Elements.{Contains-append_right}
+use Rattle.std.specs.List.{Contains, enumerate_from, fold}
 use Rattle.std.specs.Prelude.{if◌then◌else◌}
 use Rattle.step_entries.specs.Entries.{Entry}
 use Rattle.flow_pictures.specs.declared.spans.CellSpan.{CellSpan}
-use Rattle.flow_pictures.specs.Cells.{least_from, nearer, rows_and_next, rows_from, touched, with_row}
-use Rattle.flow_pictures.specs.Choice.{acts_in, asked, choice, drawn, is_access, is_drawn, is_fault, number_at, room}
-use Rattle.flow_pictures.specs.Laws.{cells, statements}
+use Rattle.flow_pictures.specs.Cells.{least_from, nearer, rows_from, touched, with_row}
+use Rattle.flow_pictures.specs.Choice.{faulted, is_fault, is_faulted, ran, touching}
+use Rattle.flow_pictures.specs.Laws.{cells, found, statements}
+use Rattle.flow_pictures.proofs.Drawn.{touching_count, touching_is_either}
 use Rattle.flow_pictures.proofs.Members.{first, kept, later}
 
 -- ---- a fault
@@ -26,34 +28,35 @@ numbered_at n (suc i) (y ∷ ys) e within is =
     subst (λ k. Contains ((n, y) ∷ enumerate_from (n + 1) ys) (k, e)) (sym same)
     (later (n, y) (enumerate_from (n + 1) ys) ((n + 1) + i, e) (numbered_at (n + 1) i ys e (omega (arith, within)) is))
 
-any_limit : (a b l f t : Bool) → a ≡ true → b ≡ true → f ≡ true → ((a && b) && ((l || f) && (f || t))) ≡ true
-any_limit true true true true t ha hb hf = refl
-any_limit true true false true t ha hb hf = refl
-any_limit true true l false t ha hb hf = grind (arith, hf)
-any_limit true false l f t ha hb hf = grind (arith, hb)
-any_limit false b l f t ha hb hf = grind (arith, ha)
+all_three : (a b f : Bool) → a ≡ true → b ≡ true → f ≡ true → ((a && b) && f) ≡ true
+all_three true true f ha hb hf = hf
+all_three true false f ha hb hf = hb
+all_three false b f ha hb hf = ha
 
-fault_drawn : (from to : ℕ) (es : List Entry) (k : ℕ) (e : Entry) → is_fault e ≡ true → from ≤ k → k ≤ to →
-    is_drawn (choice from to es) (k, e) ≡ true
-fault_drawn from to es k e fault low high =
-    any_limit (nat_le from k) (nat_le k to) (nat_le k (choice from to es).limit) (is_fault e) (list_any is_access (acts_in e))
-    (grind (arith, nat_tests, low)) (grind (arith, nat_tests, high)) fault
+fault_counts : (from to k : ℕ) (e : Entry) → is_fault e ≡ true → from ≤ k → k ≤ to → is_faulted from to (k, e) ≡ true
+fault_counts from to k e fault low high =
+    all_three (nat_le from k) (nat_le k to) (is_fault e) (grind (arith, nat_tests, low)) (grind (arith, nat_tests, high)) fault
 
 pub fault_is_drawn : (es : List Entry) (from to i : ℕ) (e : Entry) → i < length es → get_or es i e ≡ e → is_fault e ≡ true →
     from ≤ 1 + i → 1 + i ≤ to → Contains (statements es from to) (1 + i, e)
 fault_is_drawn es from to i e within is fault low high =
-    kept (is_drawn (choice from to es)) (enumerate_from 1 es) (1 + i, e) (numbered_at 1 i es e within is)
-    (fault_drawn from to es (1 + i) e fault low high)
+    Contains-append_right (take (64 - length (faulted from to es)) (ran from to es)) (faulted from to es) (1 + i, e)
+    (kept (is_faulted from to) (enumerate_from 1 es) (1 + i, e) (numbered_at 1 i es e within is)
+    (fault_counts from to (1 + i) e fault low high))
 
 -- ---- few statements
 
-pub few_are_drawn : (es : List Entry) (from to : ℕ) → length (drawn (asked from to es) es) < room es →
-    statements es from to ≡ drawn (asked from to es) es
+pub few_are_drawn : (es : List Entry) (from to : ℕ) → length (ran from to es) ≤ 64 - length (faulted from to es) →
+    statements es from to ≡ ran from to es ++ faulted from to es
 few_are_drawn es from to few =
-    let long = length-map (drawn (asked from to es) es) (λ p. p.0) in
-    let all : number_at (asked from to es) es (room es - 1) ≡ length es =
-    get_or_past (map (λ p. p.0) (drawn (asked from to es) es)) (room es - 1) (length es) (omega (arith, few, long)) in
-    ap (λ k. drawn (record { from = from; to = to; limit = k }) es) all
+    ap (λ ps. ps ++ faulted from to es) (take_all (64 - length (faulted from to es)) (ran from to es) few)
+
+pub touching_is_drawn : (es : List Entry) (from to : ℕ) (p : ℕ × Entry) → length (touching from to es) ≤ 64 →
+    Contains (touching from to es) p → Contains (statements es from to) p
+touching_is_drawn es from to p few one =
+    let whole = touching_count from to es in
+    subst (λ (ps : List (ℕ × Entry)). Contains ps p) (sym (few_are_drawn es from to (omega (arith, few, whole))))
+    (touching_is_either from to es p one)
 
 -- ---- few cells
 
@@ -125,10 +128,11 @@ row_or_full (suc more) x c ds one h =
       by (inl a) others = inr (others a)
       by (inr b) others = inl b
 
-pub touched_has_row : (only : List CellSpan) (es : List Entry) (from to c : ℕ) → Contains (touched only (choice from to es) es) c →
-    length (rows_and_next only (choice from to es) es) ≤ 64 → Contains (cells only es from to) c
+pub touched_has_row : (only : List CellSpan) (es : List Entry) (from to c : ℕ) →
+    Contains (touched only (map (λ p. p.1) (statements es from to))) c → length (found only es from to) ≤ 64 →
+    Contains (cells only es from to) c
 touched_has_row only es from to c one few =
-    by (row_or_full 65 0 c (touched only (choice from to es) es) one (omega arith)) where
-      by : RowOrFull 65 0 c (touched only (choice from to es) es) → Contains (cells only es from to) c
-      by (inl row) = subst (λ (rows : List ℕ). Contains rows c) (sym (take_all 64 (rows_and_next only (choice from to es) es) few)) row
+    by (row_or_full 65 0 c (touched only (map (λ p. p.1) (statements es from to))) one (omega arith)) where
+      by : RowOrFull 65 0 c (touched only (map (λ p. p.1) (statements es from to))) → Contains (cells only es from to) c
+      by (inl row) = subst (λ (rows : List ℕ). Contains rows c) (sym (take_all 64 (found only es from to) few)) row
       by (inr full) = absurd (omega (arith, full, few))

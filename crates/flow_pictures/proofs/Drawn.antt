@@ -1,117 +1,178 @@
--- Statements that are drawn, one by one.
-use Rattle.std.proofs.Common.{◌≡◌, ◌∙◌, ℕ, zero, suc, ◌+◌, ◌-◌, ◌<◌, ◌≤◌, Bool, true, false, ◌&&◌, List, ◌∷◌, ap, arith, drop, get_or, length, map}
-use Rattle.std.proofs.Common.{nat_eq, refl, sym}
-use Rattle.std.proofs.lemmas.List.{drop_all, length-map}
-use Rattle.std.specs.Prelude.{if◌then◌else◌}
-use Rattle.step_entries.specs.declared.entry as entry
-use Rattle.step_entries.specs.Entries.{Entry, entry_is}
-use Rattle.flow_pictures.specs.declared.choice.Choice.{Choice}
-use Rattle.flow_pictures.specs.Choice.{drawn, drawn_from, is_drawn, number_at}
-use Rattle.flow_pictures.proofs.Kept.{at_item}
+-- The statements of a run that are drawn, where one more comes.
+use Rattle.std.proofs.Common.{◌≡◌, ◌∙◌, ◌⊎◌, inl, inr, ℕ, ◌+◌, ◌-◌, ◌≤◌, Bool, true, false, not, ◌&&◌, ◌||◌, List, [], ◌∷◌, ◌++◌, ℤ}
+use Rattle.std.proofs.Common.{ap, append-nil, arith, cond, length, map, refl, sym, take, drop, subst}
+use Rattle.std.proofs.lemmas.List.{length-append, length-take, take-append-drop, take-append-le}
+use Rattle.std.proofs.lemmas.List.Elements.{Contains-append_cases, Contains-append_left, Contains-append_right, filter-append}
+use Rattle.std.specs.List.{Contains, enumerate_from, filter, list_any}
+use Rattle.step_entries.specs.Entries.{Entry}
+use Rattle.flow_pictures.specs.Choice.{acts_in, drawn, faulted, is_access, is_asked, is_fault, is_faulted, is_ran, is_touching, number_before}
+use Rattle.flow_pictures.specs.Choice.{ran, touching}
+use Rattle.flow_pictures.specs.Drawing.{column_of, written_by}
+use Rattle.flow_pictures.specs.Values.{value_of}
+use Rattle.flow_pictures.proofs.Members.{kept, of_kept, passes_test}
 
--- ---- how many
+-- ---- one more
 
-pub record InCount (c : Choice) (es : List entry.Entry.Entry) (i count number : ℕ) : Type 0 where
-  pub same : length (drawn c (map entry_is es)) ≡ count + length (drawn_from c (number + 1) (map entry_is (drop i es)))
-  pub numbered : number ≡ i
-  pub few : count ≤ i
+numbered_more : (k : ℕ) (xs : List Entry) (e : Entry) →
+    enumerate_from k (xs ++ e ∷ []) ≡ enumerate_from k xs ++ (k + length xs, e) ∷ []
+numbered_more k [] e = let same : k ≡ k + 0 = omega arith in ap (λ n. (n, e) ∷ []) same
+numbered_more k (x ∷ xs) e =
+    let same : (k + 1) + length xs ≡ k + length (x ∷ xs) = omega arith in
+    ap (λ ps. (k, x) ∷ ps) (numbered_more (k + 1) xs e ∙ ap (λ n. enumerate_from (k + 1) xs ++ (n, e) ∷ []) same)
 
-pub count_starts : (c : Choice) (es : List entry.Entry.Entry) → InCount c es 0 0 0
-count_starts c es = record { same = omega arith; numbered = refl; few = omega arith }
+module _ (p : ℕ × Entry → Bool) (es : List Entry) (e : Entry) where
+  one_more : filter p (enumerate_from 1 (es ++ e ∷ [])) ≡ filter p (enumerate_from 1 es) ++ filter p ((1 + length es, e) ∷ [])
+  one_more = ap (filter p) (numbered_more 1 es e) ∙ filter-append p (enumerate_from 1 es) ((1 + length es, e) ∷ [])
 
-one_counted : (c : Choice) (n : ℕ) (e : Entry) (es : List Entry) (b : Bool) → b ≡ is_drawn c (n, e) →
-    length (drawn_from c n (e ∷ es)) ≡ (if b then 1 else 0) + length (drawn_from c (n + 1) es)
-one_counted c n e es true is = grind (arith, is)
-one_counted c n e es false is = grind (arith, is)
+  pub taken : p (1 + length es, e) ≡ true →
+      filter p (enumerate_from 1 (es ++ e ∷ [])) ≡ filter p (enumerate_from 1 es) ++ (1 + length es, e) ∷ []
+  taken is = one_more ∙ ap (λ b. filter p (enumerate_from 1 es) ++ cond b ((1 + length es, e) ∷ []) []) is
 
-one_more : (b : Bool) (count new : ℕ) → new ≡ (if b then count + 1 else count) → new ≡ count + (if b then 1 else 0)
-one_more true count new n = omega (arith, n)
-one_more false count new n = omega (arith, n)
+  pub passed : p (1 + length es, e) ≡ false → filter p (enumerate_from 1 (es ++ e ∷ [])) ≡ filter p (enumerate_from 1 es)
+  passed is =
+      one_more ∙ ap (λ b. filter p (enumerate_from 1 es) ++ cond b ((1 + length es, e) ∷ []) []) is
+      ∙ append-nil (filter p (enumerate_from 1 es))
 
-shifted : (a b r n : ℕ) → n ≡ a + b → a + (b + r) ≡ n + r
-shifted a b r n e = omega (arith, e)
+-- ---- columns stay
 
-few_more : (b : Bool) (count new i : ℕ) → count ≤ i → new ≡ (if b then count + 1 else count) → new ≤ i + 1
-few_more true count new i few n = omega (arith, few, n)
-few_more false count new i few n = omega (arith, few, n)
+module _ (aside : Entry → List Bool) (opening : List ℤ) (es more : List Entry) where
+  same_column : (k : ℕ) (e : Entry) → k ≤ length es → column_of aside opening (es ++ more) (k, e) ≡ column_of aside opening es (k, e)
+  same_column k e within =
+      ap (λ xs. record { number = k; entry = e; aside = aside e; written = written_by (value_of opening xs) (acts_in e) })
+      (take-append-le k es more within)
 
-pub count_goes : (c : Choice) (es : List entry.Entry.Entry) (i count number : ℕ) (e : entry.Entry.Entry) (b : Bool) (new : ℕ) →
-    InCount c es i count number → i < length es → e ≡ get_or es i e → b ≡ is_drawn c (number + 1, entry_is e) →
-    new ≡ (if b then count + 1 else count) → InCount c es (i + 1) new (number + 1)
-count_goes c es i count number e b new s h is drawn n =
-    let at = at_item (λ xs. length (drawn_from c (number + 1) (map entry_is xs))) es i e h is in
-    let one = one_counted c (number + 1) (entry_is e) (map entry_is (drop (i + 1) es)) b drawn in
-    let rest : ℕ = length (drawn_from c ((number + 1) + 1) (map entry_is (drop (i + 1) es))) in
-    let more : new ≡ count + (if b then 1 else 0) = one_more b count new n in
-    let same = s.same in
-    let few = s.few in
-    let numbered = s.numbered in
-    record {
-      same = same ∙ ap (λ k. count + k) (at ∙ one) ∙ shifted count (if b then 1 else 0) rest new more;
-      numbered = omega (arith, numbered);
-      few = few_more b count new i few n;
-    }
+  pub same_columns : (p : ℕ × Entry → Bool) (k : ℕ) (xs : List Entry) → k + length xs ≤ 1 + length es →
+      map (column_of aside opening (es ++ more)) (filter p (enumerate_from k xs)) ≡
+      map (column_of aside opening es) (filter p (enumerate_from k xs))
+  same_columns p k [] within = refl
+  same_columns p k (x ∷ xs) within =
+      by (p (k, x)) (same_columns p (k + 1) xs (omega (arith, within)))
+    where
+      rest : List (ℕ × Entry)
+      rest = filter p (enumerate_from (k + 1) xs)
 
-pub count_ends : (c : Choice) (es : List entry.Entry.Entry) (i count number : ℕ) → InCount c es i count number → length es ≤ i →
-    count ≡ length (drawn c (map entry_is es))
-count_ends c es i count number s h =
-    let none : length (drawn_from c (number + 1) (map entry_is (drop i es))) ≡ 0 =
-    ap (λ xs. length (drawn_from c (number + 1) (map entry_is xs))) (drop_all i es h) in
-    let same = s.same in
-    omega (arith, none, same)
+      by : (b : Bool) → map (column_of aside opening (es ++ more)) rest ≡ map (column_of aside opening es) rest →
+          map (column_of aside opening (es ++ more)) (cond b ((k, x) ∷ rest) rest) ≡
+          map (column_of aside opening es) (cond b ((k, x) ∷ rest) rest)
+      by false others = others
+      by true others =
+          ap (λ c. c ∷ map (column_of aside opening (es ++ more)) rest) (same_column k x (omega (arith, within)))
+          ∙ ap (λ cs. column_of aside opening es (k, x) ∷ cs) others
 
--- ---- the number of one of them
+-- ---- how many stand before the first
 
--- those numbers, from number k on
-abbrev numbers : Choice → ℕ → List Entry → List ℕ
-numbers c k es = map (λ p. p.0) (drawn_from c k es)
+pub few_before : (p : ℕ × Entry → Bool) (k : ℕ) (xs : List Entry) → number_before (filter p (enumerate_from k xs)) ≤ (k - 1) + length xs
+few_before p k [] = omega arith
+few_before p k (x ∷ xs) = by (p (k, x)) (few_before p (k + 1) xs)
+  where
+    rest : List (ℕ × Entry)
+    rest = filter p (enumerate_from (k + 1) xs)
 
-pub record InNumbers (c : Choice) (es : List entry.Entry.Entry) (before i left number : ℕ) : Type 0 where
-  pub same : number_at c (map entry_is es) before ≡
-      get_or (map (λ p. p.0) (drawn_from c (number + 1) (map entry_is (drop i es)))) left (length es)
-  pub numbered : number ≡ i
+    by : (b : Bool) → number_before rest ≤ ((k + 1) - 1) + length xs →
+        number_before (cond b ((k, x) ∷ rest) rest) ≤ (k - 1) + length (x ∷ xs)
+    by true others = omega arith
+    by false others = omega (arith, others)
 
-pub number_starts : (c : Choice) (es : List entry.Entry.Entry) (before : ℕ) → InNumbers c es before 0 before 0
-number_starts c es before = record {
-  same = ap (λ d. get_or (map (λ p. p.0) (drawn c (map entry_is es))) before d) (length-map es entry_is);
-  numbered = refl;
-}
+-- ---- those that touch memory are those that ran and those that faulted
 
-one_passed : (c : Choice) (n left : ℕ) (e : Entry) (es : List Entry) (d : ℕ) (b : Bool) → b ≡ is_drawn c (n, e) →
-    (b && nat_eq left 0) ≡ false →
-    get_or (numbers c n (e ∷ es)) left d ≡ get_or (numbers c (n + 1) es) (if b then left - 1 else left) d
-one_passed c n zero e es d true is other = grind (arith, other)
-one_passed c n (suc left) e es d true is other = grind (arith, is)
-one_passed c n left e es d false is other = grind (arith, is)
+parts_ran : (a f g : Bool) → (a && ((f || g) && not f)) ≡ ((a && (f || g)) && not f)
+parts_ran true f g = refl
+parts_ran false f g = refl
 
-pub number_goes : (c : Choice) (es : List entry.Entry.Entry) (before i left number : ℕ) (e : entry.Entry.Entry) (b last : Bool) (new : ℕ) →
-    InNumbers c es before i left number → i < length es → e ≡ get_or es i e → b ≡ is_drawn c (number + 1, entry_is e) →
-    last ≡ (b && nat_eq left 0) → last ≡ false → new ≡ (if b then left - 1 else left) → InNumbers c es before (i + 1) new (number + 1)
-number_goes c es before i left number e b last new s h is drawn l other n =
-    let at = at_item (λ xs. get_or (numbers c (number + 1) (map entry_is xs)) left (length es)) es i e h is in
-    let one = one_passed c (number + 1) left (entry_is e) (map entry_is (drop (i + 1) es)) (length es) b drawn (sym l ∙ other) in
-    let numbered = s.numbered in
-    record {
-      same = s.same ∙ at ∙ one
-          ∙ ap (λ k. get_or (numbers c ((number + 1) + 1) (map entry_is (drop (i + 1) es))) k (length es)) (sym n);
-      numbered = omega (arith, numbered);
-    }
+parts_faulted : (a f g : Bool) → (a && f) ≡ ((a && (f || g)) && f)
+parts_faulted true true g = refl
+parts_faulted true false true = refl
+parts_faulted true false false = refl
+parts_faulted false f g = refl
 
-one_found : (c : Choice) (n left : ℕ) (e : Entry) (es : List Entry) (d : ℕ) (b : Bool) → b ≡ is_drawn c (n, e) →
-    (b && nat_eq left 0) ≡ true → get_or (numbers c n (e ∷ es)) left d ≡ n
-one_found c n zero e es d true is same = grind (arith, is)
-one_found c n (suc left) e es d true is same = grind (arith, same)
-one_found c n left e es d false is same = grind (arith, same)
+module _ (from to : ℕ) where
+  pub ran_is : (p : ℕ × Entry) → is_ran from to p ≡ (is_touching from to p && not (is_fault p.1))
+  ran_is p = parts_ran (is_asked from to p.0) (is_fault p.1) (list_any is_access (acts_in p.1))
 
-pub number_is : (c : Choice) (es : List entry.Entry.Entry) (before i left number : ℕ) (e : entry.Entry.Entry) (b last : Bool) →
-    InNumbers c es before i left number → i < length es → e ≡ get_or es i e → b ≡ is_drawn c (number + 1, entry_is e) →
-    last ≡ (b && nat_eq left 0) → last ≡ true → number + 1 ≡ number_at c (map entry_is es) before
-number_is c es before i left number e b last s h is drawn l same =
-    let at = at_item (λ xs. get_or (numbers c (number + 1) (map entry_is xs)) left (length es)) es i e h is in
-    let one = one_found c (number + 1) left (entry_is e) (map entry_is (drop (i + 1) es)) (length es) b drawn (sym l ∙ same) in
-    sym (s.same ∙ at ∙ one)
+  pub faulted_is : (p : ℕ × Entry) → is_faulted from to p ≡ (is_touching from to p && is_fault p.1)
+  faulted_is p = parts_faulted (is_asked from to p.0) (is_fault p.1) (list_any is_access (acts_in p.1))
 
-pub number_ends : (c : Choice) (es : List entry.Entry.Entry) (before i left number : ℕ) → InNumbers c es before i left number →
-    length es ≤ i → length es ≡ number_at c (map entry_is es) before
-number_ends c es before i left number s h =
-    sym (s.same ∙ ap (λ xs. get_or (numbers c (number + 1) (map entry_is xs)) left (length es)) (drop_all i es h))
+  -- how many
+  counts : (k : ℕ) (xs : List Entry) → length (filter (is_touching from to) (enumerate_from k xs)) ≡
+      length (filter (is_ran from to) (enumerate_from k xs)) + length (filter (is_faulted from to) (enumerate_from k xs))
+  counts k [] = refl
+  counts k (x ∷ xs) =
+      by (is_touching from to (k, x)) (is_fault x) (counts (k + 1) xs)
+      ∙ ap (λ b. length (cond b ((k, x) ∷ rs) rs) + length (cond (is_touching from to (k, x) && is_fault x) ((k, x) ∷ fs) fs))
+      (sym (ran_is (k, x)))
+      ∙ ap (λ b. length (cond (is_ran from to (k, x)) ((k, x) ∷ rs) rs) + length (cond b ((k, x) ∷ fs) fs)) (sym (faulted_is (k, x)))
+    where
+      ts : List (ℕ × Entry)
+      ts = filter (is_touching from to) (enumerate_from (k + 1) xs)
+
+      rs : List (ℕ × Entry)
+      rs = filter (is_ran from to) (enumerate_from (k + 1) xs)
+
+      fs : List (ℕ × Entry)
+      fs = filter (is_faulted from to) (enumerate_from (k + 1) xs)
+
+      by : (t f : Bool) → length ts ≡ length rs + length fs → length (cond t ((k, x) ∷ ts) ts) ≡
+          length (cond (t && not f) ((k, x) ∷ rs) rs) + length (cond (t && f) ((k, x) ∷ fs) fs)
+      by true true others = omega (arith, others)
+      by true false others = omega (arith, others)
+      by false f others = others
+
+  pub touching_count : (es : List Entry) → length (touching from to es) ≡ length (ran from to es) + length (faulted from to es)
+  touching_count es = counts 1 es
+
+  -- no more are drawn than touch memory
+  pub drawn_count : (es : List Entry) → length (drawn from to es) ≤ length (touching from to es)
+  drawn_count es =
+      let room = 64 - length (faulted from to es) in
+      let all = length-append (take room (ran from to es)) (faulted from to es) in
+      let some = length-take room (ran from to es) in
+      let whole = touching_count es in
+      omega (arith, all, some, whole)
+
+  -- which
+  both_hold : (a b : Bool) → a ≡ true → b ≡ true → (a && b) ≡ true
+  both_hold true b ha hb = hb
+  both_hold false b ha hb = ha
+
+  first_holds : (a b : Bool) → (a && b) ≡ true → a ≡ true
+  first_holds true b h = refl
+  first_holds false b h = h
+
+  pub touching_is_either : (es : List Entry) (p : ℕ × Entry) → Contains (touching from to es) p →
+      Contains (ran from to es ++ faulted from to es) p
+  touching_is_either es p one = by (is_fault p.1) refl
+    where
+      touches : is_touching from to p ≡ true
+      touches = passes_test (is_touching from to) (enumerate_from 1 es) p one
+
+      among : Contains (enumerate_from 1 es) p
+      among = of_kept (is_touching from to) (enumerate_from 1 es) p one
+
+      by : (f : Bool) → is_fault p.1 ≡ f → Contains (ran from to es ++ faulted from to es) p
+      by true is = Contains-append_right (ran from to es) (faulted from to es) p
+          (kept (is_faulted from to) (enumerate_from 1 es) p among
+          (faulted_is p ∙ both_hold (is_touching from to p) (is_fault p.1) touches is))
+      by false is = Contains-append_left (ran from to es) (faulted from to es) p
+          (kept (is_ran from to) (enumerate_from 1 es) p among
+          (ran_is p ∙ both_hold (is_touching from to p) (not (is_fault p.1)) touches (ap not is)))
+
+  pub drawn_touches : (es : List Entry) (p : ℕ × Entry) → Contains (drawn from to es) p → Contains (touching from to es) p
+  drawn_touches es p one =
+      let room = 64 - length (faulted from to es) in
+      by (Contains-append_cases (take room (ran from to es)) (faulted from to es) p one)
+    where
+      so : (q : ℕ × Entry → Bool) → ((p : ℕ × Entry) → q p ≡ true → is_touching from to p ≡ true) →
+          Contains (filter q (enumerate_from 1 es)) p → Contains (touching from to es) p
+      so q gives there = kept (is_touching from to) (enumerate_from 1 es) p (of_kept q (enumerate_from 1 es) p there)
+          (gives p (passes_test q (enumerate_from 1 es) p there))
+
+      whole : (n : ℕ) → Contains (take n (ran from to es)) p → Contains (ran from to es) p
+      whole n there = subst (λ (ps : List (ℕ × Entry)). Contains ps p) (take-append-drop n (ran from to es))
+          (Contains-append_left (take n (ran from to es)) (drop n (ran from to es)) p there)
+
+      by : Contains (take (64 - length (faulted from to es)) (ran from to es)) p ⊎ Contains (faulted from to es) p →
+          Contains (touching from to es) p
+      by (inl here) = so (is_ran from to)
+          (λ p h. first_holds (is_touching from to p) (not (is_fault p.1)) (sym (ran_is p) ∙ h))
+          (whole (64 - length (faulted from to es)) here)
+      by (inr there) = so (is_faulted from to) (λ p h. first_holds (is_touching from to p) (is_fault p.1) (sym (faulted_is p) ∙ h)) there

@@ -1,5 +1,5 @@
 -- The least of some cells, one by one.
-use Rattle.std.proofs.Common.{◌≡◌, ◌∙◌, ℕ, ◌+◌, ◌<◌, ◌≤◌, Bool, true, false, List, [], ◌∷◌, ◌++◌, Option, None, ap, arith, drop, get_or, length, map, refl, sym}
+use Rattle.std.proofs.Common.{◌≡◌, ◌∙◌, ℕ, ◌+◌, ◌<◌, ◌≤◌, Bool, true, false, List, [], ◌∷◌, ◌++◌, Option, None, ap, drop, get_or, length, map, refl, sym}
 use Rattle.std.proofs.lemmas.List.{drop_all}
 use Rattle.std.proofs.lemmas.List.Sums.{fold-append}
 use Rattle.std.specs.List.{filter, flat_map, fold}
@@ -7,11 +7,11 @@ use Rattle.std.proofs.Common.{cond}
 use Rattle.flow_pictures.specs.declared.spans.CellSpan.{CellSpan}
 use Rattle.std.specs.Prelude.{if◌then◌else◌}
 use Rattle.step_entries.specs.declared.act as act
-use Rattle.step_entries.specs.declared.entry as entry
 use Rattle.step_entries.specs.Entries.{Act, Entry, act_is, entry_is}
-use Rattle.flow_pictures.specs.declared.choice.Choice.{Choice}
+use Rattle.flow_pictures.specs.declared.column as column
 use Rattle.flow_pictures.specs.Cells.{act_cells, entry_cells, fault_cells, least_from, nearer, nearer_if, optional, is_chosen, touched}
-use Rattle.flow_pictures.specs.Choice.{acts_in, drawn_from, is_drawn}
+use Rattle.flow_pictures.specs.Choice.{acts_in}
+use Rattle.flow_pictures.specs.Drawing.{column_is, entries_of}
 use Rattle.flow_pictures.proofs.Kept.{at_item}
 
 pub record InReads (only : List CellSpan) (x : ℕ) (start : Option ℕ) (cs : List ℕ) (i : ℕ) (now : Option ℕ) : Type 0 where
@@ -67,10 +67,6 @@ pub entry_is_taken : (only : List CellSpan) (x : ℕ) (start now new : Option �
 entry_is_taken only x start now new acts e same f b =
     joined only x start now new (flat_map act_cells (acts_in e)) (fault_cells e) (f ∙ ap (λ l. fold (nearer_if only x) start (flat_map act_cells l)) same) b
 
--- those of statements that are drawn, from number k on
-abbrev touched_from : Choice → ℕ → List Entry → List ℕ
-touched_from c k es = flat_map (λ p. entry_cells p.1) (drawn_from c k es)
-
 -- the least of those that are chosen
 chosen_by : (only : List CellSpan) (x : ℕ) (now : Option ℕ) (c : ℕ) (cs : List ℕ) (b : Bool) → is_chosen only c ≡ b →
     ((o : Option ℕ) → fold (nearer x) o (filter (is_chosen only) cs) ≡ fold (nearer_if only x) o cs) →
@@ -87,33 +83,23 @@ chosen_folds : (only : List CellSpan) (x : ℕ) (now : Option ℕ) (cs : List �
 chosen_folds only x now [] = refl
 chosen_folds only x now (c ∷ cs) = chosen_by only x now c cs (is_chosen only c) refl (λ o. chosen_folds only x o cs)
 
-pub record InEntries (only : List CellSpan) (x : ℕ) (c : Choice) (es : List entry.Entry.Entry) (i : ℕ) (now : Option ℕ) (number : ℕ) : Type 0 where
-  pub same : least_from x (touched only c (map entry_is es)) ≡
-      fold (nearer_if only x) now (flat_map (λ p. entry_cells p.1) (drawn_from c (number + 1) (map entry_is (drop i es))))
-  pub numbered : number ≡ i
+pub record InColumns (only : List CellSpan) (x : ℕ) (cs : List column.Column.Column) (i : ℕ) (now : Option ℕ) : Type 0 where
+  pub same : least_from x (touched only (entries_of (map column_is cs))) ≡
+      fold (nearer_if only x) now (flat_map entry_cells (entries_of (map column_is (drop i cs))))
 
-pub entries_start : (only : List CellSpan) (x : ℕ) (c : Choice) (es : List entry.Entry.Entry) → InEntries only x c es 0 None 0
-entries_start only x c es = record { same = chosen_folds only x None (flat_map (λ p. entry_cells p.1) (drawn_from c 1 (map entry_is es))); numbered = refl }
+pub entries_start : (only : List CellSpan) (x : ℕ) (cs : List column.Column.Column) → InColumns only x cs 0 None
+entries_start only x cs = record { same = chosen_folds only x None (flat_map entry_cells (entries_of (map column_is cs))) }
 
-one_taken : (only : List CellSpan) (x : ℕ) (c : Choice) (now : Option ℕ) (n : ℕ) (e : Entry) (es : List Entry) (b : Bool) → b ≡ is_drawn c (n, e) →
-    fold (nearer_if only x) now (touched_from c n (e ∷ es)) ≡
-    fold (nearer_if only x) (if b then fold (nearer_if only x) now (entry_cells e) else now) (touched_from c (n + 1) es)
-one_taken only x c now n e es true is = grind (arith, is, fold-append)
-one_taken only x c now n e es false is = grind (arith, is)
+pub entries_go : (only : List CellSpan) (x : ℕ) (cs : List column.Column.Column) (i : ℕ) (c : column.Column.Column) (now new : Option ℕ) →
+    InColumns only x cs i now → i < length cs → c ≡ get_or cs i c → new ≡ fold (nearer_if only x) now (entry_cells (entry_is c.entry)) →
+    InColumns only x cs (i + 1) new
+entries_go only x cs i c now new s h is n = record {
+  same = s.same ∙ at_item (λ xs. fold (nearer_if only x) now (flat_map entry_cells (entries_of (map column_is xs)))) cs i c h is
+      ∙ fold-append (nearer_if only x) now (entry_cells (entry_is c.entry)) (flat_map entry_cells (entries_of (map column_is (drop (i + 1) cs))))
+      ∙ ap (λ o. fold (nearer_if only x) o (flat_map entry_cells (entries_of (map column_is (drop (i + 1) cs))))) (sym n);
+}
 
-pub entries_go : (only : List CellSpan) (x : ℕ) (c : Choice) (es : List entry.Entry.Entry) (i : ℕ) (e : entry.Entry.Entry) (now new : Option ℕ) (number : ℕ)
-    (b : Bool) → InEntries only x c es i now number → i < length es → e ≡ get_or es i e → b ≡ is_drawn c (number + 1, entry_is e) →
-    new ≡ (if b then fold (nearer_if only x) now (entry_cells (entry_is e)) else now) → InEntries only x c es (i + 1) new (number + 1)
-entries_go only x c es i e now new number b s h is d n =
-    let numbered = s.numbered in
-    record {
-      same = s.same ∙ at_item (λ xs. fold (nearer_if only x) now (touched_from c (number + 1) (map entry_is xs))) es i e h is
-          ∙ one_taken only x c now (number + 1) (entry_is e) (map entry_is (drop (i + 1) es)) b d
-          ∙ ap (λ o. fold (nearer_if only x) o (touched_from c ((number + 1) + 1) (map entry_is (drop (i + 1) es)))) (sym n);
-      numbered = omega (arith, numbered);
-    }
-
-pub entries_end : (only : List CellSpan) (x : ℕ) (c : Choice) (es : List entry.Entry.Entry) (i : ℕ) (now : Option ℕ) (number : ℕ) → InEntries only x c es i now number →
-    length es ≤ i → now ≡ least_from x (touched only c (map entry_is es))
-entries_end only x c es i now number s h =
-    sym (s.same ∙ ap (λ xs. fold (nearer_if only x) now (touched_from c (number + 1) (map entry_is xs))) (drop_all i es h))
+pub entries_end : (only : List CellSpan) (x : ℕ) (cs : List column.Column.Column) (i : ℕ) (now : Option ℕ) → InColumns only x cs i now →
+    length cs ≤ i → now ≡ least_from x (touched only (entries_of (map column_is cs)))
+entries_end only x cs i now s h =
+    sym (s.same ∙ ap (λ xs. fold (nearer_if only x) now (flat_map entry_cells (entries_of (map column_is xs)))) (drop_all i cs h))

@@ -3,10 +3,11 @@ pub mod CellValues
 pub mod ColumnLists
 pub mod Complete
 pub mod Drawn
+pub mod Finished
 pub mod Kept
 pub mod Least
 pub mod Members
 pub mod RowLists
 pub mod Standing
-pub mod AsideLists
+pub mod Taken
 pub mod ChosenRows

@@ -35,6 +35,19 @@ kept p xs x one passes = kept_at_place p xs one.0 x one.1 one.2 passes
 pub passes_test : {X : Type 0} (p : X → Bool) (xs : List X) (x : X) → Contains (filter p xs) x → p x ≡ true
 passes_test p xs x one = All-contains (λ y. p y ≡ true) (filter p xs) x (filter_passes p xs) one
 
+of_kept_at : {X : Type 0} (p : X → Bool) (xs : List X) (x : X) (b : Bool) (y : X) → (Contains (filter p xs) x → Contains xs x) →
+    Contains (cond b (y ∷ filter p xs) (filter p xs)) x → Contains (y ∷ xs) x
+of_kept_at p xs x false y others one = later y xs x (others one)
+of_kept_at p xs x true y others one = by (Contains-append_cases (y ∷ []) (filter p xs) x one)
+  where
+    by : Contains (y ∷ []) x ⊎ Contains (filter p xs) x → Contains (y ∷ xs) x
+    by (inl here) = Contains-append_left (y ∷ []) xs x here
+    by (inr there) = later y xs x (others there)
+
+pub of_kept : {X : Type 0} (p : X → Bool) (xs : List X) (x : X) → Contains (filter p xs) x → Contains xs x
+of_kept p [] x one = one
+of_kept p (y ∷ ys) x one = of_kept_at p ys x (p y) y (of_kept p ys x) one
+
 -- ---- what is made of each
 
 mapped_at : {X Y : Type 0} (f : X → Y) (xs : List X) (k : ℕ) (x : X) → k < length xs → get_or xs k x ≡ x → Contains (map f xs) (f x)

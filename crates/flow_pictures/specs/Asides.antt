@@ -1,6 +1,5 @@
 -- Which reads of each statement of a run stand in a subscript, by the program's body.
-use Rattle.std.specs.Prelude.{List, Bool, Vec, map}
-use Rattle.std.specs.Global.{Global}
+use Rattle.std.specs.Prelude.{List, Bool}
 use Rattle.pram_names.specs.declared.body.Statement.{Statement}
 use Rattle.step_entries.specs.Entries.{Entry}
 use Rattle.subscript_reads.specs.Asides.{statements_at}
@@ -9,6 +8,3 @@ use Rattle.flow_pictures.specs.Choice.{location_in}
 -- those of the statement that an entry is of
 abbrev pub asides_in : List Statement → Entry → List Bool
 asides_in body e = statements_at (location_in e).offset body
-
-abbrev pub all_of : List (Vec Bool Global) → List (List Bool)
-all_of = map (λ (v : Vec Bool Global). v.items)

@@ -1,13 +1,12 @@
--- Which cells are drawn: the first of those that the drawn statements touched.
-use Rattle.std.specs.Prelude.{ℕ, zero, suc, ◌+◌, min, nat_lt, if◌then◌else◌, List, [], ◌∷◌, ◌++◌, Option, Some, None, take}
+-- Which cells are drawn: the first of those that some statements touched.
+use Rattle.std.specs.Prelude.{ℕ, zero, suc, ◌+◌, min, nat_lt, if◌then◌else◌, List, [], ◌∷◌, ◌++◌, Option, Some, None}
 use Rattle.std.specs.Prelude.{nat_le, Bool, true, false, ◌&&◌, ◌||◌}
 use Rattle.std.specs.List.{filter, flat_map, fold}
 use Rattle.pram_values.specs.declared.place.Place.{Place}
 use Rattle.pram_values.specs.declared.place.Place.TheVariants as place
 use Rattle.step_entries.specs.Entries.{Act, Entry, Ran, Faulting}
 use Rattle.flow_pictures.specs.declared.spans.CellSpan.{CellSpan}
-use Rattle.flow_pictures.specs.declared.choice.Choice.{Choice}
-use Rattle.flow_pictures.specs.Choice.{acts_in, drawn}
+use Rattle.flow_pictures.specs.Choice.{acts_in}
 
 -- ---- the cells that are touched
 
@@ -26,7 +25,7 @@ place_cells (place.Cell c) = c ∷ []
 -- at which it faulted
 abbrev pub fault_cells : Entry → List ℕ
 fault_cells (Ran here acts cells variables locals printed) = []
-fault_cells (Faulting here fault cause acts met) = place_cells fault.place
+fault_cells (Faulting here fault cause acts met locals) = place_cells fault.place
 
 abbrev pub entry_cells : Entry → List ℕ
 entry_cells e = flat_map act_cells (acts_in e) ++ fault_cells e
@@ -40,8 +39,8 @@ abbrev pub is_chosen : List CellSpan → (cell : ℕ) → Bool
 is_chosen [] cell = true
 is_chosen (s ∷ ss) cell = is_among (s ∷ ss) cell
 
-abbrev pub touched : List CellSpan → Choice → List Entry → List ℕ
-touched only c es = filter (is_chosen only) (flat_map (λ p. entry_cells p.1) (drawn c es))
+abbrev pub touched : List CellSpan → List Entry → List ℕ
+touched only es = filter (is_chosen only) (flat_map entry_cells es)
 
 -- ---- in ascending order
 
@@ -67,8 +66,5 @@ rows_from zero x cells = []
 rows_from (suc more) x cells = with_row (least_from x cells) (λ y. rows_from more y cells)
 
 -- one more than are drawn
-abbrev pub rows_and_next : List CellSpan → Choice → List Entry → List ℕ
-rows_and_next only c es = rows_from 65 0 (touched only c es)
-
-abbrev pub rows : List CellSpan → Choice → List Entry → List ℕ
-rows only c es = take 64 (rows_and_next only c es)
+abbrev pub rows_and_next : List CellSpan → List Entry → List ℕ
+rows_and_next only es = rows_from 65 0 (touched only es)

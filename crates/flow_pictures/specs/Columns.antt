@@ -7,11 +7,9 @@ use Rattle.program_texts.specs.Shown.{fault_text, spaced}
 use Rattle.step_entries.specs.Entries.{Entry, Ran, Faulting}
 use Rattle.write_rules.specs.declared.fault.Fault.{Fault}
 use Rattle.flow_pictures.specs.Choice.{location_in}
+use Rattle.flow_pictures.specs.Drawing.{Column}
 use Rattle.flow_pictures.specs.Marks.{has_read}
 use Rattle.flow_pictures.specs.Places.{x_of, y_at, y_of}
-use Rattle.std.specs.Prelude.{Bool, Vec}
-use Rattle.std.specs.Global.{Global}
-use Rattle.flow_pictures.specs.Marks.{aside_of}
 use Rattle.flow_pictures.specs.Texts.{line_front, marks_text, rectangle, source_at, source_text}
 
 -- ---- the head of a column
@@ -77,7 +75,7 @@ fault_marks layout rows x y f met = head_frame x
 
 abbrev pub fault_part : List SharedEntry → List ℕ → (x y : ℕ) → Entry → List ℕ
 fault_part layout rows x y (Ran here acts cells variables locals printed) = []
-fault_part layout rows x y (Faulting here fault cause acts met) = fault_marks layout rows x y fault met
+fault_part layout rows x y (Faulting here fault cause acts met locals) = fault_marks layout rows x y fault met
 
 -- ---- columns
 
@@ -88,6 +86,6 @@ bottom rows = y_at (length rows) + 10
 abbrev pub column_fault : List SharedEntry → List ℕ → (column : ℕ) → Entry → List ℕ
 column_fault layout rows column e = fault_part layout rows (x_of column) (bottom rows) e
 
-abbrev pub column_text : List SharedEntry → List ℕ → List (Vec Bool Global) → List ℕ → (column number : ℕ) → (ℕ → ℤ) → Entry → List ℕ
-column_text layout text asides rows column number value e = heading text column number e
-    ++ (marks_text rows column (aside_of asides number) value e ++ column_fault layout rows column e)
+abbrev pub column_text : List SharedEntry → List ℕ → List ℕ → (column : ℕ) → Column → List ℕ
+column_text layout text rows column c = heading text column c.number c.entry
+    ++ (marks_text rows column c ++ column_fault layout rows column c.entry)

@@ -1,22 +1,24 @@
 -- What a reader relies on: the boxes and the lines of a picture.
-use Rattle.std.specs.Prelude.{◌≡◌, ℕ, ◌+◌, ◌<◌, List, [], ◌∷◌, ◌++◌, ℤ, Some, length, slice_index_or, take}
+use Rattle.std.specs.Prelude.{◌≡◌, ℕ, ◌+◌, ◌<◌, List, [], ◌∷◌, ◌++◌, ℤ, Some, length, map, slice_index_or, take, Bool, not}
 use Rattle.std.specs.List.{Contains}
 use Rattle.step_entries.specs.Entries.{Act, Entry}
 use Rattle.flow_pictures.specs.Cells.{rows_and_next}
 use Rattle.flow_pictures.specs.declared.spans.CellSpan.{CellSpan}
-use Rattle.flow_pictures.specs.Choice.{acts_in, choice, drawn}
-use Rattle.std.specs.Prelude.{Bool, Vec, not}
-use Rattle.std.specs.Global.{Global}
-use Rattle.flow_pictures.specs.Marks.{Arrow, Node, arrows, aside_of, nodes, values}
+use Rattle.flow_pictures.specs.Choice.{acts_in, drawn}
+use Rattle.flow_pictures.specs.Marks.{Arrow, Node, arrows, nodes, values}
 use Rattle.flow_pictures.specs.Values.{value_behind}
 
 -- ---- the statements and the cells of a picture
 
 abbrev pub statements : List Entry → (from to : ℕ) → List (ℕ × Entry)
-statements es from to = drawn (choice from to es) es
+statements es from to = drawn from to es
+
+-- those that these statements touched
+abbrev pub found : List CellSpan → List Entry → (from to : ℕ) → List ℕ
+found only es from to = rows_and_next only (map (λ p. p.1) (statements es from to))
 
 abbrev pub cells : List CellSpan → List Entry → (from to : ℕ) → List ℕ
-cells only es from to = take 64 (rows_and_next only (choice from to es) es)
+cells only es from to = take 64 (found only es from to)
 
 -- column 1 + i is of this statement
 pub record IsColumn (ps : List (ℕ × Entry)) (i : ℕ) (p : ℕ × Entry) : Type 0 where
@@ -31,18 +33,18 @@ nodes_from opening es rows j [] = []
 nodes_from opening es rows j (p ∷ ps) =
     nodes rows j (value_behind opening es p.0) (acts_in p.1) ++ nodes_from opening es rows (j + 1) ps
 
-abbrev pub arrows_from : List (Vec Bool Global) → List ℕ → (j : ℕ) → List (ℕ × Entry) → List Arrow
-arrows_from asides rows j [] = []
-arrows_from asides rows j (p ∷ ps) = arrows rows j (aside_of asides p.0) (acts_in p.1) ++ arrows_from asides rows (j + 1) ps
+abbrev pub arrows_from : (Entry → List Bool) → List ℕ → (j : ℕ) → List (ℕ × Entry) → List Arrow
+arrows_from aside rows j [] = []
+arrows_from aside rows j (p ∷ ps) = arrows rows j (aside p.1) (acts_in p.1) ++ arrows_from aside rows (j + 1) ps
 
 abbrev pub nodes_of : List CellSpan → List ℤ → List Entry → (from to : ℕ) → List Node
 nodes_of only opening es from to = nodes_from opening es (cells only es from to) 1 (statements es from to)
 
-abbrev pub arrows_of : List CellSpan → List (Vec Bool Global) → List Entry → (from to : ℕ) → List Arrow
-arrows_of only asides es from to = arrows_from asides (cells only es from to) 1 (statements es from to)
+abbrev pub arrows_of : List CellSpan → (Entry → List Bool) → List Entry → (from to : ℕ) → List Arrow
+arrows_of only aside es from to = arrows_from aside (cells only es from to) 1 (statements es from to)
 
 -- a processor of the statement in its column read the cell where a line begins, and wrote the one where it ends
-pub record IsCarried (asides : List (Vec Bool Global)) (j : ℕ) (ps : List (ℕ × Entry)) (l : Arrow) : Type 0 where
+pub record IsCarried (aside : Entry → List Bool) (j : ℕ) (ps : List (ℕ × Entry)) (l : Arrow) : Type 0 where
   pub place : ℕ
   pub statement : ℕ × Entry
   pub within : place < length ps
@@ -53,7 +55,7 @@ pub record IsCarried (asides : List (Vec Bool Global)) (j : ℕ) (ps : List (ℕ
   pub reads : Contains act.reads l.from
   pub writes : act.write ≡ Some l.to
   -- and it is dashed exactly where no processor of it read that cell for the value that it wrote there
-  pub dashed : l.dashed ≡ not (values (aside_of asides statement.0) (acts_in statement.1) l.from (Some l.to))
+  pub dashed : l.dashed ≡ not (values (aside statement.1) (acts_in statement.1) l.from (Some l.to))
 
 -- a text stands within another one
 pub record StandsIn (part whole : List ℕ) : Type 0 where

@@ -2,6 +2,8 @@ pub mod Choice
 pub mod Cells
 pub mod Values
 pub mod Places
+pub mod Drawing
+pub mod Taken
 pub mod Marks
 pub mod Texts
 pub mod Columns

@@ -1,9 +1,9 @@
 -- The marks of a column: what a statement wrote, from which cells that was computed, and what it read alone.
-use Rattle.std.specs.Prelude.{ℕ, ◌+◌, ◌-◌, nat_eq, Bool, true, false, not, ◌&&◌, ◌||◌, List, [], ◌∷◌, Option, Some, None, ℤ, map, Vec}
-use Rattle.std.specs.Prelude.{slice_get, slice_index_or}
-use Rattle.std.specs.Global.{Global}
-use Rattle.std.specs.List.{filter, flat_map, list_any}
+use Rattle.std.specs.Prelude.{ℕ, ◌+◌, nat_eq, Bool, true, false, not, ◌&&◌, ◌||◌, List, [], ◌∷◌, Option, Some, None, ℤ, map}
+use Rattle.std.specs.Prelude.{slice_index_or}
+use Rattle.std.specs.List.{filter, flat_map, list_any, position_or_len}
 use Rattle.step_entries.specs.Entries.{Act}
+use Rattle.flow_pictures.specs.Values.{value_at}
 
 -- a cell that was written, with its value behind the statement
 pub record Node : Type 0 where
@@ -46,16 +46,13 @@ carries_one a from to = is_written a.write to && has_read a.reads from
 abbrev pub carries : List Act → (from : ℕ) → (to : Option ℕ) → Bool
 carries acts from to = list_any (λ a. carries_one a from to) acts
 
+-- what is told of the first one that wrote it, by what is told of each
+abbrev pub value_in : List Act → (written : List ℤ) → (cell : ℕ) → ℤ
+value_in acts written cell = value_at written (position_or_len (λ a. is_written a.write (Some cell)) acts)
+
 -- ---- which reads of a statement stand in a subscript: `aside` tells it of each, in the order of evaluation
 
--- those of the statement of that number; nothing is known behind the end
-abbrev pub known : Option (Vec Bool Global) → List Bool
-known None = []
-known (Some aside) = aside.items
-
-abbrev pub aside_of : List (Vec Bool Global) → (number : ℕ) → List Bool
-aside_of asides number = known (slice_get asides (number - 1))
-
+-- nothing is known behind the end
 abbrev pub stands_aside : List Bool → (k : ℕ) → Bool
 stands_aside aside k = slice_index_or aside k false
 

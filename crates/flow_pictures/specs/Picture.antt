@@ -1,18 +1,15 @@
 -- The picture of what passes through shared memory in a run, as SVG 1.1: a row for each cell, and a column for each statement.
 use Rattle.std.specs.Prelude.{ℕ, ◌+◌, ◌-◌, min, nat_le, nat_lt, ◌&&◌, if◌then◌else◌, List, [], ◌∷◌, ◌++◌, ℤ, length, take, codes, decimal}
-use Rattle.std.specs.Prelude.{Bool, Vec}
-use Rattle.std.specs.Global.{Global}
+use Rattle.std.specs.Prelude.{Bool}
 use Rattle.pram_model.specs.Layout.{SharedEntry, total_size}
 use Rattle.program_texts.specs.Shown.{cell_text}
 use Rattle.step_entries.specs.Entries.{Entry}
 use Rattle.flow_pictures.specs.declared.spans.CellSpan.{CellSpan}
-use Rattle.flow_pictures.specs.declared.choice.Choice.{Choice}
 use Rattle.flow_pictures.specs.Cells.{rows_and_next}
-use Rattle.flow_pictures.specs.Choice.{asked, choice, drawn, number_at}
+use Rattle.flow_pictures.specs.Drawing.{Column, Drawing, drawing, entries_of}
 use Rattle.flow_pictures.specs.Places.{picture_height, picture_width, y_at}
 use Rattle.flow_pictures.specs.Columns.{column_text}
 use Rattle.flow_pictures.specs.Texts.{line_front, value_text}
-use Rattle.flow_pictures.specs.Values.{value_behind}
 
 abbrev pub opening_text : (wide tall : ℕ) → List ℕ
 opening_text wide tall = codes "<svg xmlns='http://www.w3.org/2000/svg' version='1.1' width='" ++ (decimal wide
@@ -86,10 +83,9 @@ row_heads layout wide value k (c ∷ cells) = row_head layout wide (y_at k) c (v
 
 -- ---- columns, counted from j on
 
-abbrev pub columns : List SharedEntry → List ℕ → List (Vec Bool Global) → List ℤ → List Entry → List ℕ → (j : ℕ) → List (ℕ × Entry) → List ℕ
-columns layout text asides opening es rows j [] = []
-columns layout text asides opening es rows j (p ∷ ps) =
-    column_text layout text asides rows j p.0 (value_behind opening es p.0) p.1 ++ columns layout text asides opening es rows (j + 1) ps
+abbrev pub columns : List SharedEntry → List ℕ → (rows : List ℕ) → (j : ℕ) → List Column → List ℕ
+columns layout text rows j [] = []
+columns layout text rows j (c ∷ cs) = column_text layout text rows j c ++ columns layout text rows (j + 1) cs
 
 -- ---- all of it
 
@@ -99,33 +95,29 @@ head layout only n from to columns touching rows found = statement_line from to 
     ++ (cells_text layout only rows found ++ key_text)
 
 -- the values are those before the first statement that is drawn
-abbrev pub rows_text : List SharedEntry → (wide : ℕ) → List ℤ → List Entry → Choice → List ℕ → List ℕ
-rows_text layout wide opening es c rows = row_heads layout wide (value_behind opening es (number_at c es 0 - 1)) 0 rows
+abbrev pub table : List SharedEntry → List ℕ → (wide : ℕ) → (before : ℕ → ℤ) → List Column → (rows : List ℕ) → List ℕ
+table layout text wide before cs rows =
+    row_heads layout wide before 0 rows ++ (columns layout text rows 1 cs ++ codes "</svg>\n")
 
-abbrev pub table : List SharedEntry → List ℕ → List (Vec Bool Global) → List ℤ → List Entry → Choice → (wide : ℕ) → List ℕ → List ℕ
-table layout text asides opening es c wide rows =
-    rows_text layout wide opening es c rows ++ (columns layout text asides opening es rows 1 (drawn c es) ++ codes "</svg>\n")
+-- ---- by the cells that were found
 
--- ---- by a choice of statements, and the cells that were found
+abbrev pub size_text : Drawing → (found : List ℕ) → List ℕ
+size_text d found = opening_text (picture_width (length d.columns)) (picture_height (length (take 64 found)))
 
-abbrev pub size_text : List Entry → Choice → (found : List ℕ) → List ℕ
-size_text es c found = opening_text (picture_width (length (drawn c es))) (picture_height (length (take 64 found)))
+abbrev pub counts_text : List SharedEntry → List CellSpan → Drawing → (found : List ℕ) → List ℕ
+counts_text layout only d found =
+    head layout only d.count d.from d.to (length d.columns) d.touching (length (take 64 found)) (length found)
 
-abbrev pub counts_text : List SharedEntry → List CellSpan → List Entry → (from to : ℕ) → Choice → (found : List ℕ) → List ℕ
-counts_text layout only es from to c found =
-    head layout only (length es) from to (length (drawn c es)) (length (drawn (asked from to es) es)) (length (take 64 found))
-    (length found)
+abbrev pub drawn_text : List SharedEntry → List ℕ → Drawing → (found : List ℕ) → List ℕ
+drawn_text layout text d found =
+    table layout text (picture_width (length d.columns)) d.before d.columns (take 64 found)
 
-abbrev pub drawn_text : List SharedEntry → List ℕ → List (Vec Bool Global) → List ℤ → List Entry → Choice → (found : List ℕ) → List ℕ
-drawn_text layout text asides opening es c found =
-    table layout text asides opening es c (picture_width (length (drawn c es))) (take 64 found)
+abbrev pub picture_of : List SharedEntry → List ℕ → List CellSpan → Drawing → (found : List ℕ) → List ℕ
+picture_of layout text only d found = size_text d found ++ (counts_text layout only d found ++ drawn_text layout text d found)
 
-abbrev pub picture_of : List SharedEntry → List ℕ → List (Vec Bool Global) → List ℤ → List Entry → List CellSpan → (from to : ℕ) →
-    Choice → (found : List ℕ) → List ℕ
-picture_of layout text asides opening es only from to c found =
-    size_text es c found ++ (counts_text layout only es from to c found ++ drawn_text layout text asides opening es c found)
+abbrev pub picture : List SharedEntry → List ℕ → List CellSpan → Drawing → List ℕ
+picture layout text only d = picture_of layout text only d (rows_and_next only (entries_of d.columns))
 
--- of the statements from one number to another
-abbrev pub flow : List SharedEntry → List ℕ → List (Vec Bool Global) → List ℤ → List Entry → List CellSpan → (from to : ℕ) → List ℕ
-flow layout text asides opening es only from to =
-    picture_of layout text asides opening es only from to (choice from to es) (rows_and_next only (choice from to es) es)
+-- of the statements of a run from one number to another
+abbrev pub flow : List SharedEntry → List ℕ → (Entry → List Bool) → List ℤ → List Entry → List CellSpan → (from to : ℕ) → List ℕ
+flow layout text aside opening es only from to = picture layout text only (drawing aside opening es from to)

@@ -4,10 +4,11 @@ use Rattle.std.specs.Prelude.{codes, decimal, Bool, true, false}
 use Rattle.std.specs.Fmt.{signed_decimal}
 use Rattle.std.specs.List.{flat_map}
 use Rattle.svg_texts.specs.Letters.{letters}
-use Rattle.step_entries.specs.Entries.{Act, Entry}
+use Rattle.step_entries.specs.Entries.{Act}
 use Rattle.text_places.specs.Places.{line_text}
 use Rattle.flow_pictures.specs.Choice.{acts_in}
-use Rattle.flow_pictures.specs.Marks.{Arrow, Node, Reading, arrows, nodes, readings}
+use Rattle.flow_pictures.specs.Drawing.{Column}
+use Rattle.flow_pictures.specs.Marks.{Arrow, Node, Reading, arrows, nodes, readings, value_in}
 use Rattle.flow_pictures.specs.Places.{x_of, y_of}
 
 -- ---- texts of a program
@@ -86,8 +87,8 @@ abbrev pub marks_of : List ℕ → (column : ℕ) → List Bool → (ℕ → ℤ
 marks_of rows column aside value acts = flat_map (arrow_text rows) (arrows rows column aside acts)
     ++ (flat_map (node_text rows) (nodes rows column value acts) ++ flat_map (reading_text rows) (readings rows column acts))
 
-abbrev pub marks_text : List ℕ → (column : ℕ) → List Bool → (ℕ → ℤ) → Entry → List ℕ
-marks_text rows column aside value e = marks_of rows column aside value (acts_in e)
+abbrev pub marks_text : List ℕ → (column : ℕ) → Column → List ℕ
+marks_text rows column c = marks_of rows column c.aside (value_in (acts_in c.entry) c.written) (acts_in c.entry)
 
 -- the beginning of a line of text
 abbrev pub line_front : (y : ℕ) → List ℕ

@@ -1,4 +1,4 @@
--- The value of a cell behind some statements.
+-- The values of cells behind some statements.
 use Rattle.std.specs.Prelude.{ℕ, nat_eq, if◌then◌else◌, List, ℤ, pos, slice_index_or, take}
 use Rattle.std.specs.List.{fold}
 use Rattle.step_entries.specs.declared.change.Change.{Change}
@@ -12,10 +12,14 @@ changed cell v d = if nat_eq d.cell cell then d.after else v
 abbrev pub value_after : (cell : ℕ) → ℤ → Entry → ℤ
 value_after cell v e = fold (changed cell) v (changes_in e)
 
--- the first cells have the opening values, and the others 0
-abbrev pub opening_value : List ℤ → (cell : ℕ) → ℤ
-opening_value opening cell = slice_index_or opening cell (pos 0)
+-- the first cells have these values, and the others 0
+abbrev pub value_at : List ℤ → (cell : ℕ) → ℤ
+value_at values cell = slice_index_or values cell (pos 0)
 
--- behind the first k statements
+-- behind all of these statements, by the values before the first one
+abbrev pub value_of : List ℤ → List Entry → (cell : ℕ) → ℤ
+value_of opening es cell = fold (value_after cell) (value_at opening cell) es
+
+-- behind the first k of them
 abbrev pub value_behind : List ℤ → List Entry → (k cell : ℕ) → ℤ
-value_behind opening es k cell = fold (value_after cell) (opening_value opening cell) (take k es)
+value_behind opening es k = value_of opening (take k es)

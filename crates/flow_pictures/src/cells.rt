@@ -1,11 +1,12 @@
 //! The cells that statements touch.
 
-ghost use Rattle.std.specs.Prelude.{◌≡◌, if◌then◌else◌, map};
+ghost use Rattle.std.specs.Prelude.{◌≡◌, map};
 ghost use Rattle.std.specs.List.{flat_map, fold};
 ghost use Rattle.step_entries.specs.Entries.{act_is, entry_is};
 ghost use Rattle.flow_pictures.specs.Cells as spec;
+ghost use Rattle.flow_pictures.specs.Drawing.{column_is, entries_of};
 
-use crate::choice::{Choice, is_drawn};
+use crate::column::Column;
 use crate::entries::acts_in;
 use crate::spans::{CellSpan, is_chosen};
 use pram_values::Place;
@@ -119,39 +120,14 @@ fn with_entry(only: &[CellSpan], start: u64, best: Option<u32>, entry: &Entry) -
     )
 }
 
-// The same where a statement is drawn.
-fn with_entry_if(
-    only: &[CellSpan],
-    start: u64,
-    best: Option<u32>,
-    entry: &Entry,
-    drawn: bool,
-) -> Option<u32>
-    ensures { result ≡ if drawn then fold (spec.nearer_if only.now start) best (spec.entry_cells (entry_is entry.now)) else best }
-{
-    if drawn {
-        with_entry(only, start, best, entry)
-    } else {
-        best
-    }
-}
-
-/// The least cell that is touched, from one on.
+/// The least cell that some statements touch, from one on.
 #[tactic(auto, using(crate::proofs::Least::entries_start, crate::proofs::Least::entries_go, crate::proofs::Least::entries_end))]
-pub(crate) fn least_from(
-    only: &[CellSpan],
-    start: u64,
-    choice: Choice,
-    entries: &[Entry],
-) -> Option<u32>
-    ensures { result ≡ spec.least_from start (spec.touched only.now choice (map entry_is entries.now)) }
+pub(crate) fn least_from(only: &[CellSpan], start: u64, columns: &[Column]) -> Option<u32>
+    ensures { result ≡ spec.least_from start (spec.touched only.now (entries_of (map column_is columns.now))) }
 {
     let mut least = None;
-    let mut number = 0;
-    for entry in entries {
-        number += 1;
-        let drawn = is_drawn(choice, number, entry);
-        least = with_entry_if(only, start, least, entry, drawn);
+    for column in columns {
+        least = with_entry(only, start, least, &column.entry);
     }
     least
 }

@@ -1,20 +1,16 @@
 //! The columns of statements.
 
-ghost use Rattle.std.specs.Prelude.{◌≡◌, ◌≤◌, ◌<◌, ◌+◌, ◌^◌, [], if◌then◌else◌, length, map};
+ghost use Rattle.std.specs.Prelude.{◌≡◌, ◌<◌, ◌^◌, map};
 ghost use Rattle.text_out.specs.Out.{Writes};
 ghost use Rattle.step_entries.specs.Entries.{entry_is};
-ghost use Rattle.flow_pictures.specs.Choice as choosing;
+ghost use Rattle.flow_pictures.specs.Drawing.{column_is};
 ghost use Rattle.flow_pictures.specs.Picture as picture;
 ghost use Rattle.flow_pictures.specs.Columns as spec;
-ghost use Rattle.flow_pictures.specs.Marks as marks;
-ghost use Rattle.flow_pictures.specs.Texts as texts;
-ghost use Rattle.flow_pictures.specs.Values as values;
 
-use crate::choice::{Choice, counted, is_drawn};
+use crate::column::Column;
 use crate::entries::location_in;
 use crate::faults::write_fault_part;
 use crate::letters::{source_at, write_source};
-use crate::links::aside_of;
 use crate::marks::write_marks;
 use crate::measure::{x_of, y_at};
 use itoa::Buffer;
@@ -116,80 +112,21 @@ fn write_column_fault<W: Out>(
     write_fault_part(out, layout, rows, x_of(column), bottom(rows), entry)
 }
 
-// The marks of the statement of that number, by which of its reads stand in a subscript.
-fn write_marks_by<W: Out>(
-    out: &mut W,
-    rows: &[u32],
-    column: usize,
-    asides: &[Vec<bool>],
-    opening: &[i64],
-    entries: &[Entry],
-    number: usize,
-    entry: &Entry,
-) -> Result<(), WriteFault>
-    requires counted { (W.Out.state out.old).failures < 2 ^ 63 }
-    requires first { 1 ≤ number }
-    requires within { number ≤ length entries.now }
-    ensures written { Writes (W.Out.state out.old) (W.Out.state out.new)
-        (texts.marks_text rows.now column (marks.aside_of asides.now number)
-        (values.value_behind opening.now (map entry_is entries.now) number) (entry_is entry.now)) result }
-{
-    let aside = aside_of(asides, number);
-    write_marks(out, rows, column, aside, opening, entries, number, entry)
-}
-
 fn write_column<W: Out>(
     out: &mut W,
     layout: &Layout,
     text: &[u8],
-    asides: &[Vec<bool>],
-    opening: &[i64],
-    entries: &[Entry],
     rows: &[u32],
     column: usize,
-    number: usize,
-    entry: &Entry,
+    drawn: &Column,
 ) -> Result<(), WriteFault>
     requires counted { (W.Out.state out.old).failures < 2 ^ 63 }
-    requires first { 1 ≤ number }
-    requires within { number ≤ length entries.now }
     ensures written { Writes (W.Out.state out.old) (W.Out.state out.new)
-        (spec.column_text layout.now text.now asides.now rows.now column number
-        (values.value_behind opening.now (map entry_is entries.now) number) (entry_is entry.now)) result }
+        (spec.column_text layout.now text.now rows.now column (column_is drawn.now)) result }
 {
-    write_heading(out, text, column, number, entry)?;
-    write_marks_by(out, rows, column, asides, opening, entries, number, entry)?;
-    write_column_fault(out, layout, rows, column, entry)
-}
-
-// The column of a statement, where it is drawn.
-fn write_column_if<W: Out>(
-    out: &mut W,
-    layout: &Layout,
-    text: &[u8],
-    asides: &[Vec<bool>],
-    opening: &[i64],
-    entries: &[Entry],
-    rows: &[u32],
-    column: usize,
-    number: usize,
-    entry: &Entry,
-    drawn: bool,
-) -> Result<(), WriteFault>
-    requires counted { (W.Out.state out.old).failures < 2 ^ 63 }
-    requires first { 1 ≤ number }
-    requires within { number ≤ length entries.now }
-    ensures written { Writes (W.Out.state out.old) (W.Out.state out.new)
-        (if drawn then spec.column_text layout.now text.now asides.now rows.now column
-        number (values.value_behind opening.now (map entry_is entries.now) number) (entry_is entry.now) else []) result }
-{
-    if drawn {
-        write_column(
-            out, layout, text, asides, opening, entries, rows, column, number, entry,
-        )
-    } else {
-        Ok(())
-    }
+    write_heading(out, text, column, drawn.number, &drawn.entry)?;
+    write_marks(out, rows, column, drawn)?;
+    write_column_fault(out, layout, rows, column, &drawn.entry)
 }
 
 /// Writes the columns of the statements that are drawn.
@@ -197,35 +134,17 @@ pub(crate) fn write_columns<W: Out>(
     out: &mut W,
     layout: &Layout,
     text: &[u8],
-    asides: &[Vec<bool>],
-    opening: &[i64],
-    entries: &[Entry],
-    choice: Choice,
     rows: &[u32],
+    columns: &[Column],
 ) -> Result<(), WriteFault>
     requires counted { (W.Out.state out.old).failures < 2 ^ 63 }
-    ensures written { Writes (W.Out.state out.old) (W.Out.state out.new) (picture.columns layout.now text.now asides.now opening.now
-        (map entry_is entries.now) rows.now 1 (choosing.drawn choice (map entry_is entries.now))) result }
+    ensures written { Writes (W.Out.state out.old) (W.Out.state out.new)
+        (picture.columns layout.now text.now rows.now 1 (map column_is columns.now)) result }
 {
     let mut before = 0usize;
-    let mut number = 0usize;
-    for entry in entries {
-        number += 1;
-        let drawn = is_drawn(choice, number, entry);
-        write_column_if(
-            out,
-            layout,
-            text,
-            asides,
-            opening,
-            entries,
-            rows,
-            before + 1,
-            number,
-            entry,
-            drawn,
-        )?;
-        before = counted(before, drawn);
+    for column in columns {
+        write_column(out, layout, text, rows, before + 1, column)?;
+        before += 1;
     }
     Ok(())
 }

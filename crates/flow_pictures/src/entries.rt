@@ -71,15 +71,3 @@ pub(crate) fn touches(entry: &Entry) -> bool
 {
     is_fault(entry) || any_access(acts_in(entry))
 }
-
-/// Whether one of them faulted.
-pub(crate) fn any_fault(entries: &[Entry]) -> bool
-    ensures { result ≡ list_any spec.is_fault (map entry_is entries.now) }
-{
-    for entry in entries {
-        if is_fault(entry) {
-            return true;
-        }
-    }
-    false
-}

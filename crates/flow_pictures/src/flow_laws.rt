@@ -1,16 +1,14 @@
 //! The laws of this crate.
 
-ghost use Rattle.std.specs.Prelude.{◌≡◌, ℕ, ◌+◌, ◌<◌, ◌≤◌, ℤ, List, Some, length, slice_index_or, true};
-ghost use Rattle.std.specs.Prelude.{Bool, Vec};
-ghost use Rattle.std.specs.Global.{Global};
+ghost use Rattle.std.specs.Prelude.{◌≡◌, ℕ, ◌+◌, ◌-◌, ◌<◌, ◌≤◌, ◌++◌, ℤ, Bool, List, Some, length, map, slice_index_or, true};
 ghost use Rattle.std.specs.List.{Contains};
 ghost use Rattle.pram_model.specs.Layout.{SharedEntry};
 ghost use Rattle.step_entries.specs.Entries.{Act, Entry};
 ghost use Rattle.flow_pictures.specs.declared.spans.CellSpan.{CellSpan};
-ghost use Rattle.flow_pictures.specs.Cells.{is_chosen, rows_and_next, touched};
-ghost use Rattle.flow_pictures.specs.Choice.{acts_in, asked, choice, drawn, is_fault, room};
-ghost use Rattle.flow_pictures.specs.Laws.{IsCarried, IsColumn, StandsIn, arrows_of, cells, nodes_of, statements};
-ghost use Rattle.flow_pictures.specs.Marks.{Arrow, Node, arrow_by, aside_of, node};
+ghost use Rattle.flow_pictures.specs.Cells.{is_chosen, touched};
+ghost use Rattle.flow_pictures.specs.Choice.{acts_in, faulted, is_fault, ran, touching};
+ghost use Rattle.flow_pictures.specs.Laws.{IsCarried, IsColumn, StandsIn, arrows_of, cells, found, nodes_of, statements};
+ghost use Rattle.flow_pictures.specs.Marks.{Arrow, Node, arrow_by, node};
 ghost use Rattle.flow_pictures.specs.Picture.{flow};
 ghost use Rattle.flow_pictures.specs.Texts.{arrow_text, node_text};
 ghost use Rattle.flow_pictures.specs.Values.{value_behind};
@@ -21,38 +19,44 @@ pub fn each_write_is_a_node()
     ensures node { (only : List CellSpan) (opening : List ℤ) (es : List Entry) (from to i : ℕ) (p : ℕ × Entry) (a : Act) (cell : ℕ) →
         IsColumn (statements es from to) i p → Contains (acts_in p.1) a → a.write ≡ Some cell → Contains (cells only es from to) cell →
         Contains (nodes_of only opening es from to) (node (1 + i) (value_behind opening es p.0) cell) }
-    ensures drawn { (only : List CellSpan) (layout : List SharedEntry) (text : List ℕ) (asides : List (Vec Bool Global))
+    ensures drawn { (only : List CellSpan) (layout : List SharedEntry) (text : List ℕ) (aside : Entry → List Bool)
         (opening : List ℤ) (es : List Entry) (from to : ℕ) (n : Node) →
         Contains (nodes_of only opening es from to) n →
-        StandsIn (node_text (cells only es from to) n) (flow layout text asides opening es only from to) }
+        StandsIn (node_text (cells only es from to) n) (flow layout text aside opening es only from to) }
 {}
 
 /// From each cell that a processor read comes a line to the cell that it wrote, where both have a row; each line stands in the picture; and
 /// there is no other: a line of column 1 + i begins at a cell that a processor of that statement read, and ends at the one that it wrote;
 /// and it is dashed exactly where no processor of it read that cell for the value that it wrote there, but for subscripts alone.
 pub fn lines_come_from_reads()
-    ensures line { (only : List CellSpan) (asides : List (Vec Bool Global)) (es : List Entry) (from to i : ℕ) (p : ℕ × Entry)
+    ensures line { (only : List CellSpan) (aside : Entry → List Bool) (es : List Entry) (from to i : ℕ) (p : ℕ × Entry)
         (a : Act) (source cell : ℕ) →
         IsColumn (statements es from to) i p → Contains (acts_in p.1) a → Contains a.reads source → a.write ≡ Some cell →
         Contains (cells only es from to) source → Contains (cells only es from to) cell →
-        Contains (arrows_of only asides es from to) (arrow_by (1 + i) (aside_of asides p.0) (acts_in p.1) cell source) }
-    ensures drawn { (only : List CellSpan) (layout : List SharedEntry) (text : List ℕ) (asides : List (Vec Bool Global))
-        (opening : List ℤ) (es : List Entry) (from to : ℕ) (l : Arrow) → Contains (arrows_of only asides es from to) l →
-        StandsIn (arrow_text (cells only es from to) l) (flow layout text asides opening es only from to) }
-    ensures carried { (only : List CellSpan) (asides : List (Vec Bool Global)) (es : List Entry) (from to : ℕ) (l : Arrow) →
-        Contains (arrows_of only asides es from to) l → IsCarried asides 1 (statements es from to) l }
+        Contains (arrows_of only aside es from to) (arrow_by (1 + i) (aside p.1) (acts_in p.1) cell source) }
+    ensures drawn { (only : List CellSpan) (layout : List SharedEntry) (text : List ℕ) (aside : Entry → List Bool)
+        (opening : List ℤ) (es : List Entry) (from to : ℕ) (l : Arrow) → Contains (arrows_of only aside es from to) l →
+        StandsIn (arrow_text (cells only es from to) l) (flow layout text aside opening es only from to) }
+    ensures carried { (only : List CellSpan) (aside : Entry → List Bool) (es : List Entry) (from to : ℕ) (l : Arrow) →
+        Contains (arrows_of only aside es from to) l → IsCarried aside 1 (statements es from to) l }
 {}
 
-/// Nothing is left out where it has room: a statement that faulted has a column where it is asked for, fewer than 64 statements that touch
-/// shared memory (63 where one faulted) have all a column, and no more than 64 cells that these touch and that are chosen have all a row. And
+/// Nothing is left out where it has room: a statement that faulted has a column where it is asked for; where no more than 64 statements
+/// touch shared memory, those that faulted among them, all have a column, in the order of their numbers, with faults at the end; and no
+/// statement has one that isn't asked for or touches none. No more than 64 cells that these touch and that are chosen have all a row, and
 /// none has that isn't chosen.
 pub fn what_has_room_is_drawn()
     ensures fault { (es : List Entry) (from to i : ℕ) (e : Entry) → i < length es → slice_index_or es i e ≡ e → is_fault e ≡ true →
         from ≤ 1 + i → 1 + i ≤ to → Contains (statements es from to) (1 + i, e) }
-    ensures statements { (es : List Entry) (from to : ℕ) → length (drawn (asked from to es) es) < room es →
-        statements es from to ≡ drawn (asked from to es) es }
-    ensures cells { (only : List CellSpan) (es : List Entry) (from to cell : ℕ) → Contains (touched only (choice from to es) es) cell →
-        length (rows_and_next only (choice from to es) es) ≤ 64 → Contains (cells only es from to) cell }
+    ensures statements { (es : List Entry) (from to : ℕ) → length (ran from to es) ≤ 64 - length (faulted from to es) →
+        statements es from to ≡ ran from to es ++ faulted from to es }
+    ensures touching { (es : List Entry) (from to : ℕ) (p : ℕ × Entry) → length (touching from to es) ≤ 64 →
+        Contains (touching from to es) p → Contains (statements es from to) p }
+    ensures no_other { (es : List Entry) (from to : ℕ) (p : ℕ × Entry) → Contains (statements es from to) p →
+        Contains (touching from to es) p }
+    ensures cells { (only : List CellSpan) (es : List Entry) (from to cell : ℕ) →
+        Contains (touched only (map (λ p. p.1) (statements es from to))) cell → length (found only es from to) ≤ 64 →
+        Contains (cells only es from to) cell }
     ensures chosen { (only : List CellSpan) (es : List Entry) (from to cell : ℕ) → Contains (cells only es from to) cell →
         is_chosen only cell ≡ true }
 {}

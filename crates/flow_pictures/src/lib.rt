@@ -4,9 +4,12 @@
 mod asides;
 mod cells;
 mod choice;
+mod column;
 mod columns;
+mod drawing;
 mod entries;
 mod faults;
+mod flow;
 mod flow_laws;
 mod head;
 mod letters;
@@ -20,6 +23,9 @@ mod spans;
 mod values;
 
 pub use asides::asides_of;
+pub use column::Column;
+pub use drawing::Drawing;
+pub use flow::Flow;
 pub use flow_laws::{each_write_is_a_node, lines_come_from_reads, what_has_room_is_drawn};
 pub use picture::write_flow;
 pub use spans::CellSpan;

@@ -1,9 +1,11 @@
 //! What the processors of a statement did at a cell.
 
-ghost use Rattle.std.specs.Prelude.{◌≡◌, ◌≤◌, Some, map};
+ghost use Rattle.std.specs.Prelude.{◌≡◌, Some, map};
+ghost use Rattle.std.specs.List.{position_or_len};
 ghost use Rattle.step_entries.specs.Entries.{act_is};
 ghost use Rattle.flow_pictures.specs.Marks as spec;
 
+use crate::values::value_at;
 use step_entries::Act;
 
 fn is_written(write: Option<u32>, to: Option<u32>) -> bool
@@ -99,13 +101,20 @@ pub(crate) fn values(aside: &[bool], acts: &[Act], from: u32, to: Option<u32>) -
     false
 }
 
-/// Which reads of the statement of that number stand in a subscript.
-pub(crate) fn aside_of(asides: &[Vec<bool>], number: usize) -> &[bool]
-    requires { 1 ≤ number }
-    ensures { result.now ≡ spec.aside_of asides.now number }
+// The place of the first act that wrote a cell.
+fn first_writer(acts: &[Act], cell: u32) -> usize
+    ensures { result ≡ position_or_len (λ a. spec.is_written a.write (Some cell)) (map act_is acts.now) }
 {
-    match asides.get(number - 1) {
-        Some(aside) => aside.as_slice(),
-        None => &[],
+    let mut at = 0;
+    while at < acts.len() && !is_written(acts[at].write, Some(cell)) {
+        at += 1;
     }
+    at
+}
+
+/// What is told of the first one that wrote a cell, by what is told of each.
+pub(crate) fn value_in(acts: &[Act], written: &[i64], cell: u32) -> i64
+    ensures { result ≡ spec.value_in (map act_is acts.now) written.now cell }
+{
+    value_at(written, first_writer(acts, cell))
 }

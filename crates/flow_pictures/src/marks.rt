@@ -1,19 +1,19 @@
 //! The marks of a column.
 
-ghost use Rattle.std.specs.Prelude.{◌≡◌, ◌≤◌, ◌<◌, ◌^◌, [], None, Some, if◌then◌else◌, length, map};
+ghost use Rattle.std.specs.Prelude.{◌≡◌, ◌<◌, ◌^◌, [], None, Some, if◌then◌else◌, map};
 ghost use Rattle.std.specs.List.{flat_map};
 ghost use Rattle.text_out.specs.Out.{Writes};
-ghost use Rattle.step_entries.specs.Entries.{act_is, entry_is};
+ghost use Rattle.step_entries.specs.Entries.{act_is};
+ghost use Rattle.flow_pictures.specs.Drawing.{column_is};
 ghost use Rattle.flow_pictures.specs.Marks as spec;
 ghost use Rattle.flow_pictures.specs.Texts as texts;
-ghost use Rattle.flow_pictures.specs.Values as cell_values;
 
+use crate::column::Column;
 use crate::entries::acts_in;
-use crate::links::{carries, values, writes};
+use crate::links::{carries, value_in, values, writes};
 use crate::measure::{value_width, x_of, y_of};
 use crate::shapes::{write_box, write_line, write_ring};
-use crate::values::value_behind;
-use step_entries::{Act, Entry};
+use step_entries::Act;
 use text_out::{Out, WriteFault};
 
 // A cell that was written.
@@ -38,20 +38,17 @@ fn write_node_if<W: Out>(
     rows: &[u32],
     column: usize,
     cell: u32,
-    opening: &[i64],
-    entries: &[Entry],
-    number: usize,
+    written: &[i64],
     acts: &[Act],
 ) -> Result<(), WriteFault>
     requires counted { (W.Out.state out.old).failures < 2 ^ 63 }
-    requires within { number ≤ length entries.now }
     ensures written { Writes (W.Out.state out.old) (W.Out.state out.new)
         (if spec.writes (map act_is acts.now) cell
-        then texts.node_text rows.now (spec.node column (cell_values.value_behind opening.now (map entry_is entries.now) number) cell)
+        then texts.node_text rows.now (spec.node column (spec.value_in (map act_is acts.now) written.now) cell)
         else []) result }
 {
     if writes(acts, cell) {
-        let value = value_behind(opening, entries, number, cell as usize);
+        let value = value_in(acts, written, cell);
         write_node(out, rows, column, cell, &value)
     } else {
         Ok(())
@@ -62,19 +59,16 @@ fn write_nodes<W: Out>(
     out: &mut W,
     rows: &[u32],
     column: usize,
-    opening: &[i64],
-    entries: &[Entry],
-    number: usize,
+    written: &[i64],
     acts: &[Act],
 ) -> Result<(), WriteFault>
     requires counted { (W.Out.state out.old).failures < 2 ^ 63 }
-    requires within { number ≤ length entries.now }
     ensures written { Writes (W.Out.state out.old) (W.Out.state out.new) (flat_map (texts.node_text rows.now)
-        (spec.nodes rows.now column (cell_values.value_behind opening.now (map entry_is entries.now) number)
+        (spec.nodes rows.now column (spec.value_in (map act_is acts.now) written.now)
         (map act_is acts.now))) result }
 {
     for cell in rows {
-        write_node_if(out, rows, column, *cell, opening, entries, number, acts)?;
+        write_node_if(out, rows, column, *cell, written, acts)?;
     }
     Ok(())
 }
@@ -250,45 +244,29 @@ fn write_acts<W: Out>(
     rows: &[u32],
     column: usize,
     aside: &[bool],
-    opening: &[i64],
-    entries: &[Entry],
-    number: usize,
+    written: &[i64],
     acts: &[Act],
 ) -> Result<(), WriteFault>
     requires counted { (W.Out.state out.old).failures < 2 ^ 63 }
-    requires within { number ≤ length entries.now }
     ensures written { Writes (W.Out.state out.old) (W.Out.state out.new) (texts.marks_of rows.now column aside.now
-        (cell_values.value_behind opening.now (map entry_is entries.now) number) (map act_is acts.now)) result }
+        (spec.value_in (map act_is acts.now) written.now) (map act_is acts.now)) result }
 {
     write_arrows(out, rows, column, aside, acts)?;
-    write_nodes(out, rows, column, opening, entries, number, acts)?;
+    write_nodes(out, rows, column, written, acts)?;
     write_readings(out, rows, column, acts)
 }
 
-/// Writes the marks of the statement of that number.
+/// Writes the marks of a statement.
 pub(crate) fn write_marks<W: Out>(
     out: &mut W,
     rows: &[u32],
     column: usize,
-    aside: &[bool],
-    opening: &[i64],
-    entries: &[Entry],
-    number: usize,
-    entry: &Entry,
+    drawn: &Column,
 ) -> Result<(), WriteFault>
     requires counted { (W.Out.state out.old).failures < 2 ^ 63 }
-    requires within { number ≤ length entries.now }
-    ensures written { Writes (W.Out.state out.old) (W.Out.state out.new) (texts.marks_text rows.now column aside.now
-        (cell_values.value_behind opening.now (map entry_is entries.now) number) (entry_is entry.now)) result }
+    ensures written { Writes (W.Out.state out.old) (W.Out.state out.new)
+        (texts.marks_text rows.now column (column_is drawn.now)) result }
 {
-    write_acts(
-        out,
-        rows,
-        column,
-        aside,
-        opening,
-        entries,
-        number,
-        acts_in(entry),
-    )
+    let acts = acts_in(&drawn.entry);
+    write_acts(out, rows, column, &drawn.aside, &drawn.written, acts)
 }

@@ -1,26 +1,24 @@
 //! All of a picture.
 
-ghost use Rattle.std.specs.Prelude.{◌≤◌, ◌<◌, ◌-◌, ◌^◌, length, map};
+ghost use Rattle.std.specs.Prelude.{◌<◌, ◌^◌, map};
 ghost use Rattle.text_out.specs.Out.{Writes};
-ghost use Rattle.step_entries.specs.Entries.{entry_is};
 ghost use Rattle.flow_pictures.specs.Picture as spec;
 ghost use Rattle.flow_pictures.specs.Places as places;
-ghost use Rattle.flow_pictures.specs.Choice as choosing;
-ghost use Rattle.flow_pictures.specs.Cells as cells;
+ghost use Rattle.flow_pictures.specs.Drawing.{column_is, drawing_is};
 ghost use Rattle.flow_pictures.specs.Values as values;
 
-use crate::choice::{Choice, asked, choose, drawn_count, number_at};
+use crate::column::Column;
 use crate::columns::write_columns;
+use crate::drawing::Drawing;
 use crate::head::write_head;
 use crate::measure::{picture_height, picture_width, y_at};
 use crate::rows::{drawn_rows, rows_and_next};
 use crate::shapes::{write_line_front, write_value};
 use crate::spans::CellSpan;
-use crate::values::value_behind;
+use crate::values::value_at;
 use itoa::Buffer;
 use pram_trees::Layout;
 use program_texts::write_cell;
-use step_entries::Entry;
 use text_out::{Out, WriteFault};
 
 // The opening of a picture of that size.
@@ -81,64 +79,41 @@ fn write_row_head<W: Out>(
     write_value(out, 192, y + 4, b"end", value)
 }
 
-// That of a cell in some row, with its value behind so many statements.
+// That of a cell in some row, by the values of the first cells.
 fn write_row<W: Out>(
     out: &mut W,
     layout: &Layout,
     wide: u128,
-    opening: &[i64],
-    entries: &[Entry],
-    before: usize,
+    before: &[i64],
     row: usize,
     cell: u32,
 ) -> Result<(), WriteFault>
     requires counted { (W.Out.state out.old).failures < 2 ^ 63 }
-    requires within { before ≤ length entries.now }
     ensures written { Writes (W.Out.state out.old) (W.Out.state out.new) (spec.row_head layout.now wide (places.y_at row) cell
-        (values.value_behind opening.now (map entry_is entries.now) before cell)) result }
+        (values.value_at before.now cell)) result }
 {
-    let value = value_behind(opening, entries, before, cell as usize);
+    let value = value_at(before, cell as usize);
     write_row_head(out, layout, wide, y_at(row), cell, &value)
 }
 
+// The rows.
 fn write_row_heads<W: Out>(
     out: &mut W,
     layout: &Layout,
     wide: u128,
-    opening: &[i64],
-    entries: &[Entry],
-    before: usize,
-    rows: &[u32],
-) -> Result<(), WriteFault>
-    requires counted { (W.Out.state out.old).failures < 2 ^ 63 }
-    requires within { before ≤ length entries.now }
-    ensures written { Writes (W.Out.state out.old) (W.Out.state out.new) (spec.row_heads layout.now wide
-        (values.value_behind opening.now (map entry_is entries.now) before) 0 rows.now) result }
-{
-    let mut row = 0usize;
-    for cell in rows {
-        write_row(out, layout, wide, opening, entries, before, row, *cell)?;
-        row += 1;
-    }
-    Ok(())
-}
-
-// The rows, with the values before the first statement that is drawn.
-fn write_rows<W: Out>(
-    out: &mut W,
-    layout: &Layout,
-    wide: u128,
-    opening: &[i64],
-    entries: &[Entry],
-    choice: Choice,
+    before: &[i64],
     rows: &[u32],
 ) -> Result<(), WriteFault>
     requires counted { (W.Out.state out.old).failures < 2 ^ 63 }
     ensures written { Writes (W.Out.state out.old) (W.Out.state out.new)
-        (spec.rows_text layout.now wide opening.now (map entry_is entries.now) choice rows.now) result }
+        (spec.row_heads layout.now wide (values.value_at before.now) 0 rows.now) result }
 {
-    let before = number_at(choice, entries, 0).saturating_sub(1);
-    write_row_heads(out, layout, wide, opening, entries, before, rows)
+    let mut row = 0usize;
+    for cell in rows {
+        write_row(out, layout, wide, before, row, *cell)?;
+        row += 1;
+    }
+    Ok(())
 }
 
 // The rows and the columns.
@@ -146,33 +121,26 @@ fn write_table<W: Out>(
     out: &mut W,
     layout: &Layout,
     text: &[u8],
-    asides: &[Vec<bool>],
-    opening: &[i64],
-    entries: &[Entry],
-    choice: Choice,
     wide: u128,
+    before: &[i64],
+    columns: &[Column],
     rows: &[u32],
 ) -> Result<(), WriteFault>
     requires counted { (W.Out.state out.old).failures < 2 ^ 63 }
     ensures written { Writes (W.Out.state out.old) (W.Out.state out.new)
-        (spec.table layout.now text.now asides.now opening.now (map entry_is entries.now) choice wide rows.now) result }
+        (spec.table layout.now text.now wide (values.value_at before.now) (map column_is columns.now) rows.now) result }
 {
-    write_rows(out, layout, wide, opening, entries, choice, rows)?;
-    write_columns(out, layout, text, asides, opening, entries, choice, rows)?;
+    write_row_heads(out, layout, wide, before, rows)?;
+    write_columns(out, layout, text, rows, columns)?;
     out.write_all(b"</svg>\n")
 }
 
-fn write_size<W: Out>(
-    out: &mut W,
-    entries: &[Entry],
-    choice: Choice,
-    found: &[u32],
-) -> Result<(), WriteFault>
+fn write_size<W: Out>(out: &mut W, drawing: &Drawing, found: &[u32]) -> Result<(), WriteFault>
     requires counted { (W.Out.state out.old).failures < 2 ^ 63 }
     ensures written { Writes (W.Out.state out.old) (W.Out.state out.new)
-        (spec.size_text (map entry_is entries.now) choice found.now) result }
+        (spec.size_text (drawing_is drawing.now) found.now) result }
 {
-    let wide = picture_width(drawn_count(choice, entries));
+    let wide = picture_width(drawing.columns.len());
     write_opening(out, wide, picture_height(drawn_rows(found).len()))
 }
 
@@ -180,27 +148,22 @@ fn write_counts<W: Out>(
     out: &mut W,
     layout: &Layout,
     only: &[CellSpan],
-    entries: &[Entry],
-    from: usize,
-    to: usize,
-    choice: Choice,
+    drawing: &Drawing,
     found: &[u32],
 ) -> Result<(), WriteFault>
     requires counted { (W.Out.state out.old).failures < 2 ^ 63 }
     ensures written { Writes (W.Out.state out.old) (W.Out.state out.new)
-        (spec.counts_text layout.now only.now (map entry_is entries.now) from to choice found.now) result }
+        (spec.counts_text layout.now only.now (drawing_is drawing.now) found.now) result }
 {
-    let columns = drawn_count(choice, entries);
-    let touching = drawn_count(asked(from, to, entries), entries);
     write_head(
         out,
         layout,
         only,
-        entries.len(),
-        from,
-        to,
-        columns,
-        touching,
+        drawing.count,
+        drawing.from,
+        drawing.to,
+        drawing.columns.len(),
+        drawing.touching,
         drawn_rows(found).len(),
         found.len(),
     )
@@ -210,21 +173,17 @@ fn write_drawn<W: Out>(
     out: &mut W,
     layout: &Layout,
     text: &[u8],
-    asides: &[Vec<bool>],
-    opening: &[i64],
-    entries: &[Entry],
-    choice: Choice,
+    drawing: &Drawing,
     found: &[u32],
 ) -> Result<(), WriteFault>
     requires counted { (W.Out.state out.old).failures < 2 ^ 63 }
     ensures written { Writes (W.Out.state out.old) (W.Out.state out.new)
-        (spec.drawn_text layout.now text.now asides.now opening.now (map entry_is entries.now) choice found.now) result }
+        (spec.drawn_text layout.now text.now (drawing_is drawing.now) found.now) result }
 {
-    let wide = picture_width(drawn_count(choice, entries));
+    let columns = drawing.columns.as_slice();
+    let wide = picture_width(columns.len());
     let rows = drawn_rows(found);
-    write_table(
-        out, layout, text, asides, opening, entries, choice, wide, rows,
-    )
+    write_table(out, layout, text, wide, &drawing.before, columns, rows)
 }
 
 // A picture of these rows, one more of which may have been found.
@@ -232,63 +191,37 @@ fn write_found<W: Out>(
     out: &mut W,
     layout: &Layout,
     text: &[u8],
-    asides: &[Vec<bool>],
-    opening: &[i64],
-    entries: &[Entry],
     only: &[CellSpan],
-    from: usize,
-    to: usize,
-    choice: Choice,
+    drawing: &Drawing,
     found: &[u32],
 ) -> Result<(), WriteFault>
     requires counted { (W.Out.state out.old).failures < 2 ^ 63 }
     ensures written { Writes (W.Out.state out.old) (W.Out.state out.new)
-        (spec.picture_of layout.now text.now asides.now opening.now (map entry_is entries.now) only.now from to choice found.now) result }
+        (spec.picture_of layout.now text.now only.now (drawing_is drawing.now) found.now) result }
 {
-    write_size(out, entries, choice, found)?;
-    write_counts(out, layout, only, entries, from, to, choice, found)?;
-    write_drawn(out, layout, text, asides, opening, entries, choice, found)
+    write_size(out, drawing, found)?;
+    write_counts(out, layout, only, drawing, found)?;
+    write_drawn(out, layout, text, drawing, found)
 }
 
-/// Writes a picture of what passes through shared memory in a run, as SVG 1.1, of the statements from one number to another: a row for
-/// each cell that they touch, with its value before, and a column for each that touches shared memory, with its number from 1, its line,
-/// and what stands there in the text. In a column the cells that were written have a box with their new value, and from each cell that the
-/// writer read a line comes to it; a cell that was read alone has a ring. A fault has a heavy frame, and below the rows it is said what was
-/// wrong and who met. `text` is what was read as a program, where the entries stand; `opening` has the values of the first cells before
-/// the first statement, and the others have 0. Where `only` has the cells of some declarations, no others have a row, and
-/// the picture says so. `asides` tells of each statement which of a processor's reads stand in a subscript, in the order of evaluation: a line
-/// for those alone is dashed, and what isn't told counts as read for its value. Of more than 64 statements the first are drawn and the one that
-/// faulted, of more than 64
-/// cells the first, and the picture says so. `WriteFault` (E17)
-/// says that the writer failed; what it took is a beginning of the picture.
+/// Writes a picture of what passes through shared memory in a run, as SVG 1.1, of the statements that are drawn (`Flow::finish`): a row for
+/// each cell that they touch, with its value before, and a column for each, with its number from 1, its line, and what stands there in the
+/// text. In a column the cells that were written have a box with their new value, and from each cell that the writer read a line comes to
+/// it; a cell that was read alone has a ring. A line for subscripts alone is dashed. A fault has a heavy frame, and below the rows it is
+/// said what was wrong and who met. `text` is what was read as a program, where the entries stand. Where `only` has the cells of some
+/// declarations, no others have a row, and the picture says so. Of more than 64 cells the first are drawn, and the picture says so, as of
+/// statements that have no room. `WriteFault` (E17) says that the writer failed; what it took is a beginning of the picture.
 pub fn write_flow<W: Out>(
     out: &mut W,
     layout: &Layout,
     text: &[u8],
-    asides: &[Vec<bool>],
-    opening: &[i64],
-    entries: &[Entry],
     only: &[CellSpan],
-    from: usize,
-    to: usize,
+    drawing: &Drawing,
 ) -> Result<(), WriteFault>
     requires counted { (W.Out.state out.old).failures < 2 ^ 63 }
     ensures written { Writes (W.Out.state out.old) (W.Out.state out.new)
-        (spec.flow layout.now text.now asides.now opening.now (map entry_is entries.now) only.now from to) result }
+        (spec.picture layout.now text.now only.now (drawing_is drawing.now)) result }
 {
-    let choice = choose(from, to, entries);
-    let found = rows_and_next(only, choice, entries);
-    write_found(
-        out,
-        layout,
-        text,
-        asides,
-        opening,
-        entries,
-        only,
-        from,
-        to,
-        choice,
-        found.as_slice(),
-    )
+    let found = rows_and_next(only, &drawing.columns);
+    write_found(out, layout, text, only, drawing, found.as_slice())
 }

@@ -1,14 +1,13 @@
 //! Which cells have a row.
 
 ghost use Rattle.std.specs.Prelude.{◌≡◌, map, take};
-ghost use Rattle.step_entries.specs.Entries.{entry_is};
 ghost use Rattle.flow_pictures.specs.Cells as spec;
+ghost use Rattle.flow_pictures.specs.Drawing.{column_is, entries_of};
 
 use crate::cells::least_from;
-use crate::choice::Choice;
+use crate::column::Column;
 use crate::spans::CellSpan;
 use arrayvec::ArrayVec;
-use step_entries::Entry;
 
 /// No more cells are drawn.
 const MOST_ROWS: usize = 64;
@@ -18,17 +17,13 @@ const MOST_FOUND: usize = 65;
 
 /// The first cells that are touched, in ascending order, and one more than are drawn.
 #[tactic(auto, using(crate::proofs::RowLists::rows_start, crate::proofs::RowLists::rows_go, crate::proofs::RowLists::rows_over, crate::proofs::RowLists::rows_full))]
-pub(crate) fn rows_and_next(
-    only: &[CellSpan],
-    choice: Choice,
-    entries: &[Entry],
-) -> ArrayVec<u32, MOST_FOUND>
-    ensures { result.items ≡ spec.rows_and_next only.now choice (map entry_is entries.now) }
+pub(crate) fn rows_and_next(only: &[CellSpan], columns: &[Column]) -> ArrayVec<u32, MOST_FOUND>
+    ensures { result.items ≡ spec.rows_and_next only.now (entries_of (map column_is columns.now)) }
 {
     let mut found = ArrayVec::new();
     let mut start = 0u64;
     'rows: while found.len() < MOST_FOUND {
-        match least_from(only, start, choice, entries) {
+        match least_from(only, start, columns) {
             None => return found,
             Some(cell) => {
                 found.push(cell);

@@ -1,73 +1,56 @@
-//! The value of a cell behind some statements.
+//! The values of cells behind some statements.
 
-ghost use Rattle.std.specs.Prelude.{◌≡◌, ◌≤◌, length, map, take};
+ghost use Rattle.std.specs.Prelude.{◌≡◌, ◌<◌, ℕ, IfOk, OnOk, if◌then◌else◌, length, nat_eq};
 ghost use Rattle.std.specs.List.{fold};
 ghost use Rattle.step_entries.specs.Entries.{entry_is};
 ghost use Rattle.flow_pictures.specs.Values as spec;
 
 use crate::entries::changes_in;
+use std::alloc::{AllocError, Global};
 use step_entries::{Change, Entry};
 
-fn changed(cell: usize, value: i64, change: Change) -> i64
-    ensures { result ≡ spec.changed cell value change }
+/// The value of a cell, by those of the first cells; the others hold 0.
+pub(crate) fn value_at(values: &[i64], cell: usize) -> i64
+    ensures { result ≡ spec.value_at values.now cell }
 {
-    if change.cell == cell {
-        change.after
-    } else {
-        value
-    }
+    if cell < values.len() { values[cell] } else { 0 }
 }
 
-#[tactic(auto, using(crate::proofs::CellValues::changes_start, crate::proofs::CellValues::changes_go, crate::proofs::CellValues::changes_end))]
-fn with_changes(cell: usize, before: i64, changes: &[Change]) -> i64
-    ensures { result ≡ fold (spec.changed cell) before changes.now }
+// Puts zeros behind values, up to a cell.
+fn put_zeros(values: &mut Vec<i64>, cell: usize) -> Result<(), AllocError>
+    ensures reaches { OnOk result (cell < length values.new.items) }
+    ensures same { OnOk result ((k : ℕ) → spec.value_at values.new.items k ≡ spec.value_at values.old.items k) }
 {
-    let mut value = before;
+    while values.len() <= cell {
+        values.push(0)?;
+    }
+    Ok(())
+}
+
+// Puts a value at a cell, with zeros up to there.
+fn put_value(values: &mut Vec<i64>, cell: usize, value: i64) -> Result<(), AllocError>
+    ensures { OnOk result ((k : ℕ) →
+        spec.value_at values.new.items k ≡ (if nat_eq cell k then value else spec.value_at values.old.items k)) }
+{
+    put_zeros(values, cell)?;
+    values[cell] = value;
+    Ok(())
+}
+
+fn put_all(values: &mut Vec<i64>, changes: &[Change]) -> Result<(), AllocError>
+    ensures { OnOk result ((k : ℕ) →
+        spec.value_at values.new.items k ≡ fold (spec.changed k) (spec.value_at values.old.items k) changes.now) }
+{
     for change in changes {
-        value = changed(cell, value, *change);
+        put_value(values, change.cell, change.after)?;
     }
-    value
+    Ok(())
 }
 
-fn value_after(cell: usize, before: i64, entry: &Entry) -> i64
-    ensures { result ≡ spec.value_after cell before (entry_is entry.now) }
+/// Makes the changes of a statement.
+pub(crate) fn put_changes(values: &mut Vec<i64>, entry: &Entry) -> Result<(), AllocError>
+    ensures { OnOk result ((k : ℕ) →
+        spec.value_at values.new.items k ≡ spec.value_after k (spec.value_at values.old.items k) (entry_is entry.now)) }
 {
-    with_changes(cell, before, changes_in(entry))
-}
-
-#[tactic(auto, using(crate::proofs::CellValues::entries_start, crate::proofs::CellValues::entries_go, crate::proofs::CellValues::entries_end))]
-fn with_entries(cell: usize, before: i64, entries: &[Entry]) -> i64
-    ensures { result ≡ fold (spec.value_after cell) before (map entry_is entries.now) }
-{
-    let mut value = before;
-    for entry in entries {
-        value = value_after(cell, value, entry);
-    }
-    value
-}
-
-fn opening_value(opening: &[i64], cell: usize) -> i64
-    ensures { result ≡ spec.opening_value opening.now cell }
-{
-    if cell < opening.len() {
-        opening[cell]
-    } else {
-        0
-    }
-}
-
-// So many of them.
-fn first(entries: &[Entry], count: usize) -> &[Entry]
-    requires within { count ≤ length entries.now }
-    ensures { map entry_is result.now ≡ take count (map entry_is entries.now) }
-{
-    entries.split_at(count).0
-}
-
-/// The value of a cell behind so many statements.
-pub(crate) fn value_behind(opening: &[i64], entries: &[Entry], count: usize, cell: usize) -> i64
-    requires within { count ≤ length entries.now }
-    ensures { result ≡ spec.value_behind opening.now (map entry_is entries.now) count cell }
-{
-    with_entries(cell, opening_value(opening, cell), first(entries, count))
+    put_all(values, changes_in(entry))
 }

@@ -1,13 +1,13 @@
 //! What no clause says: that a picture is made; and pictures of few statements, letter by letter.
 
-use flow_pictures::{CellSpan, write_flow};
+use flow_pictures::{CellSpan, Drawing, Flow, write_flow};
 use pram_tokens::Location;
 use pram_trees::Layout;
 use pram_values::{Kind, Place};
 use std::alloc::{AllocError, Global};
 use std::test::Fail;
 use step_entries::{Act, Change, Entry};
-use text_out::{Buffer, WriteFault};
+use text_out::Buffer;
 use write_rules::Fault;
 
 // A statement of one processor, which read these cells, wrote that one, and left that value there.
@@ -23,6 +23,8 @@ fn ran(
         processor: None,
         reads: Vec::from_slice(alloc, reads)?,
         write,
+        readings: Vec::new(alloc),
+        written: None,
     })?;
     let mut cells = Vec::new(alloc);
     if let Some(cell) = write {
@@ -54,6 +56,7 @@ fn conflict(alloc: Global, cell: u32) -> Result<Entry, AllocError> {
         cause: None,
         acts: Vec::new(alloc),
         met: Vec::from_slice(alloc, &[1, 2])?,
+        locals: Vec::new(alloc),
     })
 }
 
@@ -67,36 +70,61 @@ fn stands(part: &[u8], whole: &[u8]) -> bool {
     false
 }
 
+// Those of the reads of a statement that stand in a subscript.
+fn aside_of(alloc: Global, asides: &[Vec<bool>], place: usize) -> Result<Vec<bool>, AllocError> {
+    match asides.get(place) {
+        Some(aside) => Vec::from_slice(alloc, aside),
+        None => Ok(Vec::new(alloc)),
+    }
+}
+
+// What is drawn of entries between two numbers, where the first cells held 4 and 7 before.
+fn drawing_by(
+    alloc: Global,
+    asides: &[Vec<bool>],
+    entries: Vec<Entry>,
+    from: usize,
+    to: usize,
+) -> Result<Drawing, AllocError> {
+    let mut flow = Flow::new(alloc, from, to, &[4, 7])?;
+    let mut place = 0usize;
+    for entry in entries {
+        flow.add(alloc, entry, aside_of(alloc, asides, place)?)?;
+        place = place.saturating_add(1);
+    }
+    flow.finish()
+}
+
+fn picture_of(
+    alloc: Global,
+    layout: &Layout,
+    only: &[CellSpan],
+    drawing: &Drawing,
+) -> Result<Buffer, Fail> {
+    let mut out = Buffer::new(alloc);
+    let text = b"a < b; end\nmore";
+    write_flow(&mut out, layout, text, only, drawing)?;
+    Ok(out)
+}
+
 fn picture_by(
     alloc: Global,
     layout: &Layout,
     asides: &[Vec<bool>],
-    entries: &[Entry],
+    entries: Vec<Entry>,
     only: &[CellSpan],
     from: usize,
-) -> Result<Buffer, WriteFault> {
-    let mut out = Buffer::new(alloc);
-    let text = b"a < b; end\nmore";
-    write_flow(
-        &mut out,
-        layout,
-        text,
-        asides,
-        &[4, 7],
-        entries,
-        only,
-        from,
-        100,
-    )?;
-    Ok(out)
+) -> Result<Buffer, Fail> {
+    let drawing = drawing_by(alloc, asides, entries, from, 100)?;
+    picture_of(alloc, layout, only, &drawing)
 }
 
 fn picture(
     alloc: Global,
     layout: &Layout,
-    entries: &[Entry],
+    entries: Vec<Entry>,
     from: usize,
-) -> Result<Buffer, WriteFault> {
+) -> Result<Buffer, Fail> {
     let none: Vec<Vec<bool>> = Vec::new(alloc);
     picture_by(alloc, layout, none.as_slice(), entries, &[], from)
 }
@@ -132,7 +160,7 @@ fn four_statements(alloc: Global) -> Result<Vec<Entry>, AllocError> {
 #[test]
 fn marks_stand_where_they_should(rt: HostRuntime) -> Result<(), Fail> {
     let alloc = rt.alloc();
-    let out = picture(alloc, &three_cells(alloc)?, &four_statements(alloc)?, 0)?;
+    let out = picture(alloc, &three_cells(alloc)?, four_statements(alloc)?, 0)?;
     let text = out.bytes();
     assert!(rt; stands(b"<text x='192' y='314' text-anchor='end'>4</text>", text));
     assert!(rt; stands(b"<rect x='261' y='301' width='15' height='18'", text));
@@ -153,12 +181,11 @@ fn marks_stand_where_they_should(rt: HostRuntime) -> Result<(), Fail> {
 fn lines_for_subscripts_are_dashed(rt: HostRuntime) -> Result<(), Fail> {
     let alloc = rt.alloc();
     let layout = three_cells(alloc)?;
-    let entries = four_statements(alloc)?;
     let dashed = picture_by(
         alloc,
         &layout,
         &third_by(alloc, true, true)?,
-        &entries,
+        four_statements(alloc)?,
         &[],
         0,
     )?;
@@ -172,7 +199,7 @@ fn lines_for_subscripts_are_dashed(rt: HostRuntime) -> Result<(), Fail> {
         alloc,
         &layout,
         &third_by(alloc, true, false)?,
-        &entries,
+        four_statements(alloc)?,
         &[],
         0,
     )?;
@@ -193,7 +220,7 @@ fn chosen_cells_alone_are_drawn(rt: HostRuntime) -> Result<(), Fail> {
     let entries = four_statements(alloc)?;
     let none: Vec<Vec<bool>> = Vec::new(alloc);
     let only = [CellSpan { first: 2, last: 2 }];
-    let out = picture_by(alloc, &layout, none.as_slice(), &entries, &only, 0)?;
+    let out = picture_by(alloc, &layout, none.as_slice(), entries, &only, 0)?;
     let text = out.bytes();
     assert!(rt;
         stands(
@@ -210,8 +237,7 @@ fn chosen_cells_alone_are_drawn(rt: HostRuntime) -> Result<(), Fail> {
 fn it_is_said_what_is_drawn(rt: HostRuntime) -> Result<(), Fail> {
     let alloc = rt.alloc();
     let layout = three_cells(alloc)?;
-    let entries = four_statements(alloc)?;
-    let out = picture(alloc, &layout, &entries, 0)?;
+    let out = picture(alloc, &layout, four_statements(alloc)?, 0)?;
     let text = out.bytes();
     assert!(rt;
         stands(
@@ -233,7 +259,7 @@ fn it_is_said_what_is_drawn(rt: HostRuntime) -> Result<(), Fail> {
             text
         )
     );
-    let later = picture(alloc, &layout, &entries, 2)?;
+    let later = picture(alloc, &layout, four_statements(alloc)?, 2)?;
     assert!(rt;
         stands(
             b">4 statements, 2 of them drawn: those that touch shared memory from 2 to 4</text>",
@@ -249,25 +275,41 @@ fn it_is_said_what_is_drawn(rt: HostRuntime) -> Result<(), Fail> {
     Ok(())
 }
 
-// The first 63 of 70 that ran, and the one that faulted at the last cell, which has row 63.
-#[test]
-fn a_fault_is_always_drawn(rt: HostRuntime) -> Result<(), Fail> {
-    let alloc = rt.alloc();
-    let mut layout = Layout::new(alloc);
-    layout.push_array(alloc, b"a", 1, 70)?;
+// Cells 1 to 70 of an array are written, one by each statement.
+fn seventy_statements(alloc: Global) -> Result<Vec<Entry>, AllocError> {
     let mut entries = Vec::new(alloc);
     for cell in 0..70u32 {
         entries.push(ran(alloc, 3, &[], Some(cell), 1)?)?;
     }
-    let many = picture(alloc, &layout, &entries, 0)?;
+    Ok(entries)
+}
+
+// And two processors met at the last one.
+fn faulted_at_last(alloc: Global) -> Result<Vec<Entry>, AllocError> {
+    let mut entries = seventy_statements(alloc)?;
+    entries.push(conflict(alloc, 69)?)?;
+    Ok(entries)
+}
+
+fn seventy_cells(alloc: Global) -> Result<Layout, AllocError> {
+    let mut layout = Layout::new(alloc);
+    layout.push_array(alloc, b"a", 1, 70)?;
+    Ok(layout)
+}
+
+// The first 63 of 70 that ran, and the one that faulted at the last cell, which has row 63.
+#[test]
+fn a_fault_is_always_drawn(rt: HostRuntime) -> Result<(), Fail> {
+    let alloc = rt.alloc();
+    let layout = seventy_cells(alloc)?;
+    let many = picture(alloc, &layout, seventy_statements(alloc)?, 0)?;
     assert!(rt;
         stands(
             b">70 statements, 64 of them drawn: those that touch shared memory, without 6 for",
             many.bytes()
         )
     );
-    entries.push(conflict(alloc, 69)?)?;
-    let out = picture(alloc, &layout, &entries, 0)?;
+    let out = picture(alloc, &layout, faulted_at_last(alloc)?, 0)?;
     let text = out.bytes();
     assert!(rt;
         stands(
@@ -284,5 +326,23 @@ fn a_fault_is_always_drawn(rt: HostRuntime) -> Result<(), Fail> {
     );
     assert!(rt; stands(b"y='1856'>fault read-conflict a[70] line 6</text>", text));
     assert!(rt; stands(b"y='1874'>processors 1 2 met there</text>", text));
+    Ok(())
+}
+
+// One that isn't asked for takes no room: then the first 64 are drawn.
+#[test]
+fn a_fault_behind_takes_no_room(rt: HostRuntime) -> Result<(), Fail> {
+    let alloc = rt.alloc();
+    let none: Vec<Vec<bool>> = Vec::new(alloc);
+    let drawing = drawing_by(alloc, none.as_slice(), faulted_at_last(alloc)?, 1, 70)?;
+    let out = picture_of(alloc, &seventy_cells(alloc)?, &[], &drawing)?;
+    let text = out.bytes();
+    assert!(rt;
+        stands(
+            b">71 statements, 64 of them drawn: those that touch shared memory from 1 to 70, without 6 for",
+            text
+        )
+    );
+    assert!(rt; !stands(b"fault read-conflict", text));
     Ok(())
 }

@@ -1,5 +1,5 @@
-use Rattle.flow_pictures.proofs.Least.{InEntries}
+use Rattle.flow_pictures.proofs.Least.{InColumns}
 use Rattle.flow_pictures.proofs.cells.least_from.Given as goal
 
-abbrev pub invariant-loop-entry : goal.invariant-loop-entry
-invariant-loop-entry l = InEntries l.only l.start l.choice l.entries l.entry-index l.least l.number
+abbrev pub invariant-loop-column : goal.invariant-loop-column
+invariant-loop-column l = InColumns l.only l.start l.columns l.column-index l.least

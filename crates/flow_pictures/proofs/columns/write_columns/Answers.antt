@@ -1,22 +1,19 @@
-use Rattle.std.proofs.Common.{refl}
 use Rattle.text_out.proofs.Writing.{writes_stopped}
 use Rattle.text_out.proofs.Progress.{stops}
 use Rattle.flow_pictures.proofs.ColumnLists.{column_written, columns_at}
 use Rattle.flow_pictures.proofs.columns.write_columns.Goals as goal
 
-pub returns-in_err-write_column_if : goal.returns-in_err-write_column_if
-returns-in_err-write_column_if g c =
-    let at = columns_at c.args.layout.now c.args.text.now c.args.asides.now c.args.opening.now c.args.entries.now c.args.choice c.args.rows.now
-    c.loop-entry.entry-index c.loop-entry.before c.loop-entry.number c.entry-item.result c.is_drawn-drawn.result _
-    c.loop-entry-test.true c.entry-item.is c.is_drawn-drawn.ensures refl in
+pub returns-in_err-write_column : goal.returns-in_err-write_column
+returns-in_err-write_column g c =
+    let at = columns_at c.args.layout.now c.args.text.now c.args.rows.now c.args.columns.now c.loop-column.column-index
+    c.loop-column.before c.column-item.result c.loop-column-test.true c.column-item.is in
     record {
       written = writes_stopped _ _ _ c.from_residual.result _ c.from_residual.ensures.1
-          (stops _ _ _ _ _ _ _ c.loop-entry.invariant.progress at c.in_err-write_column_if.ensures.written);
+          (stops _ _ _ _ _ _ _ c.loop-column.invariant.progress at c.in_err-write_column.ensures.written);
     }
 
-pub loop-entry-preserved : goal.loop-entry-preserved
-loop-entry-preserved g c =
-    column_written _ _ _ _ c.args.layout.now c.args.text.now c.args.asides.now c.args.opening.now c.args.entries.now c.args.choice c.args.rows.now
-    c.loop-entry.entry-index c.loop-entry.before c.loop-entry.number c.entry-item.result c.is_drawn-drawn.result _
-    c.loop-entry.invariant c.loop-entry-test.true c.entry-item.is c.is_drawn-drawn.ensures c.counted-before.ensures
-    c.in_ok-write_column_if.ensures.written
+pub loop-column-preserved : goal.loop-column-preserved
+loop-column-preserved g c =
+    column_written _ _ _ _ c.args.layout.now c.args.text.now c.args.rows.now c.args.columns.now c.loop-column.column-index
+    c.loop-column.before c.column-item.result c.loop-column.invariant c.loop-column-test.true c.column-item.is
+    c.in_ok-write_column.ensures.written

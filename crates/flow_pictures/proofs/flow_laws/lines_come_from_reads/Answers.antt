@@ -1,18 +1,18 @@
 use Rattle.std.proofs.Common.{◌+◌}
 use Rattle.flow_pictures.specs.Choice.{acts_in}
 use Rattle.flow_pictures.specs.Laws.{cells, statements}
-use Rattle.flow_pictures.specs.Marks.{arrow_by, aside_of}
+use Rattle.flow_pictures.specs.Marks.{arrow_by}
 use Rattle.flow_pictures.proofs.Carriers.{arrow_is}
 use Rattle.flow_pictures.proofs.Standing.{arrow_among, arrow_stands, line_is_carried}
 use Rattle.flow_pictures.proofs.flow_laws.lines_come_from_reads.Goals as goal
 
 pub returns-clause-line : goal.returns-clause-line
-returns-clause-line c = λ only asides es from to i p a source cell at one read is row_from row_to.
-    arrow_among asides (cells only es from to) 1 (statements es from to) i p (arrow_by (1 + i) (aside_of asides p.0) (acts_in p.1) cell source) at.within at.is
-    (arrow_is (cells only es from to) (1 + i) (aside_of asides p.0) (acts_in p.1) a source cell one read is row_from row_to)
+returns-clause-line c = λ only aside es from to i p a source cell at one read is row_from row_to.
+    arrow_among aside (cells only es from to) 1 (statements es from to) i p (arrow_by (1 + i) (aside p.1) (acts_in p.1) cell source) at.within at.is
+    (arrow_is (cells only es from to) (1 + i) (aside p.1) (acts_in p.1) a source cell one read is row_from row_to)
 
 pub returns-clause-drawn : goal.returns-clause-drawn
 returns-clause-drawn c = arrow_stands
 
 pub returns-clause-carried : goal.returns-clause-carried
-returns-clause-carried c = λ only asides es from to l one. line_is_carried asides (cells only es from to) 1 (statements es from to) l one
+returns-clause-carried c = λ only aside es from to l one. line_is_carried aside (cells only es from to) 1 (statements es from to) l one

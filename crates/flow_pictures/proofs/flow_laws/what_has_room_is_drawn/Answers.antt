@@ -1,4 +1,5 @@
-use Rattle.flow_pictures.proofs.Complete.{fault_is_drawn, few_are_drawn, touched_has_row}
+use Rattle.flow_pictures.proofs.Complete.{fault_is_drawn, few_are_drawn, touched_has_row, touching_is_drawn}
+use Rattle.flow_pictures.proofs.Drawn.{drawn_touches}
 use Rattle.flow_pictures.proofs.ChosenRows.{row_is_chosen}
 use Rattle.flow_pictures.proofs.flow_laws.what_has_room_is_drawn.Goals as goal
 
@@ -7,6 +8,12 @@ returns-clause-fault c = fault_is_drawn
 
 pub returns-clause-statements : goal.returns-clause-statements
 returns-clause-statements c = few_are_drawn
+
+pub returns-clause-touching : goal.returns-clause-touching
+returns-clause-touching c = touching_is_drawn
+
+pub returns-clause-no_other : goal.returns-clause-no_other
+returns-clause-no_other c = λ es from to p one. drawn_touches from to es p one
 
 pub returns-clause-cells : goal.returns-clause-cells
 returns-clause-cells c = touched_has_row

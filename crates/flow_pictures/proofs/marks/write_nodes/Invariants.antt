@@ -1,11 +1,10 @@
 use Rattle.std.proofs.Common.{drop, map}
 use Rattle.text_out.proofs.Progress.{Progress}
 use Rattle.std.specs.List.{filter, flat_map}
-use Rattle.step_entries.specs.Entries.{act_is, entry_is}
-use Rattle.flow_pictures.specs.Marks.{node, writes}
+use Rattle.step_entries.specs.Entries.{act_is}
+use Rattle.flow_pictures.specs.Marks.{node, value_in, writes}
 use Rattle.flow_pictures.specs.Texts.{node_text}
-use Rattle.flow_pictures.specs.Values.{value_behind}
 use Rattle.flow_pictures.proofs.marks.write_nodes.Given as goal
 
 abbrev pub invariant-loop-cell : goal.invariant-loop-cell
-invariant-loop-cell g l = Progress (g.W.Out.state l.fn.out) (g.W.Out.state l.out) (flat_map (node_text l.fn.rows) (map (node l.fn.column (value_behind l.fn.opening (map entry_is l.fn.entries) l.fn.number)) (filter (writes (map act_is l.fn.acts)) l.fn.rows))) (flat_map (node_text l.fn.rows) (map (node l.fn.column (value_behind l.fn.opening (map entry_is l.fn.entries) l.fn.number)) (filter (writes (map act_is l.fn.acts)) (drop l.cell-index l.fn.rows))))
+invariant-loop-cell g l = Progress (g.W.Out.state l.fn.out) (g.W.Out.state l.out) (flat_map (node_text l.fn.rows) (map (node l.fn.column (value_in (map act_is l.fn.acts) l.fn.written)) (filter (writes (map act_is l.fn.acts)) l.fn.rows))) (flat_map (node_text l.fn.rows) (map (node l.fn.column (value_in (map act_is l.fn.acts) l.fn.written)) (filter (writes (map act_is l.fn.acts)) (drop l.cell-index l.fn.rows))))

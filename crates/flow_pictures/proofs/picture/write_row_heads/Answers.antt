@@ -1,15 +1,13 @@
-use Rattle.std.proofs.Common.{map}
 use Rattle.std.proofs.lemmas.List.{get_or_default}
-use Rattle.step_entries.specs.Entries.{entry_is}
 use Rattle.text_out.proofs.Writing.{writes_stopped}
 use Rattle.text_out.proofs.Progress.{stops}
-use Rattle.flow_pictures.specs.Values.{value_behind}
+use Rattle.flow_pictures.specs.Values.{value_at}
 use Rattle.flow_pictures.proofs.ColumnLists.{row_heads_at, row_head_written}
 use Rattle.flow_pictures.proofs.picture.write_row_heads.Goals as goal
 
 pub returns-in_err-write_row : goal.returns-in_err-write_row
 returns-in_err-write_row g c =
-    let value = value_behind c.args.opening.now (map entry_is c.args.entries.now) c.args.before in
+    let value = value_at c.args.before.now in
     let at = row_heads_at c.args.layout.now c.args.wide value c.args.rows.now c.loop-cell.cell-index c.loop-cell.row _
     c.loop-cell-test.true (get_or_default c.args.rows.now c.loop-cell.cell-index _ _ c.loop-cell-test.true) in
     record {
@@ -19,7 +17,7 @@ returns-in_err-write_row g c =
 
 pub loop-cell-preserved : goal.loop-cell-preserved
 loop-cell-preserved g c =
-    let value = value_behind c.args.opening.now (map entry_is c.args.entries.now) c.args.before in
+    let value = value_at c.args.before.now in
     row_head_written _ _ _ _ c.args.layout.now c.args.wide value c.args.rows.now c.loop-cell.cell-index c.loop-cell.row _
     c.loop-cell.invariant c.loop-cell-test.true (get_or_default c.args.rows.now c.loop-cell.cell-index _ _ c.loop-cell-test.true)
     c.in_ok-write_row.ensures.written
