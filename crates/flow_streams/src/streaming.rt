@@ -1,0 +1,52 @@
+//! The picture of what passes through shared memory in a run, drawn as the run goes.
+
+ghost use Rattle.std.specs.Prelude.{◌≡◌, ◌↔◌, ◌<◌, ◌≤◌, ◌^◌, IfOk, OnOk, length};
+ghost use Rattle.pram_model.specs.Layout.{total_size};
+ghost use Rattle.write_rules.specs.Verdict.{verdict_of};
+ghost use Rattle.pram_meaning.specs.Outcome.{IsOutcome};
+ghost use Rattle.flow_streams.specs.Streamed.{HasStreamedFlow};
+
+use crate::drawing::draw_run;
+use flow_pictures::{CellSpan, write_flow};
+use pram_check::Program;
+use std::alloc::Global;
+use step_streams::StreamFailure;
+use text_out::Out;
+use write_rules::Outcome;
+
+/// Runs a program on an input, for at most `bound` statements, and writes the picture of what passes through shared memory in the statements
+/// whose numbers, counted from 1, go from one to another; `text` is what was read as the program. Where `only` has the cells of some
+/// declarations, no others have a row. The picture is written when the run is over; beside the run it takes the memory of the run's cells,
+/// twice, and of the statements that are drawn, however many there are. The outcome is the answer.
+/// - `InputTooLong` (E11): there are more values than cells, and nothing was written.
+/// - `OutOfMemory` (E16): memory was refused, and nothing was written.
+/// - `WriteFailed` (E17): the writer failed; what it took is a beginning of the picture.
+pub fn stream_flow<W: Out>(
+    alloc: Global,
+    text: &[u8],
+    program: &Program,
+    input: &[i64],
+    bound: u32,
+    only: &[CellSpan],
+    from: usize,
+    to: usize,
+    out: &mut W,
+) -> Result<Outcome, StreamFailure>
+    requires counted { (W.Out.state out.old).failures < 2 ^ 63 }
+    ensures outcome { IfOk result (λ o. IsOutcome program.now input.now bound (verdict_of o)) }
+    ensures fits { OnOk result (length input.now ≤ total_size program.now.layout) }
+    ensures too_long { (result ≡ Err StreamFailure.InputTooLong) ↔ (total_size program.now.layout < length input.now) }
+    ensures written { HasStreamedFlow text.now program.now input.now bound only.now from to
+        (W.Out.state out.old) (W.Out.state out.new) result }
+{
+    if input.len() > program.layout().cells() as usize {
+        return Err(StreamFailure::InputTooLong);
+    }
+    let Ok((outcome, drawing)) = draw_run(alloc, program, input, bound, from, to) else {
+        return Err(StreamFailure::OutOfMemory);
+    };
+    match write_flow(out, program.layout(), text, only, &drawing) {
+        Ok(()) => Ok(outcome),
+        Err(_) => Err(StreamFailure::WriteFailed),
+    }
+}
