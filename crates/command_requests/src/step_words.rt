@@ -7,6 +7,8 @@ pub struct StepWords {
     pub from: u32,
     /// The number of the last.
     pub to: u32,
-    /// Whether changed variables and locals and printed numbers are told too.
+    /// Whether changed variables and locals, printed numbers and the locals at a fault are told too.
     pub locals: bool,
+    /// Whether the column at which each statement begins is told too.
+    pub columns: bool,
 }

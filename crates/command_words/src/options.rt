@@ -90,6 +90,8 @@ pub(crate) const TO: &str = "to";
 
 pub(crate) const LOCALS: &str = "locals";
 
+pub(crate) const COLUMNS: &str = "columns";
+
 pub(crate) const OUTCOME: &str = "outcome";
 
 pub(crate) const BSP: &str = "bsp";
@@ -245,6 +247,11 @@ const TOLD: &[CommandOption] = &[
         name: LOCALS,
         follows: Follows::Nothing,
         help: "Tells of variables, locals and printed numbers too",
+    },
+    CommandOption {
+        name: COLUMNS,
+        follows: Follows::Nothing,
+        help: "Tells the column at which each statement begins too",
     },
 ];
 

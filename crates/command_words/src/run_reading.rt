@@ -5,8 +5,8 @@ ghost use Rattle.std.specs.Option.{ForSome};
 ghost use Rattle.command_requests.specs.Words.{IsOfWords};
 
 use crate::options::{
-    BOUND, BSP, FLOW, FORMAT, FROM, HTML, INPUT, LINES, LOCALS, MAP, MEMORY, ONLY, OUTCOME, QUIET,
-    RANDOM, RESERVE, SCHEDULE, SECONDS, SEED, SHOW, SVG, TO, WORKERS,
+    BOUND, BSP, COLUMNS, FLOW, FORMAT, FROM, HTML, INPUT, LINES, LOCALS, MAP, MEMORY, ONLY,
+    OUTCOME, QUIET, RANDOM, RESERVE, SCHEDULE, SECONDS, SEED, SHOW, SVG, TO, WORKERS,
 };
 use clap::ArgMatches;
 use command_requests::{CostWords, Form, Opening, RunWords, StepWords, TraceWords};
@@ -87,7 +87,13 @@ fn step_words<'a>(words: &ArgMatches<'a>) -> Result<StepWords, Stop<'a>>
     let from = number_of(words, FROM)?;
     let to = number_of(words, TO)?;
     let locals = words.get_flag(LOCALS);
-    Ok(StepWords { from, to, locals })
+    let columns = words.get_flag(COLUMNS);
+    Ok(StepWords {
+        from,
+        to,
+        locals,
+        columns,
+    })
 }
 
 /// The seed, and 1 where the command line has none.

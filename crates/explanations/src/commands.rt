@@ -96,7 +96,7 @@ Exit status: 0 it ended, 1 it faulted, 2 it was refused, 3 it met the bound.
 Of a sweep 1 if a size faulted or was refused, or else 3 if one met the bound.
 ";
 
-pub(crate) const STEPS: [u8; 1389] = *b"pramc steps FILE: a run statement by statement.
+pub(crate) const STEPS: [u8; 1461] = *b"pramc steps FILE: a run statement by statement.
 
 It writes a line for each statement that ran: its number, its line in the text,
 how many processors ran it, and the cells that it changed. At a conflict it says
@@ -107,6 +107,7 @@ $ pramc steps examples/tree_sum.pram --input examples/tree_sum.in | sed -n 7p
 
 --from K, --to K    tells these statements alone, counted from 1
 --locals            tells of variables, locals and printed numbers too
+--columns           tells the column at which each statement begins too
 --html              makes a page that steps through the run, forward and back
 --flow              draws which cells the values of cells come from, as SVG
 --only NAMES        draws the flow between these declarations alone, as a,b

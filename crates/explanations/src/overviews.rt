@@ -51,7 +51,7 @@ Limits: numbers of 64 bits, 16384 processors, 1048576 cells, 16384 tokens,
 8 shared reads in a statement, 64 levels of blocks and of expressions.
 ";
 
-pub(crate) const OPTIONS: [u8; 3538] = *b"The options, and which commands take them.
+pub(crate) const OPTIONS: [u8; 3611] = *b"The options, and which commands take them.
 
 All but explain:
 
@@ -108,6 +108,7 @@ What is written:
 --sweep NAME=SIZES  counts at n=4,8,16, or n=4..64*2, or n=10..50+10: cost
 --from K, --to K    these statements alone, counted from 1: steps
 --locals            tells of variables, locals and printed numbers too: steps
+--columns           tells where each statement begins on its line: steps
 --html              a page that steps through the run: steps
 --flow              a picture of the flow of data between cells: steps
 --only NAMES        a flow between these declarations alone, as a,b: steps;

@@ -1,14 +1,13 @@
 -- What is told of a statement that ran beside its cells: the uniform variables and the local that it set, and what it printed.
 use Rattle.std.specs.Prelude.{ℕ, ◌-◌, nat_eq, nat_le, if◌then◌else◌, List, [], ◌∷◌, ◌++◌, ℤ, Option, Some, None, codes, decimal}
 use Rattle.std.specs.Prelude.{length, take}
+use Rattle.std.specs.Borrow.{Bor}
 use Rattle.std.specs.Fmt.{signed_decimal}
 use Rattle.pram_trees.specs.Program.{ProgramTree}
 use Rattle.program_texts.specs.Shown.{spaced}
 use Rattle.scope_names.specs.Locals.{local_name, variable_name}
 use Rattle.step_entries.specs.declared.change.Change.{Change}
 use Rattle.step_entries.specs.declared.local_change.LocalChange.{LocalChange}
-use Rattle.step_texts.specs.declared.telling.Detail.{Detail}
-use Rattle.step_texts.specs.declared.telling.Detail.TheVariants.{Cells, Locals}
 use Rattle.step_texts.specs.ValueTexts.{value_text}
 
 -- a uniform variable: ` m`
@@ -65,6 +64,6 @@ abbrev pub all_text : ProgramTree → (at : ℕ) → List Change → List LocalC
 all_text tree at variables locals printed = variables_text tree variables ++ (locals_text tree at locals ++ printed_text printed)
 
 -- behind the cells of a statement that stands at that offset, where it is asked for
-abbrev pub beside_text : Detail → (at : ℕ) → List Change → List LocalChange → List ℤ → List ℕ
-beside_text Cells at variables locals printed = []
-beside_text (Locals tree) at variables locals printed = all_text tree.now at variables locals printed
+abbrev pub beside_text : Option (Bor ProgramTree) → (at : ℕ) → List Change → List LocalChange → List ℤ → List ℕ
+beside_text None at variables locals printed = []
+beside_text (Some tree) at variables locals printed = all_text tree.now at variables locals printed

@@ -1,5 +1,6 @@
 -- How entries are written for a reader on a terminal.
-use Rattle.std.specs.Prelude.{ℕ, List, [], ◌∷◌, ◌++◌, ℤ, Bool, true, false, codes, length}
+use Rattle.std.specs.Prelude.{ℕ, List, [], ◌∷◌, ◌++◌, ℤ, Bool, true, false, Option, codes, length}
+use Rattle.std.specs.Borrow.{Bor}
 use Rattle.pram_model.specs.Layout.{SharedEntry}
 use Rattle.pram_tokens.specs.declared.token.Location.{Location}
 use Rattle.step_entries.specs.declared.change.Change.{Change}
@@ -20,22 +21,22 @@ coloured_changes layout false ds = changes_text layout ds
 coloured_changes layout true [] = []
 coloured_changes layout true (d ∷ ds) = in_colour layout (d ∷ ds)
 
-abbrev pub ran_text : List SharedEntry → Bool → (at processors : ℕ) → List Change → List ℕ
-ran_text layout colours at k ds = head_text at k ++ coloured_changes layout colours ds
+abbrev pub ran_text : List SharedEntry → Bool → (columns : Option (Bor (List ℕ))) → Location → (processors : ℕ) → List Change → List ℕ
+ran_text layout colours columns here k ds = head_text columns here k ++ coloured_changes layout colours ds
 
 abbrev pub whole_text : List SharedEntry → Bool → Detail → Location → (processors : ℕ) → (cells variables : List Change) →
     List LocalChange → List ℤ → List ℕ
 whole_text layout colours detail here k cells variables locals printed =
-    ran_text layout colours here.line k cells ++ beside_text detail here.offset variables locals printed
+    ran_text layout colours detail.columns here k cells ++ beside_text detail.locals here.offset variables locals printed
 
 abbrev pub told_text : List SharedEntry → Bool → Detail → Entry → List ℕ
 told_text layout colours detail (Ran here acts cells variables locals items) =
     whole_text layout colours detail here (length acts) cells variables locals items
-told_text layout colours detail (Faulting here fault cause acts met) = faulting_text layout fault met
+told_text layout colours detail (Faulting here fault cause acts met locals) = faulting_text layout detail here fault met locals
 
 abbrev pub line_of : Entry → ℕ
 line_of (Ran here acts cells variables locals items) = here.line
-line_of (Faulting here fault cause acts met) = fault.line
+line_of (Faulting here fault cause acts met locals) = fault.line
 
 -- the line of the text that the entry is of
 abbrev pub beside : List ℕ → ℕ → List ℕ

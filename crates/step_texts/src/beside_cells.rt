@@ -56,12 +56,12 @@ fn write_name<W: Out>(
     }
 }
 
-fn write_processor_head<W: Out>(out: &mut W, local: &LocalChange) -> Result<(), WriteFault>
+pub(crate) fn write_processor_head<W: Out>(out: &mut W, processor: &i64) -> Result<(), WriteFault>
     requires counted { (W.Out.state out.old).failures < 2 ^ 63 }
-    ensures written { Writes (W.Out.state out.old) (W.Out.state out.new) (spec.processor_head local.now.processor) result }
+    ensures written { Writes (W.Out.state out.old) (W.Out.state out.new) (spec.processor_head processor.now) result }
 {
     let mut digits = Buffer::new();
-    out.write_parts(&[b" ", digits.format(local.processor).as_bytes(), b":"])
+    out.write_parts(&[b" ", digits.format(*processor).as_bytes(), b":"])
 }
 
 // A processor's local, behind its index.
@@ -69,7 +69,7 @@ fn write_processor<W: Out>(out: &mut W, local: &LocalChange) -> Result<(), Write
     requires counted { (W.Out.state out.old).failures < 2 ^ 63 }
     ensures written { Writes (W.Out.state out.old) (W.Out.state out.new) (spec.processor_text local.now) result }
 {
-    write_processor_head(out, local)?;
+    write_processor_head(out, &local.processor)?;
     write_value(out, &local.change)
 }
 
@@ -106,7 +106,7 @@ fn write_each_local<W: Out>(
 }
 
 /// So many processors are told each by itself.
-const MOST_LOCALS: usize = 8;
+pub(crate) const MOST_LOCALS: usize = 8;
 
 // Those that are told each by itself.
 fn first_locals(locals: &[LocalChange]) -> &[LocalChange]
@@ -119,8 +119,8 @@ fn first_locals(locals: &[LocalChange]) -> &[LocalChange]
     }
 }
 
-// How many more than those there are.
-fn write_more<W: Out>(out: &mut W, count: usize) -> Result<(), WriteFault>
+/// Writes how many more than those there are.
+pub(crate) fn write_more<W: Out>(out: &mut W, count: usize) -> Result<(), WriteFault>
     requires counted { (W.Out.state out.old).failures < 2 ^ 63 }
     ensures written { Writes (W.Out.state out.old) (W.Out.state out.new) (spec.more_text count) result }
 {
@@ -174,7 +174,7 @@ fn write_all_beside<W: Out>(
     write_printed(out, printed)
 }
 
-/// Writes what is told behind the cells of a statement that stands at this offset of the program's text.
+/// Writes what is told behind the cells of a statement that stands at this offset of the program's text, where that is asked for.
 pub(crate) fn write_beside_cells<W: Out>(
     out: &mut W,
     detail: &Detail<'_>,
@@ -185,10 +185,10 @@ pub(crate) fn write_beside_cells<W: Out>(
 ) -> Result<(), WriteFault>
     requires counted { (W.Out.state out.old).failures < 2 ^ 63 }
     ensures written { Writes (W.Out.state out.old) (W.Out.state out.new)
-        (spec.beside_text detail.now at variables.now locals.now printed.now) result }
+        (spec.beside_text detail.now.locals at variables.now locals.now printed.now) result }
 {
-    match detail {
-        Detail::Cells => Ok(()),
-        Detail::Locals(tree) => write_all_beside(out, tree, at, variables, locals, printed),
+    match detail.locals {
+        None => Ok(()),
+        Some(tree) => write_all_beside(out, tree, at, variables, locals, printed),
     }
 }

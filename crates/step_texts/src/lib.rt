@@ -2,7 +2,9 @@
 #![tactic(auto)]
 
 mod beside_cells;
+mod columns;
 mod manner;
+mod own_locals;
 mod ran;
 mod step_text;
 mod telling;

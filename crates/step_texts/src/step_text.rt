@@ -3,20 +3,22 @@
 ghost use Rattle.std.specs.Prelude.{◌<◌, ◌+◌, ◌-◌, ◌^◌, map};
 ghost use Rattle.text_out.specs.Out.{Writes};
 ghost use Rattle.program_texts.specs.Shown.{line};
-ghost use Rattle.step_entries.specs.Entries.{entry_is};
+ghost use Rattle.step_entries.specs.Entries.{entry_is, own_is};
 ghost use Rattle.step_texts.specs.StepText.{entry_line, line_within, steps_text};
 ghost use Rattle.step_texts.specs.ChangeTexts as spec;
 
 use crate::beside_cells::write_beside_cells;
+use crate::columns::{write_column, write_place};
 use crate::manner::Manner;
+use crate::own_locals::write_own_locals;
 use crate::ran::Ran;
 use crate::telling::{Detail, Telling};
 use crate::terminal::write_on_terminal;
 use crate::values::write_value;
 use itoa::Buffer;
-use pram_trees::Layout;
+use pram_trees::{Layout, Location};
 use program_texts::{write_cell, write_fault_text, write_values};
-use step_entries::{Change, Entry};
+use step_entries::{Change, Entry, OwnLocals};
 use text_out::{Out, WriteFault};
 use write_rules::Fault;
 
@@ -55,33 +57,43 @@ fn write_meeting<W: Out>(out: &mut W, processors: &[i64]) -> Result<(), WriteFau
     write_values(out, processors)
 }
 
-// The line of a statement that ran, and its processors.
-pub(crate) fn write_head<W: Out>(out: &mut W, at: u32, processors: usize) -> Result<(), WriteFault>
+// How many processors executed a statement.
+fn write_count<W: Out>(out: &mut W, processors: usize) -> Result<(), WriteFault>
     requires counted { (W.Out.state out.old).failures < 2 ^ 63 }
-    ensures written { Writes (W.Out.state out.old) (W.Out.state out.new) (spec.head_text at processors) result }
+    ensures written { Writes (W.Out.state out.old) (W.Out.state out.new) (spec.count_text processors) result }
 {
     let mut digits = Buffer::new();
-    let mut count = Buffer::new();
-    out.write_parts(&[
-        b"line ",
-        digits.format(at).as_bytes(),
-        b" processors ",
-        count.format(processors).as_bytes(),
-    ])
+    out.write_parts(&[b" processors ", digits.format(processors).as_bytes()])
+}
+
+// Where a statement stands that ran, and its processors.
+pub(crate) fn write_head<W: Out>(
+    out: &mut W,
+    detail: &Detail<'_>,
+    location: Location,
+    processors: usize,
+) -> Result<(), WriteFault>
+    requires counted { (W.Out.state out.old).failures < 2 ^ 63 }
+    ensures written { Writes (W.Out.state out.old) (W.Out.state out.new) (spec.head_text detail.now.columns location processors) result }
+{
+    write_place(out, detail, location)?;
+    write_count(out, processors)
 }
 
 // What is told of a statement that ran.
 fn write_ran<W: Out>(
     out: &mut W,
     layout: &Layout,
-    at: u32,
+    detail: &Detail<'_>,
+    location: Location,
     processors: usize,
     changes: &[Change],
 ) -> Result<(), WriteFault>
     requires counted { (W.Out.state out.old).failures < 2 ^ 63 }
-    ensures written { Writes (W.Out.state out.old) (W.Out.state out.new) (spec.ran_text layout.now at processors changes.now) result }
+    ensures written { Writes (W.Out.state out.old) (W.Out.state out.new)
+        (spec.ran_text layout.now detail.now.columns location processors changes.now) result }
 {
-    write_head(out, at, processors)?;
+    write_head(out, detail, location, processors)?;
     write_changes(out, layout, changes)
 }
 
@@ -97,23 +109,29 @@ fn write_whole<W: Out>(
         (spec.whole_text layout.now detail.now ran.now.location ran.now.processors ran.now.cells.now ran.now.variables.now
         ran.now.locals.now ran.now.printed.now) result }
 {
-    write_ran(out, layout, ran.location.line, ran.processors, ran.cells)?;
+    write_ran(out, layout, detail, ran.location, ran.processors, ran.cells)?;
     let at = ran.location.offset;
     write_beside_cells(out, detail, at, ran.variables, ran.locals, ran.printed)
 }
 
-// What is told of a fault.
+// What is told of a fault, at the statement that stands there.
 pub(crate) fn write_faulting<W: Out>(
     out: &mut W,
     layout: &Layout,
+    detail: &Detail<'_>,
+    location: Location,
     fault: &Fault,
     processors: &[i64],
+    locals: &[OwnLocals],
 ) -> Result<(), WriteFault>
     requires counted { (W.Out.state out.old).failures < 2 ^ 63 }
-    ensures written { Writes (W.Out.state out.old) (W.Out.state out.new) (spec.faulting_text layout.now fault.now processors.now) result }
+    ensures written { Writes (W.Out.state out.old) (W.Out.state out.new)
+        (spec.faulting_text layout.now detail.now location fault.now processors.now (map own_is locals.now)) result }
 {
     write_fault_text(out, layout, fault)?;
-    write_meeting(out, processors)
+    write_column(out, detail, location.offset)?;
+    write_meeting(out, processors)?;
+    write_own_locals(out, detail, location.offset, locals)
 }
 
 // What is told of a statement.
@@ -146,7 +164,13 @@ fn write_told<W: Out>(
             };
             write_whole(out, layout, detail, &ran)
         }
-        Entry::Faulted { fault, met, .. } => write_faulting(out, layout, fault, met),
+        Entry::Faulted {
+            location,
+            fault,
+            met,
+            locals,
+            ..
+        } => write_faulting(out, layout, detail, *location, fault, met, locals),
     }
 }
 
@@ -161,8 +185,9 @@ pub(crate) fn write_number<W: Out>(out: &mut W, number: usize) -> Result<(), Wri
 
 /// Writes an entry behind its number, on a line: `5 line 9 processors 4 a[3] 4 -> 7 a[4] 0 -> 2`, with locals
 /// `17 line 14 processors 4 a[3] 4 -> 7 m 8 -> 4 x 1: 3 -> 7 2: 0 -> 1 prints 36`, or at a fault
-/// `6 fault read-conflict a[1] line 4 processors 1 3`, where at a cell the indices of the processors follow that met there. The error
-/// is that the writer failed (E17).
+/// `6 fault read-conflict a[1] line 4 processors 1 3`, where at a cell the indices of the processors follow that met there, and with
+/// locals what these held, ` 1: x 3 y 7 3: x 0 y 2`. With columns it is `line 9:5` in place of `line 9`. The error is that the writer
+/// failed (E17).
 pub fn write_entry<W: Out>(
     out: &mut W,
     layout: &Layout,

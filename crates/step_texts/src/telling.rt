@@ -3,13 +3,14 @@
 use crate::manner::Manner;
 use pram_trees::Tree;
 
-/// What is told of a statement that ran.
+/// What is told of a statement beside its line, its processors and the cells that it changed, or its fault.
 #[derive(Clone, Copy)]
-pub enum Detail<'a> {
-    /// The cells that it changed.
-    Cells,
-    /// Those, and the uniform variables and the locals that it changed, by their names in the program's tree, and what it printed.
-    Locals(&'a Tree),
+pub struct Detail<'a> {
+    /// The uniform variables and the locals that it changed, and what it printed; at a fault the locals of the processors that it is of.
+    /// They have their names in this tree of the program.
+    pub locals: Option<&'a Tree>,
+    /// The column at which it begins in this text of the program.
+    pub columns: Option<&'a [u8]>,
 }
 
 /// How entries are written, and what is told of each.

@@ -9,7 +9,7 @@ use crate::beside_cells::write_beside_cells;
 use crate::ran::Ran;
 use crate::step_text::{write_changes, write_faulting, write_head, write_number};
 use crate::telling::Detail;
-use pram_trees::Layout;
+use pram_trees::{Layout, Location};
 use step_entries::{Change, Entry};
 use text_out::{Out, WriteFault};
 use text_places::write_line;
@@ -51,14 +51,16 @@ fn write_ran<W: Out>(
     out: &mut W,
     layout: &Layout,
     colours: bool,
-    at: u32,
+    detail: &Detail<'_>,
+    location: Location,
     processors: usize,
     changes: &[Change],
 ) -> Result<(), WriteFault>
     requires counted { (W.Out.state out.old).failures < 2 ^ 63 }
-    ensures written { Writes (W.Out.state out.old) (W.Out.state out.new) (spec.ran_text layout.now colours at processors changes.now) result }
+    ensures written { Writes (W.Out.state out.old) (W.Out.state out.new)
+        (spec.ran_text layout.now colours detail.now.columns location processors changes.now) result }
 {
-    write_head(out, at, processors)?;
+    write_head(out, detail, location, processors)?;
     write_coloured(out, layout, colours, changes)
 }
 
@@ -79,7 +81,8 @@ fn write_whole<W: Out>(
         out,
         layout,
         colours,
-        ran.location.line,
+        detail,
+        ran.location,
         ran.processors,
         ran.cells,
     )?;
@@ -118,7 +121,13 @@ fn write_told<W: Out>(
             };
             write_whole(out, layout, colours, detail, &ran)
         }
-        Entry::Faulted { fault, met, .. } => write_faulting(out, layout, fault, met),
+        Entry::Faulted {
+            location,
+            fault,
+            met,
+            locals,
+            ..
+        } => write_faulting(out, layout, detail, *location, fault, met, locals),
     }
 }
 

@@ -4,13 +4,17 @@ use Rattle.step_texts.specs.ChangeTexts.{changes_text, head_text}
 use Rattle.step_texts.proofs.step_text.write_ran.Goals as goal
 
 pub returns-in_err-write_head : goal.returns-in_err-write_head
-returns-in_err-write_head g c = record {
-  written = breaks_off _ _ _ _ _ (head_text c.args.at c.args.processors) (changes_text c.args.layout.now c.args.changes.now)
-      c.from_residual.result _ c.from_residual.ensures.1 (starts _ _ c.requires.counted) refl c.in_err-write_head.ensures.written;
-}
+returns-in_err-write_head g c =
+    let head = head_text c.args.detail.now.columns c.args.location c.args.processors in
+    let changes = changes_text c.args.layout.now c.args.changes.now in
+    record {
+      written = breaks_off _ _ _ _ _ head changes c.from_residual.result _ c.from_residual.ensures.1 (starts _ _ c.requires.counted) refl
+          c.in_err-write_head.ensures.written;
+    }
 
 pub returns : goal.returns
 returns g c =
-    let head = goes_on _ _ _ _ _ (head_text c.args.at c.args.processors) (changes_text c.args.layout.now c.args.changes.now)
-    (starts _ _ c.requires.counted) refl c.in_ok-write_head.ensures.written in
-    record { written = closes _ _ _ _ _ c.write_changes.result head c.write_changes.ensures.written }
+    let head = head_text c.args.detail.now.columns c.args.location c.args.processors in
+    let changes = changes_text c.args.layout.now c.args.changes.now in
+    let first = goes_on _ _ _ _ _ head changes (starts _ _ c.requires.counted) refl c.in_ok-write_head.ensures.written in
+    record { written = closes _ _ _ _ _ c.write_changes.result first c.write_changes.ensures.written }
