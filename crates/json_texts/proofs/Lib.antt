@@ -1,6 +1,7 @@
 pub mod CauseLemmas
 pub mod DeclarationFacts
 pub mod EntryFacts
+pub mod HeldLocals
 pub mod ExchangeFacts
 pub mod Readable
 pub mod SweepReadable

@@ -1,5 +1,5 @@
 -- That what is told of two programs on the same inputs can be read.
-use Rattle.std.proofs.Common.{ℕ, ◌-◌, nat_lt, Bool, true, false, ℤ, List, [], ◌∷◌, ◌++◌, codes, length, lit≤}
+use Rattle.std.proofs.Common.{ℕ, ◌-◌, nat_lt, Bool, true, false, ℤ, List, [], ◌∷◌, codes, length, lit≤}
 use Rattle.std.specs.Prelude.{Option, Some, None, if◌then◌else◌}
 use Rattle.json_lines.specs.Facts.{large}
 use Rattle.json_lines.specs.Small.{IsReadable, IsSmall}

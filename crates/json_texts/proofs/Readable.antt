@@ -1,7 +1,9 @@
 -- What is told can be read: it has no float, and nests five levels at most.
-use Rattle.std.proofs.Common.{ℕ, List, [], ◌∷◌, ◌++◌, length, lit≤, map, arith, refl}
+use Rattle.std.proofs.Common.{ℕ, ◌+◌, List, [], ◌∷◌, ◌++◌, length, lit≤, map, arith, refl}
 use Rattle.std.specs.Prelude.{Bool, true, false, ℤ, Option, Some, None, codes, slice_get}
 use Rattle.json_lines.specs.Facts.{Field, list, object_of, value}
+use Rattle.serde_json.specs.Data.{Data}
+use Rattle.std.specs.List.{flat_map}
 use Rattle.json_lines.specs.Small.{IsReadable, IsSmall}
 use Rattle.json_lines.proofs.Small.{AreSmall, HasSmall, has_all, small_count, small_flag, small_large, small_letters}
 use Rattle.json_lines.proofs.Small.{small_list, small_map, small_object, small_value, small_values, small_word, smaller}
@@ -29,19 +31,19 @@ use Rattle.step_entries.specs.declared.change.Change.{Change}
 use Rattle.step_entries.specs.declared.local_change.LocalChange.{LocalChange}
 use Rattle.pram_trees.specs.Program.{ProgramTree}
 use Rattle.step_entries.specs.Causes as told
-use Rattle.step_entries.specs.Entries.{Act, Entry, Faulting, Ran}
+use Rattle.step_entries.specs.Entries.{Act, Entry, Faulting, OwnLocals, Ran}
 use Rattle.json_texts.specs.AcceptedFacts.{accepted_facts, accepted_fields}
 use Rattle.json_texts.specs.CostFacts.{bound_fields, cost_facts, cost_fields, line_facts, line_fields, most_fields, round_fields}
 use Rattle.memory_texts.specs.Chosen.{chosen}
 use Rattle.memory_texts.specs.declared.choice.Choice.{Choice}
 use Rattle.memory_texts.specs.declared.choice.Choice.TheVariants.{All}
-use Rattle.json_texts.specs.OutcomeFacts.{bounds_fields, chosen_facts, chosen_fields, entry_facts, fault_fields, memory_facts, outcome_facts, outcome_fields}
+use Rattle.json_texts.specs.OutcomeFacts.{bounds_fields, chosen_facts, chosen_fields, entry_facts, fault_fields, memory_facts, opening_facts, outcome_facts, outcome_fields}
 use Rattle.json_texts.specs.RefusalFacts.{cause_fields, place_fields, reason_fields, stop_facts, stop_fields, text_fields, told_place}
 use Rattle.json_texts.specs.RuleFacts.{comparison_facts, declared_fields, finding_fields, rule_facts}
-use Rattle.json_texts.specs.ActFacts.{act_facts, cell_fact, processor_fact, write_fact}
+use Rattle.json_texts.specs.ActFacts.{act_facts, cell_fact, position_fact, processor_fact, value_fact, write_fact, written_fact}
 use Rattle.json_texts.specs.CauseFacts.{beyond_fields, known_fields, why_fields, write_facts}
 use Rattle.text_places.specs.Places.{place_of}
-use Rattle.json_texts.specs.StepFacts.{change_facts, local_facts, step_facts, told_fields, variable_facts}
+use Rattle.json_texts.specs.StepFacts.{change_facts, held_from, local_facts, own_facts, step_facts, told_fields, variable_facts}
 
 -- ---- outcomes
 
@@ -67,6 +69,12 @@ small_chosen choice layout (Ended output memory) =
     (small_word 3 _, (small_values 2 output, (small_list 2 (memory_facts ds) (small_memory ds), tt)))
 small_chosen choice layout (Faulted fault output) = (small_word 3 _, (small_values 2 output, small_fault 3 layout fault))
 small_chosen choice layout (GoesOn output) = (small_word 3 _, (small_values 2 output, tt))
+
+pub readable_opening : (layout : List SharedEntry) (memory : List ℤ) → IsReadable (opening_facts layout memory)
+readable_opening layout memory =
+    let ds = chosen All layout memory in
+    smaller 4 127 (opening_facts layout memory) (lit≤ tt)
+    (small_object 3 ((codes "opening", list (memory_facts ds)) ∷ []) (small_list 2 (memory_facts ds) (small_memory ds), tt))
 
 small_outcome : (layout : List SharedEntry) (v : Verdict) → HasSmall 3 (outcome_fields layout v)
 small_outcome layout v = small_chosen All layout v
@@ -218,6 +226,23 @@ small_local tree at d =
     small_object 0 ((codes "processor", _) ∷ (codes "local", _) ∷ (codes "before", _) ∷ (codes "after", _) ∷ [])
     (small_value 0 d.processor, (small_letters 0 _, (small_value 0 d.change.before, (small_value 0 d.change.after, tt))))
 
+small_held : (tree : ProgramTree) (at : ℕ) (i : ℤ) (number : ℕ) (vs : List ℤ) → AreSmall 1 (held_from tree at i number vs)
+small_held tree at i number [] = tt
+small_held tree at i number (v ∷ vs) = (
+  small_object 0 ((codes "processor", _) ∷ (codes "local", _) ∷ (codes "value", _) ∷ [])
+      (small_value 0 i, (small_letters 0 _, (small_value 0 v, tt))),
+  small_held tree at i (number + 1) vs,
+)
+
+small_both : (n : ℕ) (ds es : List Data) → AreSmall n ds → AreSmall n es → AreSmall n (ds ++ es)
+small_both n [] es h g = g
+small_both n (d ∷ ds) es h g = (h.0, small_both n ds es h.1 g)
+
+small_own : (tree : ProgramTree) (at : ℕ) (ls : List OwnLocals) → AreSmall 1 (flat_map (own_facts tree at) ls)
+small_own tree at [] = tt
+small_own tree at (l ∷ ls) = small_both 1 (own_facts tree at l) (flat_map (own_facts tree at) ls)
+    (small_held tree at l.processor 0 l.values) (small_own tree at ls)
+
 small_processor : (i : Option ℤ) → IsSmall 1 (processor_fact i)
 small_processor None = record { nests = omega arith; no_float = refl }
 small_processor (Some i) = small_value 1 i
@@ -226,13 +251,24 @@ small_write : (layout : List SharedEntry) (c : Option ℕ) → IsSmall 1 (write_
 small_write layout None = record { nests = omega arith; no_float = refl }
 small_write layout (Some c) = small_letters 1 _
 
+small_written : (v : Option ℤ) → IsSmall 1 (written_fact v)
+small_written None = record { nests = omega arith; no_float = refl }
+small_written (Some v) = small_value 1 v
+
 small_act : (layout : List SharedEntry) (a : Act) → IsSmall 2 (act_facts layout a)
 small_act layout a =
-    small_object 1 ((codes "processor", _) ∷ (codes "reads", _) ∷ (codes "write", _) ∷ []) (
+    small_object 1 ((codes "processor", _) ∷ (codes "reads", _) ∷ (codes "positions", _) ∷ (codes "values", _) ∷ (codes "write", _)
+    ∷ (codes "written", _) ∷ []) (
       small_processor a.processor,
       (
         small_list 0 (map (cell_fact layout) a.reads) (small_map 0 (cell_fact layout) (λ c. small_letters 0 _) a.reads),
-        (small_write layout a.write, tt),
+        (
+          small_list 0 (map position_fact a.readings) (small_map 0 position_fact (λ r. small_count 0 r.position) a.readings),
+          (
+            small_list 0 (map value_fact a.readings) (small_map 0 value_fact (λ r. small_value 0 r.value) a.readings),
+            (small_write layout a.write, (small_written a.written, tt)),
+          ),
+        ),
       ),
     )
 
@@ -288,14 +324,17 @@ small_told layout tree source (Ran here acts cells variables locals items) = (
     ),
   ),
 )
-small_told layout tree source (Faulting here fault cause acts met) = (
+small_told layout tree source (Faulting here fault cause acts met locals) = (
   small_count 3 (place_of source here.offset).column,
   (
-    small_values 2 met,
+    smaller 2 3 _ (lit≤ tt) (small_list 1 (flat_map (own_facts tree here.offset) locals) (small_own tree here.offset locals)),
     (
-      small_acts layout acts,
-      has_all 3 (fault_fields layout fault) (known_fields layout cause) (small_fault 3 layout fault)
-          (small_known layout cause),
+      small_values 2 met,
+      (
+        small_acts layout acts,
+        has_all 3 (fault_fields layout fault) (known_fields layout cause) (small_fault 3 layout fault)
+            (small_known layout cause),
+      ),
     ),
   ),
 )

@@ -50,3 +50,7 @@ outcome_fields layout v = chosen_fields All layout v
 
 abbrev pub outcome_facts : List SharedEntry → Verdict → Data
 outcome_facts layout v = object_of (outcome_fields layout v)
+
+-- what the cells hold before a run
+abbrev pub opening_facts : List SharedEntry → List ℤ → Data
+opening_facts layout memory = object_of ((codes "opening", list (memory_facts (chosen All layout memory))) ∷ [])

@@ -1,5 +1,6 @@
 -- What JSON says of a run that is told statement by statement.
 use Rattle.std.specs.Prelude.{ℕ, ℤ, Option, ◌+◌, nat_le, ◌&&◌, if◌then◌else◌, List, [], ◌∷◌, ◌++◌, codes, length, map}
+use Rattle.std.specs.List.{flat_map}
 use Rattle.serde_json.specs.Data.{Data}
 use Rattle.json_lines.specs.Facts.{Field, count, letters, list, object_of, value, values}
 use Rattle.pram_model.specs.Layout.{SharedEntry}
@@ -8,7 +9,7 @@ use Rattle.program_texts.specs.Shown.{cell_text}
 use Rattle.scope_names.specs.Locals.{local_name, variable_name}
 use Rattle.step_entries.specs.declared.change.Change.{Change}
 use Rattle.step_entries.specs.declared.local_change.LocalChange.{LocalChange}
-use Rattle.step_entries.specs.Entries.{Act, Entry, Faulting, Ran}
+use Rattle.step_entries.specs.Entries.{Act, Entry, Faulting, OwnLocals, Ran}
 use Rattle.step_entries.specs.Causes.{Cause}
 use Rattle.text_places.specs.Places.{place_of}
 use Rattle.write_rules.specs.declared.fault.Fault.{Fault}
@@ -34,11 +35,28 @@ local_facts tree at d = object_of
     ((codes "processor", value d.processor) ∷ (codes "local", letters (local_name tree at d.change.cell))
     ∷ (codes "before", value d.change.before) ∷ (codes "after", value d.change.after) ∷ [])
 
+-- what a processor's local holds, by the index and the local's name
+abbrev pub held_facts : (processor : ℤ) → (name : List ℕ) → (held : ℤ) → Data
+held_facts i name v = object_of ((codes "processor", value i) ∷ (codes "local", letters name) ∷ (codes "value", value v) ∷ [])
+
+-- what those of a processor hold, numbered from this on, in a statement that stands at that offset
+abbrev pub held_from : ProgramTree → (at : ℕ) → (processor : ℤ) → (number : ℕ) → List ℤ → List Data
+held_from tree at i number [] = []
+held_from tree at i number (v ∷ vs) = held_facts i (local_name tree at number) v ∷ held_from tree at i (number + 1) vs
+
+abbrev pub own_facts : ProgramTree → (at : ℕ) → OwnLocals → List Data
+own_facts tree at l = held_from tree at l.processor 0 l.values
+
 -- what is told of a statement that faulted: who met at its cell, what each did up to there, its fault, and why
 abbrev pub faulting_fields : List SharedEntry → Fault → Option Cause → List Act → (met : List ℤ) → List Field
 faulting_fields layout fault cause acts met =
     (codes "met", values met) ∷ (codes "acts", list (map (act_facts layout) acts))
     ∷ (fault_fields layout fault ++ known_fields layout cause)
+
+-- that, with the locals of the processors that it is of
+abbrev pub fault_told : List SharedEntry → ProgramTree → (at : ℕ) → Fault → Option Cause → List Act → (met : List ℤ) → List OwnLocals → List Field
+fault_told layout tree at fault cause acts met locals =
+    (codes "locals", list (flat_map (own_facts tree at) locals)) ∷ faulting_fields layout fault cause acts met
 
 -- the column of a statement that stands at that offset of the program's text
 abbrev pub column_field : (source : List ℕ) → (at : ℕ) → Field
@@ -52,8 +70,8 @@ told_fields layout tree source (Ran here acts cells variables locals items) =
     ∷ (codes "acts", list (map (act_facts layout) acts))
     ∷ (codes "changes", list (map (change_facts layout) cells)) ∷ (codes "variables", list (map (variable_facts tree) variables))
     ∷ (codes "locals", list (map (local_facts tree here.offset) locals)) ∷ (codes "printed", values items) ∷ []
-told_fields layout tree source (Faulting here fault cause acts met) =
-    column_field source here.offset ∷ faulting_fields layout fault cause acts met
+told_fields layout tree source (Faulting here fault cause acts met locals) =
+    column_field source here.offset ∷ fault_told layout tree here.offset fault cause acts met locals
 
 abbrev pub step_facts : List SharedEntry → ProgramTree → (source : List ℕ) → ℕ → Entry → Data
 step_facts layout tree source number e = object_of ((codes "step", count number) ∷ told_fields layout tree source e)

@@ -11,7 +11,7 @@ use crate::fault::cell_text;
 use json_lines::{Object, Value, value_of};
 use pram_trees::Layout;
 use std::alloc::{AllocError, Global};
-use step_entries::Act;
+use step_entries::{Act, Reading};
 
 // A cell by its name.
 fn cell_value(alloc: Global, layout: &Layout, cell: u32) -> Result<Value, AllocError>
@@ -52,17 +52,53 @@ fn processor_value(alloc: Global, processor: Option<i64>) -> Result<Value, Alloc
     }
 }
 
+// A value, where there is one.
+fn written_value(alloc: Global, written: Option<i64>) -> Result<Value, AllocError>
+    ensures { IfOk result (λ v. view v ≡ spec.written_fact written) }
+{
+    match written {
+        Some(value) => value_of(alloc, value),
+        None => Ok(Value::Null),
+    }
+}
+
+fn positions_value(alloc: Global, readings: &[Reading]) -> Result<Vec<Value>, AllocError>
+    ensures { IfOk result (λ list. map view list.items ≡ map spec.position_fact readings.now) }
+{
+    let mut list = Vec::new(alloc);
+    for reading in readings {
+        list.push(Value::from(reading.position as u64))?;
+    }
+    Ok(list)
+}
+
+fn values_value(alloc: Global, readings: &[Reading]) -> Result<Vec<Value>, AllocError>
+    ensures { IfOk result (λ list. map view list.items ≡ map spec.value_fact readings.now) }
+{
+    let mut list = Vec::new(alloc);
+    for reading in readings {
+        list.push(value_of(alloc, reading.value)?)?;
+    }
+    Ok(list)
+}
+
 // What one processor did.
 fn act_facts(alloc: Global, layout: &Layout, act: &Act) -> Result<Value, AllocError>
     ensures { IfOk result (λ v. view v ≡ spec.act_facts layout.now (act_is act.now)) }
 {
     let processor = processor_value(alloc, act.processor)?;
     let reads = cells_value(alloc, layout, &act.reads)?;
+    let positions = positions_value(alloc, &act.readings)?;
+    let values = values_value(alloc, &act.readings)?;
     let write = write_value(alloc, layout, act.write)?;
+    let written = written_value(alloc, act.written)?;
     let mut object = Object::new(alloc);
     object.put("processor", processor)?;
     object.put_list("reads", reads)?;
+    object.put_list("positions", positions)?;
+    object.put_list("values", values)?;
     object.put("write", write)?;
+    object.put("written", written)?;
     Ok(object.into_value())
 }
 

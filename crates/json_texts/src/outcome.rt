@@ -98,3 +98,21 @@ pub fn json_outcome(
     let facts = outcome_value(alloc, layout, outcome, choice)?;
     line_of(alloc, &facts)
 }
+
+// What the cells hold before a run.
+fn opening_value(alloc: Global, layout: &Layout, memory: &[i64]) -> Result<Value, AllocError>
+    ensures { IfOk result (λ v. view v ≡ spec.opening_facts layout.now memory.now) }
+{
+    let list = memory_of(alloc, layout, Choice::All, memory)?;
+    let mut object = Object::new(alloc);
+    object.put_list("opening", list)?;
+    Ok(object.into_value())
+}
+
+/// What the cells hold before a run, on a line: `{"opening":[{"high":"2","low":"1","name":"a","values":["9","5"]}]}`.
+pub fn json_opening(alloc: Global, layout: &Layout, memory: &[i64]) -> Result<String, AllocError>
+    ensures json { IfOk result (λ text. IsJson (spec.opening_facts layout.now memory.now ∷ []) (string_bytes text)) }
+{
+    let facts = opening_value(alloc, layout, memory)?;
+    line_of(alloc, &facts)
+}

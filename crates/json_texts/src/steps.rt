@@ -16,6 +16,7 @@ use crate::acts::acts_facts;
 use crate::cause::put_known;
 use crate::fault::{cell_text, put_fault};
 use crate::outcome::outcome_value;
+use crate::own_locals::own_facts;
 use json_lines::{Object, Value, line_of, push_line};
 use memory_texts::Choice;
 use pram_trees::{Layout, Location, Tree};
@@ -207,8 +208,11 @@ fn put_told(
             cause,
             acts,
             met,
+            locals,
         } => {
+            let own = own_facts(alloc, tree, location.offset, locals)?;
             put_column(object, source, *location)?;
+            object.put_list("locals", own)?;
             put_faulting(alloc, object, layout, fault, cause, acts, met)
         }
     }
@@ -314,10 +318,11 @@ fn push_outcome(
 /// `{"acts":[{"processor":"3","reads":["a[3]"],"write":"a[3]"}],"changes":[{"after":"7","before":"4","cell":"a[3]"}],"column":5,`
 /// `"line":9,"locals":[],"printed":[],"processors":1,"step":5,"variables":[]}`, where `processor` is null of the one outside pardo and `write`
 /// where it writes no cell; or at a fault
-/// `{"acts":[..],"column":3,"kind":"read-conflict","line":4,"met":["1","3"],"place":"a[1]","step":6}`, with what there is to say of why: `array`,
-/// `subscript`, `low` and `high`; `operator` and `operands`; `low`, `high` and `procs`; or `writers`. A variable is told as
+/// `{"acts":[..],"column":3,"kind":"read-conflict","line":4,"locals":[..],"met":["1","3"],"place":"a[1]","step":6}`, with what there is to say
+/// of why: `array`, `subscript`, `low` and `high`; `operator` and `operands`; `low`, `high` and `procs`; or `writers`. A variable is told as
 /// `{"after":"4","before":"8","name":"m","variable":0}`, by its name in the tree and its number in the order of declarations, and a local
-/// as `{"after":"7","before":"3","local":"x","processor":"1"}`.
+/// as `{"after":"7","before":"3","local":"x","processor":"1"}`; at a fault what each local holds of those that met, or of the one that
+/// faulted, as `{"local":"x","processor":"1","value":"3"}`.
 pub fn json_steps(
     alloc: Global,
     layout: &Layout,

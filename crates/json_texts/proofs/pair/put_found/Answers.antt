@@ -1,4 +1,4 @@
-use Rattle.std.proofs.Common.{◌≡◌, ◌∙◌, ap, List, map}
+use Rattle.std.proofs.Common.{◌∙◌, ap, List, map}
 use Rattle.std.proofs.lemmas.Result.{on_ok_weaker}
 use Rattle.json_lines.proofs.Small.{put_then}
 use Rattle.json_lines.specs.Facts.{with_fields}
