@@ -8,7 +8,7 @@ use Rattle.json_lines.specs.Lines.{IsJson}
 use Rattle.json_texts.specs.StepFacts.{step_facts, step_within, steps_from}
 use Rattle.step_entries.specs.Entries.{Entry}
 use Rattle.step_pages.specs.Kept.{Holds}
-use Rattle.step_pages.specs.State.{with_cells, with_variables}
+use Rattle.step_pages.specs.State.{with_cells, with_printed, with_variables}
 use Rattle.step_pages.specs.declared.lines.KeptLines.{KeptLines}
 use Rattle.step_pages.specs.declared.state.RunState.{RunState}
 use Rattle.page_streams.specs.declared.asked.Asked.{Asked}
@@ -34,11 +34,12 @@ unmade f last count number a b e n past is =
 
 pub state_on : (last count number : ℕ) (s t : RunState) (e : Entry) → number ≡ count + 1 → number ≤ last →
     t.cells.items ≡ with_cells s.cells.items e → t.variables.items ≡ with_variables s.variables.items e →
-    Replays last count number s t (e ∷ [])
-state_on last count number s t e n le cells variables = record {
+    t.printed ≡ with_printed s.printed e → Replays last count number s t (e ∷ [])
+state_on last count number s t e n le cells variables printed = record {
   counted = n;
   cells = made with_cells last count number s.cells.items t.cells.items e n le cells;
   variables = made with_variables last count number s.variables.items t.variables.items e n le variables;
+  printed = made with_printed last count number s.printed t.printed e n le printed;
 }
 
 pub state_passed : (last count number : ℕ) (s : RunState) (e : Entry) → number ≡ count + 1 → last < number →
@@ -47,6 +48,7 @@ state_passed last count number s e n past = record {
   counted = n;
   cells = unmade with_cells last count number s.cells.items s.cells.items e n past refl;
   variables = unmade with_variables last count number s.variables.items s.variables.items e n past refl;
+  printed = unmade with_printed last count number s.printed s.printed e n past refl;
 }
 
 -- ---- its line
@@ -85,9 +87,10 @@ module _ (a : Asked) (count number : ℕ) (e : Entry) (n : number ≡ count + 1)
 
   -- it is before the first one that is asked for
   pub replayed_one : (s t : RunState) (k : KeptLines) → number < a.first → t.cells.items ≡ with_cells s.cells.items e →
-      t.variables.items ≡ with_variables s.variables.items e → Gathers a count number s t k k (e ∷ [])
-  replayed_one s t k lt cells variables = record {
-    replays = state_on (a.first - 1) count number s t e n (omega (arith, lt)) cells variables;
+      t.variables.items ≡ with_variables s.variables.items e → t.printed ≡ with_printed s.printed e →
+      Gathers a count number s t k k (e ∷ [])
+  replayed_one s t k lt cells variables printed = record {
+    replays = state_on (a.first - 1) count number s t e n (omega (arith, lt)) cells variables printed;
     lines = no_line k (before_first lt);
   }
 

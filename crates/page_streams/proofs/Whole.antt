@@ -14,7 +14,7 @@ use Rattle.write_rules.specs.declared.outcome.Outcome.{Outcome}
 use Rattle.step_entries.specs.Entries.{Entry}
 use Rattle.step_pages.specs.Kept.{Holds}
 use Rattle.step_pages.specs.Opening.{opening_facts}
-use Rattle.step_pages.specs.State.{state_facts, state_of, with_cells, with_variables}
+use Rattle.step_pages.specs.State.{state_facts, state_of, with_cells, with_printed, with_variables}
 use Rattle.step_pages.specs.declared.lines.KeptLines.{KeptLines}
 use Rattle.step_pages.specs.declared.state.RunState.{RunState}
 use Rattle.page_streams.specs.declared.asked.Asked.{Asked}
@@ -38,29 +38,29 @@ all_made f last a b c es same is =
     is ∙ ap (λ s. fold f s (take (last - 0) es)) same ∙ ap (λ n. fold f a (take n es)) (let e : last - 0 ≡ last = omega arith in e)
 
 pub all_replayed : (last count : ℕ) (input : List ℤ) (s t : RunState) (es : List Entry) → s.cells.items ≡ input → s.variables.items ≡ [] →
-    Replays last 0 count s t es → IsBehind input es last t
-all_replayed last count input s t es cells variables h = record {
+    s.printed ≡ 0 → Replays last 0 count s t es → IsBehind input es last t
+all_replayed last count input s t es cells variables printed h = record {
   cells = all_made with_cells last input s.cells.items t.cells.items es cells h.cells;
   variables = all_made with_variables last [] s.variables.items t.variables.items es variables h.variables;
+  printed = all_made with_printed last 0 s.printed t.printed es printed h.printed;
 }
 
 pub all_gathered : (a : Asked) (input : List ℤ) (es : List Entry) (s : RunState) (k : KeptLines) (g : Gathered) → s.cells.items ≡ input →
-    s.variables.items ≡ [] → Holds k [] → Gathers a 0 g.count s g.state k g.lines es → IsGathered a input es g
-all_gathered a input es s k g cells variables none h = record {
+    s.variables.items ≡ [] → s.printed ≡ 0 → Holds k [] → Gathers a 0 g.count s g.state k g.lines es → IsGathered a input es g
+all_gathered a input es s k g cells variables printed none h = record {
   counted = let e : g.count ≡ 0 + length es = h.replays.counted in omega (arith, e);
-  before = all_replayed (a.first - 1) g.count input s g.state es cells variables h.replays;
+  before = all_replayed (a.first - 1) g.count input s g.state es cells variables printed h.replays;
   lines = record { text = h.lines.text; json = h.lines.json; holds = h.lines.holds [] none };
 }
 
 -- ---- the lines of states
 
 state_is : (input : List ℤ) (es : List Entry) (k : ℕ) (s : RunState) → IsBehind input es k s →
-    state_of s.cells.items s.variables.items k ≡ state_facts input es k
-state_is input es k s h =
-    ap (λ c. state_of c s.variables.items k) h.cells ∙ ap (λ v. state_of (fold with_cells input (take k es)) v k) h.variables
+    state_of s.cells.items s.variables.items s.printed k ≡ state_facts input es k
+state_is input es k s h = λ i. state_of (h.cells i) (h.variables i) (h.printed i) k
 
 pub line_is : (input : List ℤ) (es : List Entry) (k : ℕ) (s : RunState) (line : List ℕ) → IsBehind input es k s →
-    IsJson (state_of s.cells.items s.variables.items k ∷ []) line → IsJson (state_facts input es k ∷ []) line
+    IsJson (state_of s.cells.items s.variables.items s.printed k ∷ []) line → IsJson (state_facts input es k ∷ []) line
 line_is input es k s line h json = subst (λ d. IsJson (d ∷ []) line) (state_is input es k s h) json
 
 stands_so : (b : Bool) (input : List ℤ) (es : List Entry) (first : ℕ) (s : RunState) (line : List ℕ) → IsBehind input es (first - 1) s →

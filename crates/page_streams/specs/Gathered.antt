@@ -6,7 +6,7 @@ use Rattle.json_lines.specs.Lines.{IsJson}
 use Rattle.json_texts.specs.StepFacts.{steps_from}
 use Rattle.step_entries.specs.Entries.{Entry}
 use Rattle.step_pages.specs.Kept.{Holds}
-use Rattle.step_pages.specs.State.{state_of, with_cells, with_variables}
+use Rattle.step_pages.specs.State.{state_of, with_cells, with_printed, with_variables}
 use Rattle.step_pages.specs.declared.lines.KeptLines.{KeptLines}
 use Rattle.step_pages.specs.declared.state.RunState.{RunState}
 use Rattle.page_streams.specs.declared.asked.Asked.{Asked}
@@ -19,6 +19,7 @@ pub record Replays (last count late : ℕ) (old new : RunState) (es : List Entry
   pub counted : late ≡ count + length es
   pub cells : new.cells.items ≡ fold with_cells old.cells.items (take (last - count) es)
   pub variables : new.variables.items ≡ fold with_variables old.variables.items (take (last - count) es)
+  pub printed : new.printed ≡ fold with_printed old.printed (take (last - count) es)
 
 -- lines that say these facts were put behind the others
 pub record AddsLines (old new : KeptLines) (facts : List Data) : Type 0 where
@@ -38,6 +39,7 @@ pub record Gathers (a : Asked) (count late : ℕ) (old new : RunState) (some mor
 pub record IsBehind (input : List ℤ) (es : List Entry) (k : ℕ) (s : RunState) : Type 0 where
   pub cells : s.cells.items ≡ fold with_cells input (take k es)
   pub variables : s.variables.items ≡ fold with_variables [] (take k es)
+  pub printed : s.printed ≡ fold with_printed 0 (take k es)
 
 -- lines that say these facts
 pub record HoldsFacts (k : KeptLines) (facts : List Data) : Type 0 where
@@ -53,5 +55,5 @@ pub record IsGathered (a : Asked) (input : List ℤ) (es : List Entry) (g : Gath
 
 -- the line of a state, where it is asked for
 abbrev pub IsLineIf : (asked : Bool) → RunState → (k : ℕ) → List ℕ → Type 0
-IsLineIf true s k line = IsJson (state_of s.cells.items s.variables.items k ∷ []) line
+IsLineIf true s k line = IsJson (state_of s.cells.items s.variables.items s.printed k ∷ []) line
 IsLineIf false s k line = line ≡ []

@@ -10,7 +10,7 @@ use Rattle.pram_model.specs.Layout.{SharedEntry}
 use Rattle.pram_trees.specs.Program.{ProgramTree}
 use Rattle.step_entries.specs.Entries.{Entry}
 use Rattle.step_pages.specs.Kept.{Holds}
-use Rattle.step_pages.specs.State.{with_cells, with_variables}
+use Rattle.step_pages.specs.State.{with_cells, with_printed, with_variables}
 use Rattle.step_pages.specs.declared.lines.KeptLines.{KeptLines}
 use Rattle.step_pages.specs.declared.state.RunState.{RunState}
 use Rattle.page_streams.specs.declared.asked.Asked.{Asked}
@@ -42,6 +42,7 @@ replays_nothing last count s = record {
   counted = omega arith;
   cells = ap (fold with_cells s.cells.items) (sym (take_all (last - count) [] (omega arith)));
   variables = ap (fold with_variables s.variables.items) (sym (take_all (last - count) [] (omega arith)));
+  printed = ap (fold with_printed s.printed) (sym (take_all (last - count) [] (omega arith)));
 }
 
 pub replays_on : (last count mid late : ℕ) (a b c : RunState) (xs ys : List Entry) → Replays last count mid a b xs →
@@ -52,6 +53,7 @@ replays_on last count mid late a b c xs ys h g = record {
   cells = folded with_cells last count mid a.cells.items b.cells.items c.cells.items xs ys h.counted h.cells g.cells;
   variables = folded with_variables last count mid a.variables.items b.variables.items c.variables.items xs ys h.counted h.variables
       g.variables;
+  printed = folded with_printed last count mid a.printed b.printed c.printed xs ys h.counted h.printed g.printed;
 }
 
 pub replays_as : (last to count mid late : ℕ) (a b c : RunState) (xs ys : List Entry) → to ≡ last → Replays last count mid a b xs →

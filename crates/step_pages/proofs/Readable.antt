@@ -73,7 +73,8 @@ readable_opening file text tree input statements =
     (has_all 3 (source_fields file text tree.rule input statements) (names_fields tree) (source_small file text tree.rule input statements)
     (names_small tree)))
 
-pub readable_state : (cells variables : List ℤ) (k : ℕ) → IsReadable (state_of cells variables k)
-readable_state cells variables k =
-    smaller 2 127 (state_of cells variables k) (lit≤ tt)
-    (small_object 1 (state_fields cells variables k) (small_count 1 k, (small_values 0 cells, (small_values 0 variables, tt))))
+pub readable_state : (cells variables : List ℤ) (printed k : ℕ) → IsReadable (state_of cells variables printed k)
+readable_state cells variables printed k =
+    smaller 2 127 (state_of cells variables printed k) (lit≤ tt)
+    (small_object 1 (state_fields cells variables printed k)
+    (small_count 1 k, (small_values 0 cells, (small_values 0 variables, (small_count 1 printed, tt)))))

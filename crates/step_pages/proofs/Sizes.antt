@@ -27,7 +27,7 @@ reading_size : length reading ≤ 8000
 reading_size =
     let whole = length-append READING MOVING in
     let a : length READING ≡ 2522 = refl in
-    let b : length MOVING ≡ 4088 = refl in
+    let b : length MOVING ≡ 4233 = refl in
     omega (arith, whole, a, b)
 
 drawing_size : length drawing ≤ 8000
@@ -40,7 +40,7 @@ drawing_size =
 telling_size : length telling ≤ 8000
 telling_size =
     let whole = length-append TELLING MARKING in
-    let a : length TELLING ≡ 2992 = refl in
+    let a : length TELLING ≡ 3001 = refl in
     let b : length MARKING ≡ 3225 = refl in
     omega (arith, whole, a, b)
 

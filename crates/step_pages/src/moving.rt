@@ -49,7 +49,7 @@ function name_of(entry, i) { return entry.one ? entry.name : entry.name + '[' + 
 ";
 
 /// The values of cells, variables and locals at a moment, and what was printed.
-pub(crate) const MOVING: [u8; 4088] =
+pub(crate) const MOVING: [u8; 4233] =
     *b"// The values at a moment: those that changed, by name, and of all others what they were at first.
 function listed_at(values, name) {
   var p = place(name), i = p ? p.entry.base + p.at : values.length;
@@ -95,10 +95,14 @@ function move(i, side) {
   (s.changes || []).forEach(function (c) { state.cells[c.cell] = c[side]; });
   (s.variables || []).forEach(function (v) { state.variables[v.variable] = v[side]; });
 }
-// How many values were printed up to each moment, as far as that is known: counted from the start, or from the end.
+// How many values were printed up to each moment, as far as that is known: counted from the start, from a state, or from the end.
 var printed = [0];
 function prints(s) { return (s.printed || []).length; }
-steps.forEach(function (s, i) { printed.push(s.gap || printed[i] === null ? null : printed[i] + prints(s)); });
+function printed_by(s, before) {
+  if (s.gap) { return state_of(s) ? state_of(s).printed : null; }
+  return before === null ? null : before + prints(s);
+}
+steps.forEach(function (s, i) { printed.push(printed_by(s, printed[i])); });
 if (outcome) {
   printed[last] = outcome.output.length;
   for (var j = last; j > 0 && !steps[j - 1].gap; j -= 1) { printed[j - 1] = printed[j] - prints(steps[j - 1]); }
@@ -127,7 +131,7 @@ function locals_at(moment) {
   while (i > 0 && !steps[i - 1].gap && !enters(steps[i - 1])) { i -= 1; }
   if (i > 0 && !steps[i - 1].gap) { found.base = '0'; }
   for (; i < moment; i += 1) {
-    (steps[i].locals || []).forEach(function (l) { found.values[l.processor + ' ' + l.local] = l.after; });
+    (steps[i].locals || []).forEach(function (l) { found.values[l.processor + ' ' + l.local] = l.after || l.value; });
   }
   return found;
 }

@@ -1,4 +1,4 @@
-//! What stands in shared memory and in the uniform variables behind a statement.
+//! What stands in shared memory and in the uniform variables behind a statement, and how much was printed.
 
 ghost use Rattle.std.specs.Prelude.{◌≡◌, ◌<◌, ◌∷◌, [], ℤ, IfOk, OnOk, length, string_bytes};
 ghost use Rattle.std.specs.List.{fold};
@@ -61,11 +61,29 @@ fn put_variables(values: &mut Vec<i64>, entry: &Entry) -> Result<(), AllocError>
     }
 }
 
-/// What cells and uniform variables hold at a moment of a run: the values of the first ones, of which all others are 0.
+// Counts what a statement printed.
+fn count_printed(count: &mut usize, entry: &Entry) -> Result<(), AllocError>
+    ensures { OnOk result (count.new ≡ spec.with_printed count.old (entry_is entry.now)) }
+{
+    match entry {
+        Entry::Ran { printed, .. } => {
+            let Some(all) = count.checked_add(printed.len()) else {
+                return Err(AllocError);
+            };
+            *count = all;
+            Ok(())
+        }
+        Entry::Faulted { .. } => Ok(()),
+    }
+}
+
+/// What cells and uniform variables hold at a moment of a run: the values of the first ones, of which all others are 0; and how many
+/// numbers the run has printed.
 #[derive(Drop)]
 pub struct RunState {
     pub cells: Vec<i64>,
     pub variables: Vec<i64>,
+    pub printed: usize,
 }
 
 impl RunState {
@@ -73,37 +91,47 @@ impl RunState {
     pub fn before_all(alloc: Global, input: &[i64]) -> Result<RunState, AllocError>
         ensures cells { IfOk result (λ state. state.cells.items ≡ input.now) }
         ensures variables { IfOk result (λ state. state.variables.items ≡ []) }
+        ensures printed { IfOk result (λ state. state.printed ≡ 0) }
     {
         let cells = Vec::from_slice(alloc, input)?;
         let variables = Vec::new(alloc);
-        Ok(RunState { cells, variables })
+        Ok(RunState {
+            cells,
+            variables,
+            printed: 0,
+        })
     }
 
-    /// Behind one statement more. `AllocError`: memory was refused, and part of its changes may have been made.
+    /// Behind one statement more. `AllocError`: memory was refused, and part of its changes may have been made; or more numbers were
+    /// printed than can be counted, which no memory holds.
     pub fn go_on(&mut self, entry: &Entry) -> Result<(), AllocError>
         ensures cells { OnOk result (self.new.cells.items ≡ spec.with_cells self.old.cells.items (entry_is entry.now)) }
         ensures variables { OnOk result (self.new.variables.items ≡ spec.with_variables self.old.variables.items (entry_is entry.now)) }
+        ensures printed { OnOk result (self.new.printed ≡ spec.with_printed self.old.printed (entry_is entry.now)) }
     {
         put_cells(&mut self.cells, entry)?;
-        put_variables(&mut self.variables, entry)
+        put_variables(&mut self.variables, entry)?;
+        count_printed(&mut self.printed, entry)
     }
 }
 
 fn state_value(alloc: Global, state: &RunState, behind: usize) -> Result<Value, AllocError>
-    ensures { IfOk result (λ v. view v ≡ spec.state_of state.now.cells.items state.now.variables.items behind) }
+    ensures { IfOk result (λ v. view v ≡ spec.state_of state.now.cells.items state.now.variables.items state.now.printed behind) }
 {
     let mut object = Object::new(alloc);
     object.put_count("state", behind as u64)?;
     object.put_values("cells", state.cells.as_slice())?;
     object.put_values("variables", state.variables.as_slice())?;
+    object.put_count("printed", state.printed as u64)?;
     Ok(object.into_value())
 }
 
 /// What cells and uniform variables hold behind the statement of this number, on a line: the values of the first cells and variables, of
-/// which all others are 0. A page takes it where statements up to that one are left out. `AllocError`: memory was refused.
+/// which all others are 0, and how many numbers were printed up to there. A page takes it where statements up to that one are left out. `AllocError`: memory was refused.
 pub fn state_line(alloc: Global, state: &RunState, behind: usize) -> Result<String, AllocError>
     ensures json { IfOk result
-        (λ line. IsJson (spec.state_of state.now.cells.items state.now.variables.items behind ∷ []) (string_bytes line)) }
+        (λ line. IsJson (spec.state_of state.now.cells.items state.now.variables.items state.now.printed behind ∷ [])
+        (string_bytes line)) }
 {
     let facts = state_value(alloc, state, behind)?;
     line_of(alloc, &facts)

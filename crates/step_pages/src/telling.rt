@@ -1,7 +1,7 @@
 //! The script's third part: what is told of a statement.
 
 /// The table of the active processors and their locals.
-pub(crate) const TELLING: [u8; 2992] = *b"// What each active processor did, and its locals.
+pub(crate) const TELLING: [u8; 3001] = *b"// What each active processor did, and its locals.
 var MOST = 32;
 function wrote(s, a, writers) {
   var mine = (s.writers || []).filter(function (w) { return w.processor === a.processor; })[0];
@@ -45,7 +45,7 @@ function told_active(s, shown) {
 function show_acts(s) {
   var table = part('acts'), acts = s && !s.gap ? chosen(s) : [], writers = Object.create(null);
   var inside = acts.length > 0 && !is_outside(s), pardo = inside ? pardo_of(s) : undefined;
-  var names = pardo ? pardo.locals : [], now = inside ? locals_at(at) : null, old = inside ? locals_at(at - 1) : null;
+  var names = pardo ? pardo.locals : [], now = inside ? locals_at(at) : null, old = !inside || s.met ? now : locals_at(at - 1);
   table.textContent = '';
   part('active').textContent = told_active(s, acts.length);
   if (acts.length === 0) { return; }

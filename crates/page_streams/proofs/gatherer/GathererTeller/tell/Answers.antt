@@ -10,7 +10,7 @@ returns-then-number-self-clause-told c =
     let n : c.in-Some.number ≡ t.count + 1 = omega (arith, e) in (
       refl,
       replayed_one t.asked t.count c.in-Some.number (entry_is c.args.entry) n t.state c.go_on.new.self t.lines c.if-number-self.true
-          c.in_ok-go_on.ensures.cells c.in_ok-go_on.ensures.variables,
+          c.in_ok-go_on.ensures.cells c.in_ok-go_on.ensures.variables c.in_ok-go_on.ensures.printed,
     )
 
 pub returns-then-self-number-clause-told : goal.returns-then-self-number-clause-told
