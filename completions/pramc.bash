@@ -23,7 +23,7 @@ _pramc() {
             compare) words="--input --cells --values --permutations --random --count --seed --only --time-at-most --work-at-most --bound --size --format --explain --help" ;;
             export) words="--listing --size --explain --help" ;;
             cost) words="--bound --seconds $cells --workers --schedule --lines --sweep --svg --size --format --explain --help" ;;
-            steps) words="--bound --seconds $cells --from --to --locals --svg --flow --only --html --size --format --explain --help" ;;
+            steps) words="--bound --seconds $cells --from --to --locals --columns --svg --flow --only --html --size --format --explain --help" ;;
             run) words="--bound $cells --workers --map --reserve --show --quiet --size --format --explain --help" ;;
             exec) words="--bound $cells --workers --map --reserve --show --quiet --format --explain --help" ;;
             trace) words="--bound $cells --workers --map --reserve --lines --bsp --outcome --svg --size --format --explain --help" ;;

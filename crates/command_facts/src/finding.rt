@@ -80,18 +80,21 @@ fn find_code<'a, S: Sources>(
 }
 
 // How the file's program comes out under each rule.
-fn find_comparison<'a, S: Sources>(
+fn find_comparison<'a, S: Sources, V: Watch>(
     alloc: Global,
     file: &ProgramFile<'a>,
     words: RunWords<'a>,
     sources: &mut S,
+    watch: &mut V,
 ) -> Result<Comparison, Halted<'a>>
     ensures found { IfOk result (IsComparisonFound (S.Sources.holds sources.old) file.now words.entry) }
     ensures refused { IfErr result (RefusesRun (S.Sources.holds sources.old) Verb.Rules file.now words.entry) }
 {
     let (loaded, input) = load_given(alloc, file, words, sources)?;
     let cells = loaded.program.layout().cells();
-    match compare_rules(alloc, loaded.program, &input, words.options.bound) {
+    let found = compare_rules(alloc, loaded.program, &input, words.options.bound, watch);
+    watch.close();
+    match found {
         Ok(comparison) => Ok(comparison),
         Err(why) => Err(halted_run(Refusal::from(why), input.len(), cells)),
     }
@@ -205,7 +208,7 @@ fn find_of<'a, R: Threads + Wait + Sync, S: Sources, V: Watch + Gate + Sync>(
         Verb::Plan => Ok(Found::Planned(find_code(alloc, file, sources)?)),
         Verb::Export => Ok(Found::Exported(find_code(alloc, file, sources)?)),
         Verb::Rules => {
-            let comparison = find_comparison(alloc, file, words, sources)?;
+            let comparison = find_comparison(alloc, file, words, sources, watch)?;
             Ok(Found::Compared(comparison))
         }
         Verb::Steps => Ok(Found::Stepped(find_steps(alloc, file, words, sources, watch)?)),

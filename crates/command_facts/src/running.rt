@@ -15,10 +15,10 @@ use exchange_counts::Counts;
 use pram_check::Program;
 use program_runs::{outcome_of_program, run_program};
 use program_texts::Refusal;
+use run_watching::watched_run;
 use std::alloc::Global;
 use std::sync::Wait;
 use std::thread::Threads;
-use watched_runs::watched_run;
 use work_time::cost_of;
 use workers::Gate;
 use write_rules::Outcome;
@@ -51,11 +51,12 @@ fn processors_of(words: CostWords) -> u32
 }
 
 // The outcome by the definition, and what that run costs.
-fn cost(
+fn cost<V: Watch>(
     alloc: Global,
     program: &Program,
     input: &[i64],
     words: RunWords<'_>,
+    watch: &mut V,
 ) -> Result<(Outcome, Facts), Refusal>
     ensures meaning { IfOk result (λ f. IsMeaningOf program.now input.now words.entry.options.bound (verdict_of f.0)) }
     ensures facts { IfOk result (λ f. spec.AreFactsOf Verb.Cost program.now input.now words.entry (verdict_of f.0) f.1) }
@@ -70,6 +71,7 @@ fn cost(
         words.options.bound,
         schedule,
         workers,
+        watch,
     )?;
     Ok((outcome, Facts::Cost(cost)))
 }
@@ -109,8 +111,7 @@ fn trace<R: Threads + Wait + Sync, G: Gate + Sync>(
     Ok((outcome, Facts::Exchanges(told)))
 }
 
-/// The outcome of a program, and what the call asks for beside it. The watch is told how far the run is, but for one whose costs are
-/// counted.
+/// The outcome of a program, and what the call asks for beside it. The watch is told how far the run is.
 pub(crate) fn facts_of<R: Threads + Wait + Sync, V: Watch + Gate + Sync>(
     rt: &R,
     alloc: Global,
@@ -125,7 +126,7 @@ pub(crate) fn facts_of<R: Threads + Wait + Sync, V: Watch + Gate + Sync>(
     ensures stopped { IfErr result (refused.IsRunRefusedBy verb program.now input.now words.entry) }
 {
     match verb {
-        Verb::Cost => cost(alloc, program, input, words),
+        Verb::Cost => cost(alloc, program, input, words, watch),
         Verb::Run => {
             let (options, reserve) = (words.options, words.reserve);
             let outcome = outcome_of_program(rt, alloc, program, input, options, reserve, &*watch)?;

@@ -1,5 +1,5 @@
 -- What tells a run statement by statement as JSON, or a beginning of it.
-use Rattle.std.proofs.Common.{◌≡◌, ◌++◌, ◌∷◌, ◌≤◌, [], ℕ, ℤ, List, append-nil, refl, subst, sym}
+use Rattle.std.proofs.Common.{◌≡◌, ◌∙◌, ◌++◌, ◌∷◌, ◌≤◌, [], ℕ, ℤ, List, append-nil, refl, subst, sym}
 use Rattle.std.specs.Prelude.{Result, Ok, Err, IsErrAnd, length}
 use Rattle.pram_model.specs.Layout.{SharedEntry, total_size}
 use Rattle.text_out.specs.Out.{OutState, StopsIn, with_bytes}
@@ -24,7 +24,7 @@ use Rattle.step_entries.specs.Entries.{Entry}
 use Rattle.command_facts.specs.declared.found.FoundSteps.{FoundSteps}
 use Rattle.command_facts.specs.Found.{IsOutcomeOf, entries_of}
 use Rattle.command_facts.specs.Written.{Wrote}
-use Rattle.command_json.specs.Stepped.{IsCutOff, IsToldBy, all_facts, first_facts, BehindLines, InLines, InText}
+use Rattle.command_json.specs.Stepped.{IsCutBehind, IsToldBehind, IsToldBy, all_behind, first_behind, opening_of, BehindLines, InLines, InText, Unbegun}
 
 -- ---- what was streamed, by the values that were handed over
 
@@ -32,11 +32,11 @@ pub streamed_by : (s : FoundSteps) (old new : OutState) (text : List ℕ) (given
     text ≡ text_in s.loaded.source → given ≡ s.input.items → r ≡ q →
     HasStreamedJson old new (steps_from s.loaded.program.layout s.loaded.program.tree text s.words.steps.from s.words.steps.to 1)
     (run_entries s.loaded.program given s.words.options.bound) r →
-    HasStreamedJson old new (first_facts s) (entries_of s) q
+    HasStreamedJson old new (first_behind s []) (entries_of s) q
 streamed_by s old new text given r q source same is h =
     let facts : List ℕ → List Entry → List Data =
     λ t. steps_from s.loaded.program.layout s.loaded.program.tree t s.words.steps.from s.words.steps.to 1 in
-    subst (λ (i : List ℤ). HasStreamedJson old new (first_facts s) (run_entries s.loaded.program i s.words.options.bound) q) same
+    subst (λ (i : List ℤ). HasStreamedJson old new (first_behind s []) (run_entries s.loaded.program i s.words.options.bound) q) same
     (subst (λ (t : List ℕ). HasStreamedJson old new (facts t) (run_entries s.loaded.program given s.words.options.bound) q) source
     (subst (HasStreamedJson old new (facts text) (run_entries s.loaded.program given s.words.options.bound)) is h))
 
@@ -49,41 +49,78 @@ outcome_by s o given same fits is = record {
 }
 
 module _ (s : FoundSteps) (old : OutState) where
-  pub stopped_in_lines : (new : OutState) → StopsInFirst old new (first_facts s) (entries_of s) → IsCutOff s old new stop.WriteFailed
+  pub stopped_in_lines : (new : OutState) → StopsInFirst old new (first_behind s []) (entries_of s) → IsCutBehind s [] old new stop.WriteFailed
   stopped_in_lines new w = InLines w.first w.rest w.text w.whole w.json w.stopped
 
-  pub behind_lines : (new : OutState) → WroteFirstJson old new (first_facts s) (entries_of s) →
-      IsCutOff s old new (stop.Refused refusal.OutOfMemory)
+  pub behind_lines : (new : OutState) → WroteFirstJson old new (first_behind s []) (entries_of s) →
+      IsCutBehind s [] old new (stop.Refused refusal.OutOfMemory)
   behind_lines new w = BehindLines w.first w.rest w.text w.whole w.json w.written
 
   -- a run that is cut off is told by no outcome
-  pub cut_told : (new : OutState) (r : Result Outcome Stop) (why : Stop) → IsErrAnd r (λ e. e ≡ why) → IsCutOff s old new why →
-      IsToldBy s old new r
+  pub cut_told : (new : OutState) (r : Result Outcome Stop) (why : Stop) → IsErrAnd r (λ e. e ≡ why) → IsCutBehind s [] old new why →
+      IsToldBehind s [] old new r
   cut_told new (Ok o) why is cut = absurd is
-  cut_told new (Err e) why is cut = subst (IsCutOff s old new) (sym is) cut
+  cut_told new (Err e) why is cut = subst (IsCutBehind s [] old new) (sym is) cut
 
   -- ---- behind all lines
 
-  module _ (mid : OutState) (lines : WroteJson old mid (first_facts s (entries_of s))) where
+  module _ (mid : OutState) (lines : WroteJson old mid (first_behind s [] (entries_of s))) where
     -- the line of the outcome was not made
-    pub unmade : (why : Stop) → why ≡ stop.Refused refusal.OutOfMemory → IsCutOff s old mid why
-    unmade why is = subst (IsCutOff s old mid) (sym is)
+    pub unmade : (why : Stop) → why ≡ stop.Refused refusal.OutOfMemory → IsCutBehind s [] old mid why
+    unmade why is = subst (IsCutBehind s [] old mid) (sym is)
         (BehindLines (entries_of s) [] lines.text (sym (append-nil (entries_of s))) lines.json lines.written)
 
     module _ (o : Outcome) (comes : IsOutcomeOf s o) (line : List ℕ)
         (json : IsJson (outcome_facts s.loaded.program.layout (verdict_of o) ∷ []) line) (new : OutState) (ends : Status) where
-      joined : IsJson (all_facts s o) (lines.text ++ line)
-      joined = json_behind (first_facts s (entries_of s)) (outcome_facts s.loaded.program.layout (verdict_of o) ∷ []) lines.text line
+      joined : IsJson (all_behind s [] o) (lines.text ++ line)
+      joined = json_behind (first_behind s [] (entries_of s)) (outcome_facts s.loaded.program.layout (verdict_of o) ∷ []) lines.text line
           lines.json json
 
-      pub told_whole : (given : Status) → Wrote ends line mid new (Ok given) → IsToldBy s old new (Ok o)
+      pub told_whole : (given : Status) → Wrote ends line mid new (Ok given) → IsToldBehind s [] old new (Ok o)
       told_whole given w = (comes, (lines.text ++ line, joined, writes_then old mid new lines.text line lines.written w.1))
 
-      pub cut_in_outcome : (why : Stop) → Wrote ends line mid new (Err why) → IsCutOff s old new why
-      cut_in_outcome why w = subst (IsCutOff s old new) (sym w.0)
+      pub cut_in_outcome : (why : Stop) → Wrote ends line mid new (Err why) → IsCutBehind s [] old new why
+      cut_in_outcome why w = subst (IsCutBehind s [] old new) (sym w.0)
           (InText o (lines.text ++ line) comes joined (stops_behind old mid new lines.text line lines.written w.1))
 
 -- the outcome's facts, by its declarations
 pub outcome_as : (s : FoundSteps) (o : Outcome) (layout : List SharedEntry) (line : List ℕ) → layout ≡ s.loaded.program.layout →
     IsJson (outcome_facts layout (verdict_of o) ∷ []) line → IsJson (outcome_facts s.loaded.program.layout (verdict_of o) ∷ []) line
 outcome_as s o layout line same json = subst (λ (l : List SharedEntry). IsJson (outcome_facts l (verdict_of o) ∷ []) line) same json
+
+-- ---- behind the line of what the cells hold before the run
+
+module _ (s : FoundSteps) (old mid : OutState) (line : List ℕ) (json : IsJson (opening_of s ∷ []) line) (is : mid ≡ with_bytes old line) where
+  cut_behind : (new : OutState) {why : Stop} → IsCutBehind s [] mid new why → IsCutBehind s (opening_of s ∷ []) old new why
+  cut_behind new (InLines first rest text whole lines stops) =
+      InLines first rest (line ++ text) whole (json_behind (opening_of s ∷ []) (first_behind s [] first) line text json lines)
+      (stops_behind old mid new line text is stops)
+  cut_behind new (InText o text comes all stops) =
+      InText o (line ++ text) comes (json_behind (opening_of s ∷ []) (all_behind s [] o) line text json all)
+      (stops_behind old mid new line text is stops)
+  cut_behind new (BehindLines first rest text whole lines written) =
+      BehindLines first rest (line ++ text) whole (json_behind (opening_of s ∷ []) (first_behind s [] first) line text json lines)
+      (writes_then old mid new line text is written)
+  cut_behind new (Unbegun same) = BehindLines [] (entries_of s) line refl json (same ∙ is)
+
+  pub told_behind : (new : OutState) (r : Result Outcome Stop) → IsToldBehind s [] mid new r → IsToldBy s old new r
+  told_behind new (Ok o) (comes, (text, all, written)) = (
+    comes,
+    (
+      line ++ text,
+      json_behind (opening_of s ∷ []) (all_behind s [] o) line text json all,
+      writes_then old mid new line text is written,
+    ),
+  )
+  told_behind new (Err why) cut = cut_behind new cut
+
+-- that line stopped
+pub stopped_in_opening : (s : FoundSteps) (old new : OutState) (line : List ℕ) → IsJson (opening_of s ∷ []) line → StopsIn old new line →
+    IsCutBehind s (opening_of s ∷ []) old new stop.WriteFailed
+stopped_in_opening s old new line json stops = InLines [] (entries_of s) line refl json stops
+
+-- what tells no outcome
+pub not_told : (s : FoundSteps) (old new : OutState) (r : Result Outcome Stop) (why : Stop) → IsErrAnd r (λ e. e ≡ why) →
+    IsCutBehind s (opening_of s ∷ []) old new why → IsToldBy s old new r
+not_told s old new (Ok o) why is cut = absurd is
+not_told s old new (Err e) why is cut = subst (IsCutBehind s (opening_of s ∷ []) old new) (sym is) cut

@@ -1,5 +1,5 @@
 -- How a run that is told statement by statement is told as JSON as it goes.
-use Rattle.std.specs.Prelude.{◌≡◌, ℕ, List, ◌++◌, Result, Ok, Err}
+use Rattle.std.specs.Prelude.{◌≡◌, ℕ, List, [], ◌∷◌, ◌++◌, Result, Ok, Err}
 use Rattle.serde_json.specs.Data.{Data}
 use Rattle.json_lines.specs.Lines.{IsJson}
 use Rattle.text_out.specs.Out.{OutState, StopsIn, with_bytes}
@@ -12,30 +12,49 @@ use Rattle.program_texts.specs.declared.stop.Stop.TheVariants as stop
 use Rattle.diagnoses.specs.Sources.{text_in}
 use Rattle.command_facts.specs.declared.found.FoundSteps.{FoundSteps}
 use Rattle.command_facts.specs.Found.{IsOutcomeOf, entries_of}
+use Rattle.pram_meaning.specs.Outcome.{opening}
+use Rattle.json_texts.specs.OutcomeFacts.{opening_facts}
 use Rattle.json_texts.specs.StepFacts.{steps_facts, steps_from}
 
--- the facts of those of some first statements that are asked for
-abbrev pub first_facts : FoundSteps → List Entry → List Data
-first_facts s first =
-    steps_from s.loaded.program.layout s.loaded.program.tree (text_in s.loaded.source) s.words.steps.from s.words.steps.to 1 first
+-- what the cells hold before the first statement
+abbrev pub opening_of : FoundSteps → Data
+opening_of s = opening_facts s.loaded.program.layout (opening s.loaded.program s.input.items).cells
 
--- the facts of all that are asked for, and of what the run comes to
-abbrev pub all_facts : FoundSteps → Outcome → List Data
-all_facts s o =
-    steps_facts s.loaded.program.layout s.loaded.program.tree (text_in s.loaded.source) (verdict_of o) (entries_of s) s.words.steps.from
+-- behind these facts those of some first statements that are asked for
+abbrev pub first_behind : FoundSteps → (before : List Data) → List Entry → List Data
+first_behind s before first =
+    before ++ steps_from s.loaded.program.layout s.loaded.program.tree (text_in s.loaded.source) s.words.steps.from s.words.steps.to 1 first
+
+-- behind them those of all that are asked for, and of what the run comes to
+abbrev pub all_behind : FoundSteps → (before : List Data) → Outcome → List Data
+all_behind s before o =
+    before ++ steps_facts s.loaded.program.layout s.loaded.program.tree (text_in s.loaded.source) (verdict_of o) (entries_of s) s.words.steps.from
     s.words.steps.to
 
 -- what stands on standard output where the run is not told to its end: a beginning of the lines of some of its first statements, or of all
--- of its text, behind which the writer failed; or where memory was refused the lines of some of its first statements, whole
-pub data IsCutOff (s : FoundSteps) (old new : OutState) : Stop → Type 0 where
-  InLines : (first rest : List Entry) (text : List ℕ) → entries_of s ≡ first ++ rest → IsJson (first_facts s first) text →
-      StopsIn old new text → IsCutOff s old new stop.WriteFailed
-  InText : (o : Outcome) (text : List ℕ) → IsOutcomeOf s o → IsJson (all_facts s o) text → StopsIn old new text →
-      IsCutOff s old new stop.WriteFailed
-  BehindLines : (first rest : List Entry) (text : List ℕ) → entries_of s ≡ first ++ rest → IsJson (first_facts s first) text →
-      new ≡ with_bytes old text → IsCutOff s old new (stop.Refused refusal.OutOfMemory)
+-- of its text, behind which the writer failed; or where memory was refused the lines of some of its first statements, whole, or nothing
+pub data IsCutBehind (s : FoundSteps) (before : List Data) (old new : OutState) : Stop → Type 0 where
+  InLines : (first rest : List Entry) (text : List ℕ) → entries_of s ≡ first ++ rest → IsJson (first_behind s before first) text →
+      StopsIn old new text → IsCutBehind s before old new stop.WriteFailed
+  InText : (o : Outcome) (text : List ℕ) → IsOutcomeOf s o → IsJson (all_behind s before o) text → StopsIn old new text →
+      IsCutBehind s before old new stop.WriteFailed
+  BehindLines : (first rest : List Entry) (text : List ℕ) → entries_of s ≡ first ++ rest → IsJson (first_behind s before first) text →
+      new ≡ with_bytes old text → IsCutBehind s before old new (stop.Refused refusal.OutOfMemory)
+  Unbegun : new ≡ old → IsCutBehind s before old new (stop.Refused refusal.OutOfMemory)
 
 -- and where it is, all of it
+abbrev pub IsToldBehind : FoundSteps → (before : List Data) → (old new : OutState) → Result Outcome Stop → Type 0
+IsToldBehind s before old new (Ok o) =
+    IsOutcomeOf s o × ((text : List ℕ) × IsJson (all_behind s before o) text × (new ≡ with_bytes old text))
+IsToldBehind s before old new (Err why) = IsCutBehind s before old new why
+
+-- ---- a run, told so behind what its cells hold before it
+
+abbrev pub all_facts : FoundSteps → Outcome → List Data
+all_facts s o = all_behind s (opening_of s ∷ []) o
+
+abbrev pub IsCutOff : FoundSteps → (old new : OutState) → Stop → Type 0
+IsCutOff s old new why = IsCutBehind s (opening_of s ∷ []) old new why
+
 abbrev pub IsToldBy : FoundSteps → (old new : OutState) → Result Outcome Stop → Type 0
-IsToldBy s old new (Ok o) = IsOutcomeOf s o × ((text : List ℕ) × IsJson (all_facts s o) text × (new ≡ with_bytes old text))
-IsToldBy s old new (Err why) = IsCutOff s old new why
+IsToldBy s old new r = IsToldBehind s (opening_of s ∷ []) old new r

@@ -1,6 +1,7 @@
 //! Runs of a program that are told statement by statement as they go.
 
-ghost use Rattle.std.specs.Prelude.{◌≡◌, ◌<◌, ◌≤◌, ◌^◌, IfErr, IfOk, OnOk, length};
+ghost use Rattle.std.specs.Prelude.{◌≡◌, ◌<◌, ◌≤◌, ◌^◌, ◌∷◌, [], IfErr, IfOk, OnOk, length, string_bytes};
+ghost use Rattle.json_lines.specs.Lines.{IsJson};
 ghost use Rattle.pram_model.specs.Layout.{total_size};
 ghost use Rattle.json_streams.specs.Streamed.{WroteJson};
 ghost use Rattle.command_facts.specs.Found.{IsOutcomeOf, entries_of};
@@ -9,10 +10,11 @@ ghost use Rattle.command_json.specs.Stepped as spec;
 use crate::writing::write_json;
 use command_facts::FoundSteps;
 use json_streams::stream_json;
-use json_texts::json_outcome;
+use json_texts::{json_opening, json_outcome};
 use memory_texts::Choice;
+use pram_meaning::open;
 use program_texts::{Refusal, Status, Stop};
-use std::alloc::Global;
+use std::alloc::{AllocError, Global};
 use step_streams::StreamFailure;
 use text_out::Out;
 use write_rules::Outcome;
@@ -28,8 +30,8 @@ fn stream_lines<'a, O: Out>(
     requires out { (O.Out.state out.old).failures < 2 ^ 62 }
     ensures outcome { IfOk result (IsOutcomeOf steps.now) }
     ensures lines { OnOk result (WroteJson (O.Out.state out.old) (O.Out.state out.new)
-        (spec.first_facts steps.now (entries_of steps.now))) }
-    ensures cut { IfErr result (spec.IsCutOff steps.now (O.Out.state out.old) (O.Out.state out.new)) }
+        (spec.first_behind steps.now [] (entries_of steps.now))) }
+    ensures cut { IfErr result (spec.IsCutBehind steps.now [] (O.Out.state out.old) (O.Out.state out.new)) }
 {
     let (program, bound) = (&steps.loaded.program, steps.words.options.bound);
     let (first, last) = (
@@ -54,8 +56,33 @@ fn stream_lines<'a, O: Out>(
     }
 }
 
-/// Runs a program and writes its statements as lines of JSON, each as soon as it has run, and behind them what it came to. E17 where the
-/// writer failed, E16 where memory was refused, behind the lines of the statements before.
+// The statements and the outcome.
+fn write_run<'a, O: Out>(
+    alloc: Global,
+    steps: &FoundSteps<'_>,
+    out: &mut O,
+) -> Result<Outcome, Stop<'a>>
+    requires fits { length steps.now.input.items ≤ total_size steps.now.loaded.program.layout }
+    requires out { (O.Out.state out.old).failures < 2 ^ 62 }
+    ensures told { spec.IsToldBehind steps.now [] (O.Out.state out.old) (O.Out.state out.new) result }
+{
+    let outcome = stream_lines(alloc, steps, out)?;
+    let line = json_outcome(alloc, steps.loaded.program.layout(), &outcome, Choice::All)?;
+    write_json(out, &line, Status::of(&outcome))?;
+    Ok(outcome)
+}
+
+// What the cells hold before the first statement, on a line.
+fn opening_line(alloc: Global, steps: &FoundSteps<'_>) -> Result<String, AllocError>
+    requires fits { length steps.now.input.items ≤ total_size steps.now.loaded.program.layout }
+    ensures json { IfOk result (λ line. IsJson (spec.opening_of steps.now ∷ []) (string_bytes line)) }
+{
+    let run = open(alloc, &steps.loaded.program, &steps.input)?;
+    json_opening(alloc, steps.loaded.program.layout(), &run.cells)
+}
+
+/// Runs a program and writes as lines of JSON what its cells hold before it, its statements, each as soon as it has run, and behind them what
+/// it came to. E17 where the writer failed, E16 where memory was refused, behind the lines of the statements before.
 pub(crate) fn write_stepped<'a, O: Out>(
     alloc: Global,
     steps: &FoundSteps<'_>,
@@ -65,8 +92,7 @@ pub(crate) fn write_stepped<'a, O: Out>(
     requires out { (O.Out.state out.old).failures < 2 ^ 62 }
     ensures told { spec.IsToldBy steps.now (O.Out.state out.old) (O.Out.state out.new) result }
 {
-    let outcome = stream_lines(alloc, steps, out)?;
-    let line = json_outcome(alloc, steps.loaded.program.layout(), &outcome, Choice::All)?;
-    write_json(out, &line, Status::of(&outcome))?;
-    Ok(outcome)
+    let line = opening_line(alloc, steps)?;
+    out.write_all(line.as_bytes())?;
+    write_run(alloc, steps, out)
 }

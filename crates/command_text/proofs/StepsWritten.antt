@@ -1,5 +1,5 @@
 -- What tells a run statement by statement is the text that is asked for, or a beginning of it.
-use Rattle.std.proofs.Common.{◌≡◌, ◌++◌, ◌≤◌, ℕ, ℤ, List, refl, ⊎_elim, subst, sym}
+use Rattle.std.proofs.Common.{◌≡◌, ◌++◌, ◌≤◌, ℕ, ℤ, List, refl, subst, sym}
 use Rattle.std.specs.Prelude.{Result, Ok, Err, IsErrAnd, length}
 use Rattle.pram_model.specs.Layout.{SharedEntry, total_size}
 use Rattle.pram_trees.specs.Program.{ProgramTree}
@@ -15,6 +15,8 @@ use Rattle.step_streams.specs.Streamed.{HasStreamed}
 use Rattle.step_streams.specs.declared.failure.StreamFailure.{StreamFailure}
 use Rattle.step_streams.specs.declared.failure.StreamFailure.TheVariants as failure
 use Rattle.page_streams.specs.Streamed.{HasStreamedPage, IsPageOfRun}
+use Rattle.flow_pictures.specs.declared.spans.CellSpan.{CellSpan}
+use Rattle.flow_streams.specs.Streamed.{HasStreamedFlow}
 use Rattle.diagnoses.specs.Sources.{text_in}
 use Rattle.step_pictures.specs.Picture.{part_of, picture}
 use Rattle.step_texts.specs.declared.telling.Telling.{Telling}
@@ -30,13 +32,14 @@ use Rattle.command_facts.specs.declared.found.Found.TheVariants as found
 use Rattle.command_facts.specs.declared.found.FoundRun.{FoundRun}
 use Rattle.command_facts.specs.declared.found.FoundSteps.{FoundSteps}
 use Rattle.command_facts.specs.Found.{IsOutcomeOf, entries_of, with_outcome}
-use Rattle.command_facts.specs.Written.{Wrote, WroteSome}
+use Rattle.command_facts.specs.Written.{Wrote}
 use Rattle.command_text.specs.declared.terminal.Terminal.{Terminal}
 use Rattle.command_text.specs.Stepped.{IsCutIn, IsCutOff, IsTellingOf, IsToldBy, IsToldRun, IsToldText, lines_of, InLines, InText, Untold}
 use Rattle.command_text.specs.Explained.{IsRunExplained}
 use Rattle.command_text.specs.Left.{LeavesFound, ToldAsItRan}
 use Rattle.command_text.specs.Steps.{IsTelling}
-use Rattle.command_text.specs.Texts.{AreStepsText, picture_text}
+use Rattle.command_text.specs.Spans.{chosen_spans}
+use Rattle.command_text.specs.Texts.{AreStepsText, flow_text, picture_text}
 
 module _ (on : Terminal) (s : FoundSteps) (old : OutState) where
   -- a run that is cut off is told by no outcome
@@ -75,18 +78,6 @@ module _ (on : Terminal) (s : FoundSteps) (old : OutState) where
     pub cut_in_text : (new : OutState) (ends : Status) (why : Stop) (text : List ℕ) →
         AreStepsText f on (with_outcome s o) (entries_of s) text → Wrote ends text old new (Err why) → IsCutOff on s old new why
     cut_in_text new ends why text is w = stopped new why text is w
-
-    -- one of a kind
-    pub whole_of_kind : (new : OutState) (ends given : Status) → WroteSome ends (Unit {0})
-        (AreStepsText f on (with_outcome s o) (entries_of s)) old new (Ok given) → IsToldBy on s old new (Ok o)
-    whole_of_kind new ends given w = whole new w.1.0 w.1.1 w.1.2
-
-    pub cut_of_kind : (new : OutState) (ends : Status) (why : Stop) → WroteSome ends (Unit {0})
-        (AreStepsText f on (with_outcome s o) (entries_of s)) old new (Err why) → IsCutOff on s old new why
-    cut_of_kind new ends why w = ⊎_elim
-        (λ (a : (why ≡ stop.WriteFailed) × ((text : List ℕ) × AreStepsText f on (with_outcome s o) (entries_of s) text
-        × StopsIn old new text)). stopped new why a.1.0 a.1.1 (a.0, a.1.2))
-        (λ (b : (why ≡ stop.Refused refusal.OutOfMemory) × Unit {0} × (new ≡ old)). unwritten new why b.0 b.2) w
 
   -- ---- in words
 
@@ -162,13 +153,38 @@ page_cut on s old new asked fits h =
     cut_in_text on s old form.Page asked o (record { fits = fits; outcome = h.2.0 }) new (status_of o) stop.WriteFailed shows h.2.1
     (refl, h.3)
 
+-- a flow that was drawn by the values that were handed over
+pub flow_by : (s : FoundSteps) (old new : OutState) (text : List ℕ) (given : List ℤ) (only : List CellSpan)
+    (r q : Result Outcome StreamFailure) → text ≡ text_in s.loaded.source → given ≡ s.input.items →
+    only ≡ chosen_spans s.loaded.program.layout s.words.shown → r ≡ q →
+    HasStreamedFlow text s.loaded.program given s.words.options.bound only s.words.steps.from s.words.steps.to old new r →
+    HasStreamedFlow (text_in s.loaded.source) s.loaded.program s.input.items s.words.options.bound
+    (chosen_spans s.loaded.program.layout s.words.shown) s.words.steps.from s.words.steps.to old new q
+flow_by s old new text given only r q same_text same same_only is h =
+    let Has : List ℕ → List ℤ → List CellSpan → Result Outcome StreamFailure → Type 0 =
+    λ text given only r. HasStreamedFlow text s.loaded.program given s.words.options.bound only s.words.steps.from s.words.steps.to old new r in
+    subst (λ (t : List ℕ). Has t s.input.items (chosen_spans s.loaded.program.layout s.words.shown) q) same_text
+    (subst (λ (i : List ℤ). Has text i (chosen_spans s.loaded.program.layout s.words.shown) q) same
+    (subst (λ (c : List CellSpan). Has text given c q) same_only (subst (Has text given only) is h)))
+
+-- the writer failed in it
+pub flow_cut : (on : Terminal) (s : FoundSteps) (old new : OutState) → s.words.form ≡ form.Flow →
+    length s.input.items ≤ total_size s.loaded.program.layout →
+    HasStreamedFlow (text_in s.loaded.source) s.loaded.program s.input.items s.words.options.bound
+    (chosen_spans s.loaded.program.layout s.words.shown) s.words.steps.from s.words.steps.to old new (Err failure.WriteFailed) →
+    IsCutOff on s old new stop.WriteFailed
+flow_cut on s old new asked fits h =
+    cut_in_text on s old form.Flow asked h.0 (record { fits = fits; outcome = h.1 }) new (status_of h.0) stop.WriteFailed
+    (flow_text (with_outcome s h.0) (entries_of s)) refl (refl, h.2)
+
 -- how statements are told
-pub telling_by : (on : Terminal) (s : FoundSteps) (text : List ℕ) (tree : ProgramTree) (telling : Telling) →
-    text ≡ s.loaded.source.bytes.items → tree ≡ s.loaded.program.tree → IsTelling on text s.words.steps.locals tree telling →
-    IsTellingOf on s telling
-telling_by on s text tree telling same_text same_tree is =
-    subst (λ (t : ProgramTree). IsTelling on s.loaded.source.bytes.items s.words.steps.locals t telling) same_tree
-    (subst (λ (t : List ℕ). IsTelling on t s.words.steps.locals tree telling) same_text is)
+pub telling_by : (on : Terminal) (s : FoundSteps) (text sized : List ℕ) (tree : ProgramTree) (telling : Telling) →
+    text ≡ s.loaded.source.bytes.items → sized ≡ text_in s.loaded.source → tree ≡ s.loaded.program.tree →
+    IsTelling on s.words.steps text sized tree telling → IsTellingOf on s telling
+telling_by on s text sized tree telling same_text same_sized same_tree is =
+    subst (λ (t : ProgramTree). IsTelling on s.words.steps s.loaded.source.bytes.items (text_in s.loaded.source) t telling) same_tree
+    (subst (λ (t : List ℕ). IsTelling on s.words.steps s.loaded.source.bytes.items t tree telling) same_sized
+    (subst (λ (t : List ℕ). IsTelling on s.words.steps t sized tree telling) same_text is))
 
 -- the outcome, by its declarations
 pub outcome_as : (s : FoundSteps) (o : Outcome) (layout : List SharedEntry) (ends : Status) (mid new : OutState) (r : Result Status Stop) →
@@ -190,14 +206,6 @@ picture_as s o layout text whole es ends old new r same_layout same_text same_wh
     (subst (λ (n : ℕ). Wrote ends (picture layout text (part_of s.words.steps.from n)
     (between s.words.steps.from s.words.steps.to (entries_of s))) old new r) same_whole
     (subst (λ (es : List Entry). Wrote ends (picture layout text (part_of s.words.steps.from whole) es) old new r) same w)))
-
--- a text of a kind, of the run as it was put together
-pub kind_as : (P : FoundRun → List Entry → List ℕ → Type 0) (s : FoundSteps) (o : Outcome) (run : FoundRun) (es : List Entry)
-    (ends : Status) (old new : OutState) (r : Result Status Stop) → run ≡ with_outcome s o → es ≡ entries_of s →
-    WroteSome ends (Unit {0}) (P run es) old new r → WroteSome ends (Unit {0}) (P (with_outcome s o) (entries_of s)) old new r
-kind_as P s o run es ends old new r same_run same w =
-    subst (λ (x : FoundRun). WroteSome ends (Unit {0}) (P x (entries_of s)) old new r) same_run
-    (subst (λ (es : List Entry). WroteSome ends (Unit {0}) (P run es) old new r) same w)
 
 -- the run, as it came back
 pub run_as : (on : Terminal) (s : FoundSteps) (o : Outcome) (run : FoundRun) (old new : OutState) → run ≡ with_outcome s o →

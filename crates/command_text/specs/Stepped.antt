@@ -2,6 +2,7 @@
 use Rattle.std.specs.Prelude.{◌≡◌, ℕ, List, Result, Ok, Err}
 use Rattle.text_out.specs.Out.{OutState, StopsIn, with_bytes}
 use Rattle.write_rules.specs.declared.outcome.Outcome.{Outcome}
+use Rattle.diagnoses.specs.Sources.{text_in}
 use Rattle.program_texts.specs.declared.from_text.Refusal.TheVariants as refusal
 use Rattle.program_texts.specs.declared.stop.Stop.{Stop}
 use Rattle.program_texts.specs.declared.stop.Stop.TheVariants as stop
@@ -25,7 +26,8 @@ IsToldText on s o text = AreStepsText s.words.form on (with_outcome s o) (entrie
 
 -- so its statements are told on these streams
 abbrev pub IsTellingOf : Terminal → FoundSteps → Telling → Type 0
-IsTellingOf on s telling = IsTelling on s.loaded.source.bytes.items s.words.steps.locals s.loaded.program.tree telling
+IsTellingOf on s telling =
+    IsTelling on s.words.steps s.loaded.source.bytes.items (text_in s.loaded.source) s.loaded.program.tree telling
 
 -- of statements those between the numbers that are asked for, a line each
 abbrev pub lines_of : FoundSteps → Telling → List Entry → List ℕ

@@ -1,5 +1,6 @@
 -- A run that is told statement by statement.
-use Rattle.std.specs.Prelude.{◌≡◌, ℕ, Bool, List, ◌++◌, true, false}
+use Rattle.std.specs.Prelude.{◌≡◌, ℕ, Bool, List, ◌++◌, Option, Some, None, true, false}
+use Rattle.std.specs.Borrow.{Bor}
 use Rattle.pram_model.specs.Layout.{SharedEntry}
 use Rattle.pram_trees.specs.Program.{ProgramTree}
 use Rattle.write_rules.specs.Verdict.{verdict_of}
@@ -10,8 +11,8 @@ use Rattle.step_texts.specs.StepText.{steps_text}
 use Rattle.step_texts.specs.declared.manner.Manner.{Manner}
 use Rattle.step_texts.specs.declared.manner.Manner.TheVariants.{OnTerminal, Plain}
 use Rattle.step_texts.specs.declared.telling.Detail.{Detail}
-use Rattle.step_texts.specs.declared.telling.Detail.TheVariants.{Cells, Locals}
 use Rattle.step_texts.specs.declared.telling.Telling.{Telling}
+use Rattle.command_requests.specs.declared.step_words.StepWords.{StepWords}
 use Rattle.command_text.specs.declared.terminal.Terminal.{Terminal}
 
 -- Entries are written plainly; where standard output is a terminal, beside the text, and in colours if these are wanted.
@@ -20,12 +21,21 @@ IsManner on text Plain = on.output ≡ false
 IsManner on text (OnTerminal source colours) = (on.output ≡ true) × (source.now ≡ text) × (colours ≡ on.colours)
 
 -- Variables, locals and printed numbers are told too, by the names of the program's tree, where that is asked for.
-abbrev pub IsDetail : (locals : Bool) → ProgramTree → Detail → Type 0
-IsDetail locals tree Cells = locals ≡ false
-IsDetail locals tree (Locals named) = (locals ≡ true) × (named.now ≡ tree)
+abbrev pub AreNames : (locals : Bool) → ProgramTree → Option (Bor ProgramTree) → Type 0
+AreNames locals tree None = locals ≡ false
+AreNames locals tree (Some named) = (locals ≡ true) × (named.now ≡ tree)
 
-abbrev pub IsTelling : Terminal → (text : List ℕ) → (locals : Bool) → ProgramTree → Telling → Type 0
-IsTelling on text locals tree t = IsManner on text t.manner × IsDetail locals tree t.detail
+-- Columns are told too, those of the text that its sizes give, where that is asked for.
+abbrev pub AreColumns : (columns : Bool) → (sized : List ℕ) → Option (Bor (List ℕ)) → Type 0
+AreColumns columns sized None = columns ≡ false
+AreColumns columns sized (Some text) = (columns ≡ true) × (text.now ≡ sized)
+
+abbrev pub IsDetail : StepWords → (sized : List ℕ) → ProgramTree → Detail → Type 0
+IsDetail words sized tree d = AreNames words.locals tree d.locals × AreColumns words.columns sized d.columns
+
+-- of the program of this tree: beside the text as it stands in its file, with places in the text that its sizes give
+abbrev pub IsTelling : Terminal → StepWords → (text sized : List ℕ) → ProgramTree → Telling → Type 0
+IsTelling on words text sized tree t = IsManner on text t.manner × IsDetail words sized tree t.detail
 
 -- the entries whose numbers, counted from 1, go from `first` to `last`, and behind them the outcome
 abbrev pub told_text : List SharedEntry → Telling → Outcome → List Entry → (first last : ℕ) → List ℕ

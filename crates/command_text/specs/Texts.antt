@@ -1,14 +1,12 @@
 -- The text by which what was found is told.
-use Rattle.std.specs.Prelude.{◌≡◌, ℕ, List, ◌++◌, Bool, Vec, true, false, codes, decimal, map}
-use Rattle.std.specs.Global.{Global}
+use Rattle.std.specs.Prelude.{◌≡◌, ℕ, List, ◌++◌, Bool, true, false, codes, decimal}
 use Rattle.pram_model.specs.Layout.{total_size}
 use Rattle.pram_model.specs.Rules.{rule_word}
 use Rattle.pram_check.specs.Checked.{Checked}
 use Rattle.superstep_listing.specs.Listing.{spelling}
 use Rattle.step_pictures.specs.Picture as steps
-use Rattle.flow_pictures.specs.Asides.{all_of, asides_in}
+use Rattle.flow_pictures.specs.Asides.{asides_in}
 use Rattle.flow_pictures.specs.Picture.{flow}
-use Rattle.flow_pictures.specs.declared.spans.CellSpan.{CellSpan}
 use Rattle.sweep_pictures.specs.Picture as sweeps
 use Rattle.sweep_texts.specs.CsvText.{csv_text}
 use Rattle.sweep_texts.specs.SweepText.{sweep_text}
@@ -61,11 +59,11 @@ swept_text form.Words csv s = table_text csv s
 swept_text form.Flow csv s = table_text csv s
 swept_text form.Page csv s = table_text csv s
 
--- a run statement by statement: in words, between the numbers that are asked for, with locals if these are, beside the text as it stands in
--- its file, and then its outcome
+-- a run statement by statement: in words, between the numbers that are asked for, with locals and columns if these are, beside the text as
+-- it stands in its file, and then its outcome
 abbrev pub IsInWords : Terminal → FoundRun → List Entry → List ℕ → Type 0
 IsInWords on r entries text = (telling : Telling)
-    × IsTelling on r.loaded.source.bytes.items r.words.steps.locals r.loaded.program.tree telling
+    × IsTelling on r.words.steps r.loaded.source.bytes.items (text_in r.loaded.source) r.loaded.program.tree telling
     × (text ≡ told_text r.loaded.program.layout telling r.outcome entries r.words.steps.from r.words.steps.to)
 
 -- drawn between the numbers that are asked for, beside the text as it stands in its file
@@ -74,15 +72,10 @@ picture_text r entries =
     steps.picture_from r.loaded.program.layout r.loaded.source.bytes.items entries r.words.steps.from r.words.steps.to
 
 -- the flow of data between the numbers that are asked for, drawn beside the text that its sizes give, of which statements have their places;
--- which reads of a statement are for subscripts alone is known by the program's tree; of these cells, where any are given
-abbrev pub flow_by : FoundRun → List Entry → List (Vec Bool Global) → List CellSpan → List ℕ
-flow_by r entries asides only =
-    flow r.loaded.program.layout (text_in r.loaded.source) asides r.input.items entries only r.words.steps.from r.words.steps.to
-
--- of those of the declarations that are asked for
-abbrev pub IsFlow : FoundRun → List Entry → List ℕ → Type 0
-IsFlow r entries text = (asides : List (Vec Bool Global)) × (all_of asides ≡ map (asides_in r.loaded.program.body) entries)
-    × (text ≡ flow_by r entries asides (chosen_spans r.loaded.program.layout r.words.shown))
+-- which reads of a statement are for subscripts alone is known by the program's tree; of the cells of the declarations that are asked for
+abbrev pub flow_text : FoundRun → List Entry → List ℕ
+flow_text r entries = flow r.loaded.program.layout (text_in r.loaded.source) (asides_in r.loaded.program.body) r.input.items entries
+    (chosen_spans r.loaded.program.layout r.words.shown) r.words.steps.from r.words.steps.to
 
 -- as a page of the statements between the numbers that are asked for, with the text that its sizes give
 abbrev pub IsPageOf : FoundRun → List Entry → List ℕ → Type 0
@@ -93,7 +86,7 @@ IsPageOf r entries shows = IsPage r.loaded.source.name.now (text_in r.loaded.sou
 abbrev pub AreStepsText : Form → Terminal → FoundRun → List Entry → List ℕ → Type 0
 AreStepsText form.Words on r entries text = IsInWords on r entries text
 AreStepsText form.Picture on r entries text = text ≡ picture_text r entries
-AreStepsText form.Flow on r entries text = IsFlow r entries text
+AreStepsText form.Flow on r entries text = text ≡ flow_text r entries
 AreStepsText form.Page on r entries text = IsPageOf r entries text
 
 -- the text of a run, by what was found beside its outcome

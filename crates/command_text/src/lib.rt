@@ -4,6 +4,7 @@
 mod answering;
 mod choosing;
 mod explaining;
+mod flowing;
 mod paging;
 mod stepping;
 mod sweeping;

@@ -4,9 +4,8 @@ ghost use Rattle.std.specs.Prelude.{◌≡◌, ◌<◌, ◌≤◌, ◌^◌, IfEr
 ghost use Rattle.pram_model.specs.Layout.{total_size};
 ghost use Rattle.text_out.specs.Out.{with_bytes};
 ghost use Rattle.write_rules.specs.Verdict.{verdict_of};
-ghost use Rattle.flow_pictures.specs.Picture.{flow};
 ghost use Rattle.command_facts.specs.Found.{IsOutcomeOf, entries_of};
-ghost use Rattle.command_facts.specs.Written.{Wrote, WroteSome};
+ghost use Rattle.command_facts.specs.Written.{Wrote};
 ghost use Rattle.program_texts.specs.Shown.{shown};
 ghost use Rattle.program_texts.specs.Status.{status_of};
 ghost use Rattle.program_texts.specs.declared.from_text.Refusal.TheVariants.{OutOfMemory};
@@ -16,23 +15,20 @@ ghost use Rattle.step_journal.specs.Between.{between};
 ghost use Rattle.step_pictures.specs.Picture.{part_of, picture};
 ghost use Rattle.command_text.specs.Stepped as stepped;
 ghost use Rattle.command_text.specs.Steps as spec;
-ghost use Rattle.command_text.specs.Texts as texts;
 
-use crate::choosing::chosen_spans;
+use crate::flowing::write_as_flow;
 use crate::paging::write_as_page;
 use crate::terminal::Terminal;
 use command_facts::{FoundRun, FoundSteps};
 use command_requests::{Form, StepWords};
-use flow_pictures::{CellSpan, asides_of, write_flow};
 use pram_trees::{Layout, Tree};
 use program_texts::{Refusal, Status, Stop, finish, show};
-use std::alloc::{AllocError, Global};
-use step_entries::Entry;
-use step_journal::{Excerpt, steps_between, steps_of};
+use std::alloc::Global;
+use step_journal::{Excerpt, steps_between};
 use step_pictures::write_excerpt;
 use step_streams::{StreamFailure, stream_steps};
 use step_texts::{Detail, Manner, Telling};
-use text_out::{Out, WriteFault};
+use text_out::Out;
 use write_rules::Outcome;
 
 // How entries are written on these streams.
@@ -49,24 +45,43 @@ fn manner_of<'t>(on: Terminal, text: &'t [u8]) -> Manner<'t>
     }
 }
 
-// What is told of each entry, by the names in this tree.
-fn detail_of<'t>(locals: bool, tree: &'t Tree) -> Detail<'t>
-    ensures { spec.IsDetail locals tree.now result }
+// The tree by whose names locals are told, where these are asked for.
+fn names_of<'t>(locals: bool, tree: &'t Tree) -> Option<&'t Tree>
+    ensures { spec.AreNames locals tree.now result }
 {
-    if locals {
-        Detail::Locals(tree)
-    } else {
-        Detail::Cells
+    if locals { Some(tree) } else { None }
+}
+
+// The text of which columns are told, where these are asked for.
+fn columns_of<'t>(columns: bool, sized: &'t [u8]) -> Option<&'t [u8]>
+    ensures { spec.AreColumns columns sized.now result }
+{
+    if columns { Some(sized) } else { None }
+}
+
+// What is told of each entry.
+fn detail_of<'t>(words: StepWords, sized: &'t [u8], tree: &'t Tree) -> Detail<'t>
+    ensures { spec.IsDetail words sized.now tree.now result }
+{
+    Detail {
+        locals: names_of(words.locals, tree),
+        columns: columns_of(words.columns, sized),
     }
 }
 
-// How entries are written, and what is told of each.
-fn telling_of<'t>(on: Terminal, text: &'t [u8], locals: bool, tree: &'t Tree) -> Telling<'t>
-    ensures { spec.IsTelling on text.now locals tree.now result }
+// How entries are written, beside this text, and what is told of each.
+fn telling_of<'t>(
+    on: Terminal,
+    words: StepWords,
+    text: &'t [u8],
+    sized: &'t [u8],
+    tree: &'t Tree,
+) -> Telling<'t>
+    ensures { spec.IsTelling on words text.now sized.now tree.now result }
 {
     Telling {
         manner: manner_of(on, text),
-        detail: detail_of(locals, tree),
+        detail: detail_of(words, sized, tree),
     }
 }
 
@@ -134,8 +149,9 @@ fn write_in_words<'a, O: Out>(
     ensures told { stepped.IsToldBy on steps.now (O.Out.state out.old) (O.Out.state out.new) result }
 {
     let text = steps.loaded.source.bytes.as_slice();
+    let sized = steps.loaded.source.text();
     let tree = steps.loaded.program.tree();
-    let telling = telling_of(on, text, steps.words.steps.locals, tree);
+    let telling = telling_of(on, steps.words.steps, text, sized, tree);
     let outcome = stream_lines(alloc, steps, &telling, out)?;
     write_ending(steps.loaded.program.layout(), &outcome, out)?;
     Ok(outcome)
@@ -196,89 +212,7 @@ fn write_as_picture<'a, O: Out>(
     Ok(outcome)
 }
 
-// Draws the flow of data between these numbers, whose statements have their places in this text.
-fn write_flowing<'a, O: Out>(
-    out: &mut O,
-    layout: &Layout,
-    text: &[u8],
-    asides: &[Vec<bool>],
-    opening: &[i64],
-    outcome: &Outcome,
-    entries: &[Entry],
-    only: &[CellSpan],
-    words: StepWords,
-) -> Result<Status, Stop<'a>>
-    requires out { (O.Out.state out.old).failures < 2 ^ 62 }
-    ensures written { Wrote (status_of outcome.now)
-        (flow layout.now text.now asides.now opening.now (map entry_is entries.now) only.now words.from words.to)
-        (O.Out.state out.old) (O.Out.state out.new) result }
-{
-    let (first, last) = (words.from as usize, words.to as usize);
-    write_flow(
-        out, layout, text, asides, opening, entries, only, first, last,
-    )?;
-    finish(out, Status::of(outcome))
-}
-
-// The flow of data in a run, drawn by these reads for subscripts, between these cells where any are given.
-fn write_flow_by<'a, O: Out>(
-    run: &FoundRun<'_>,
-    entries: &[Entry],
-    asides: &[Vec<bool>],
-    only: &[CellSpan],
-    out: &mut O,
-) -> Result<Status, Stop<'a>>
-    requires out { (O.Out.state out.old).failures < 2 ^ 62 }
-    ensures written { Wrote (status_of run.now.outcome) (texts.flow_by run.now (map entry_is entries.now) asides.now only.now)
-        (O.Out.state out.old) (O.Out.state out.new) result }
-{
-    let layout = run.loaded.program.layout();
-    let text = run.loaded.source.text();
-    let words = run.words.steps;
-    write_flowing(
-        out,
-        layout,
-        text,
-        asides,
-        &run.input,
-        &run.outcome,
-        entries,
-        only,
-        words,
-    )
-}
-
-// The flow of data in a run, drawn.
-fn write_as_flow<'a, O: Out>(
-    alloc: Global,
-    run: &FoundRun<'_>,
-    entries: &[Entry],
-    out: &mut O,
-) -> Result<Status, Stop<'a>>
-    requires out { (O.Out.state out.old).failures < 2 ^ 62 }
-    ensures written { WroteSome (status_of run.now.outcome) (Unit {0}) (texts.IsFlow run.now (map entry_is entries.now))
-        (O.Out.state out.old) (O.Out.state out.new) result }
-{
-    let asides = asides_of(alloc, &run.loaded.program, entries)?;
-    let only = chosen_spans(alloc, run.loaded.program.layout(), run.words.shown)?;
-    write_flow_by(run, entries, &asides, &only, out)
-}
-
-// All statements of a run. The input fits, so that the run is refused for memory alone.
-fn run_whole<'a>(alloc: Global, steps: &FoundSteps<'_>) -> Result<(Outcome, Vec<Entry>), Stop<'a>>
-    requires fits { length steps.now.input.items ≤ total_size steps.now.loaded.program.layout }
-    ensures outcome { IfOk result (λ r. IsOutcomeOf steps.now r.0) }
-    ensures entries { IfOk result (λ r. map entry_is r.1.items ≡ entries_of steps.now) }
-    ensures refused { IfErr result (λ stop. stop ≡ Refused OutOfMemory) }
-{
-    let (program, bound) = (&steps.loaded.program, steps.words.options.bound);
-    match steps_of(alloc, program, &steps.input, bound) {
-        Ok(told) => Ok(told),
-        Err(_) => Err(Stop::Refused(Refusal::OutOfMemory)),
-    }
-}
-
-// The flow of data in a run, drawn when it is over.
+// The flow of data in a run, drawn, with what it came to.
 fn write_flow_behind<'a, 'b, O: Out>(
     alloc: Global,
     steps: FoundSteps<'b>,
@@ -289,10 +223,8 @@ fn write_flow_behind<'a, 'b, O: Out>(
     requires out { (O.Out.state out.old).failures < 2 ^ 62 }
     ensures told { (on : Terminal) → stepped.IsToldRun on steps.entry (O.Out.state out.old) (O.Out.state out.new) result }
 {
-    let (outcome, entries) = run_whole(alloc, &steps)?;
-    let run = steps.with_outcome(outcome);
-    write_as_flow(alloc, &run, &entries, out)?;
-    Ok(run)
+    let outcome = write_as_flow(alloc, &steps, out)?;
+    Ok(steps.with_outcome(outcome))
 }
 
 // A run as a page, with what it came to.
@@ -344,8 +276,8 @@ fn write_picture_behind<'a, 'b, O: Out>(
 /// Runs a program and tells it statement by statement, in words as it runs, drawn, or as a page; and answers the run with what it came to.
 ///
 /// In words a line is written as soon as its statement has run, and none is kept; of a picture those statements are kept that are asked
-/// for; of a page no more than the lines that could stand in it; of the flow of data all statements. E17 where the writer failed, E16 where
-/// memory was refused.
+/// for; of a page no more than the lines that could stand in it; of the flow of data the statements that are drawn. E17 where the writer
+/// failed, E16 where memory was refused.
 pub(crate) fn write_stepped<'a, 'b, O: Out>(
     alloc: Global,
     on: Terminal,

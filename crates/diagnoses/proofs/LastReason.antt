@@ -10,7 +10,7 @@ behind_is : (p : Checked) (before : Option Entry) (es : List Entry) →
     last_reason p (reason_in p before) es ≡ reason_in p (fault_behind before es)
 behind_is p before [] = refl
 behind_is p before (Ran here acts changed variables locals items ∷ es) = behind_is p None es
-behind_is p before (Faulting here fault cause acts met ∷ es) = behind_is p (Some (Faulting here fault cause acts met)) es
+behind_is p before (Faulting here fault cause acts met locals ∷ es) = behind_is p (Some (Faulting here fault cause acts met locals)) es
 
 pub reason_told : (p : Checked) (input : List ℤ) (n : ℕ) (fault : Option Entry) (r : Reason) → fault ≡ run_fault p input n →
     r ≡ reason_in p fault → r ≡ run_reason p input n

@@ -23,7 +23,7 @@ reason_is r = record { cause = known_cause r.cause; met = r.met.items; at = r.at
 -- what an entry tells of it
 abbrev pub reason_of : Checked → Entry → Reason
 reason_of p (Ran here acts cells variables locals items) = unknown
-reason_of p (Faulting here fault cause acts met) =
+reason_of p (Faulting here fault cause acts met locals) =
     record { cause = cause; met = met; at = wrong_element p here acts fault.place cause }
 
 -- what the entry of a fault tells, if there is one

@@ -44,6 +44,7 @@ fn reason_of(alloc: Global, program: &Program, entry: Entry) -> Result<Reason, A
             cause,
             acts,
             met,
+            ..
         } => {
             let at = wrong_element(alloc, program, location, &acts, fault.place, &cause)?;
             Ok(Reason { cause, met, at })

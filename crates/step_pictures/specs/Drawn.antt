@@ -34,12 +34,12 @@ drawn es = numbered 1 (first_drawn es) ++ numbered (last_number es) (last_drawn 
 
 abbrev pub acts_in : Entry → List Act
 acts_in (Ran here acts cells variables locals items) = acts
-acts_in (Faulting here fault cause acts met) = acts
+acts_in (Faulting here fault cause acts met locals) = acts
 
 -- those that met at a fault
 abbrev pub met_in : Entry → List ℤ
 met_in (Ran here acts cells variables locals items) = []
-met_in (Faulting here fault cause acts met) = met
+met_in (Faulting here fault cause acts met locals) = met
 
 -- the one outside pardo has no index
 abbrev pub index_of : Option ℤ → List ℤ

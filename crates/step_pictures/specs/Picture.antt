@@ -96,7 +96,7 @@ fault_lines layout y f met = fault_line layout y f ++ met_line (y + 18) met
 
 abbrev pub ending_of : List SharedEntry → (y : ℕ) → Entry → List ℕ
 ending_of layout y (Ran here acts cells variables locals items) = []
-ending_of layout y (Faulting here fault cause acts met) = fault_lines layout y fault met
+ending_of layout y (Faulting here fault cause acts met locals) = fault_lines layout y fault met
 
 abbrev pub first_ending : List SharedEntry → (y : ℕ) → List Entry → List ℕ
 first_ending layout y [] = []

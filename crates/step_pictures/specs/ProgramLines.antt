@@ -53,7 +53,7 @@ code_rows x y bytes = upright (x + 24) y (first_row bytes) ++ more_code (x + 38)
 
 abbrev pub line_of : Entry → ℕ
 line_of (Ran here acts cells variables locals items) = here.line
-line_of (Faulting here fault cause acts met) = fault.line
+line_of (Faulting here fault cause acts met locals) = fault.line
 
 abbrev pub row_length : (text : List ℕ) → Entry → ℕ
 row_length text e = min 36 (length (code_of text (line_of e)))

@@ -85,7 +85,11 @@ fn is_written(alloc: Global, row: &Row, telling: &Telling<'_>) -> Option<bool> {
 
 fn is_told_on_terminal(alloc: Global, row: &Row, colours: bool) -> Option<bool> {
     let text = row.text.as_bytes();
-    let (manner, detail) = (Manner::OnTerminal { text, colours }, Detail::Cells);
+    let detail = Detail {
+        locals: None,
+        columns: None,
+    };
+    let manner = Manner::OnTerminal { text, colours };
     let telling = Telling { manner, detail };
     is_written(alloc, row, &telling)
 }

@@ -1,0 +1,79 @@
+//! Runs of a program of which the flow of data is drawn.
+
+ghost use Rattle.std.specs.Prelude.{◌≡◌, ◌<◌, ◌≤◌, ◌^◌, IfErr, IfOk, length};
+ghost use Rattle.pram_model.specs.Layout.{total_size};
+ghost use Rattle.text_out.specs.Out.{with_bytes};
+ghost use Rattle.command_facts.specs.Found.{IsOutcomeOf, entries_of, with_outcome};
+ghost use Rattle.command_text.specs.Spans as spans;
+ghost use Rattle.command_text.specs.Stepped as stepped;
+ghost use Rattle.command_text.specs.Texts as texts;
+
+use crate::choosing::chosen_spans;
+use crate::terminal::Terminal;
+use command_facts::FoundSteps;
+use command_requests::Form;
+use flow_pictures::CellSpan;
+use flow_streams::stream_flow;
+use program_texts::{Refusal, Status, Stop, finish};
+use std::alloc::Global;
+use step_streams::StreamFailure;
+use text_out::Out;
+use write_rules::Outcome;
+
+// Runs the program and draws the flow in the statements that are asked for, between the cells that are. The input fits, so that a run is
+// refused for memory alone.
+fn write_flow_of<'a, O: Out>(
+    alloc: Global,
+    steps: &FoundSteps<'_>,
+    only: &[CellSpan],
+    out: &mut O,
+) -> Result<Outcome, Stop<'a>>
+    requires form { steps.now.words.form ≡ Form.Flow }
+    requires fits { length steps.now.input.items ≤ total_size steps.now.loaded.program.layout }
+    requires only { only.now ≡ spans.chosen_spans steps.now.loaded.program.layout steps.now.words.shown }
+    requires out { (O.Out.state out.old).failures < 2 ^ 62 }
+    ensures outcome { IfOk result (IsOutcomeOf steps.now) }
+    ensures flow { IfOk result (λ o. O.Out.state out.new
+        ≡ with_bytes (O.Out.state out.old) (texts.flow_text (with_outcome steps.now o) (entries_of steps.now))) }
+    ensures cut { IfErr result (λ why. (on : Terminal) → stepped.IsCutOff on steps.now (O.Out.state out.old) (O.Out.state out.new) why) }
+{
+    let (text, program) = (steps.loaded.source.text(), &steps.loaded.program);
+    let (words, bound) = (steps.words.steps, steps.words.options.bound);
+    let (first, last) = (words.from as usize, words.to as usize);
+    match stream_flow(
+        alloc,
+        text,
+        program,
+        &steps.input,
+        bound,
+        only,
+        first,
+        last,
+        out,
+    ) {
+        Ok(outcome) => Ok(outcome),
+        Err(StreamFailure::WriteFailed) => Err(Stop::WriteFailed),
+        Err(StreamFailure::OutOfMemory) => Err(Stop::Refused(Refusal::OutOfMemory)),
+        Err(StreamFailure::InputTooLong) => Err(Stop::Refused(Refusal::InputTooLong)),
+    }
+}
+
+/// Runs a program and draws the flow of data in the statements that are asked for.
+pub(crate) fn write_as_flow<'a, O: Out>(
+    alloc: Global,
+    steps: &FoundSteps<'_>,
+    out: &mut O,
+) -> Result<Outcome, Stop<'a>>
+    requires form { steps.now.words.form ≡ Form.Flow }
+    requires fits { length steps.now.input.items ≤ total_size steps.now.loaded.program.layout }
+    requires out { (O.Out.state out.old).failures < 2 ^ 62 }
+    ensures told { (on : Terminal) → stepped.IsToldBy on steps.now (O.Out.state out.old) (O.Out.state out.new) result }
+{
+    let layout = steps.loaded.program.layout();
+    let Ok(only) = chosen_spans(alloc, layout, steps.words.shown) else {
+        return Err(Stop::Refused(Refusal::OutOfMemory));
+    };
+    let outcome = write_flow_of(alloc, steps, &only, out)?;
+    finish(out, Status::of(&outcome))?;
+    Ok(outcome)
+}
