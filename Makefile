@@ -79,7 +79,7 @@ memory-table: bin/pramc
 unthreaded:
 	bash crates/run_tests/unthreaded/check.sh
 
-# Steps through the pages of nine runs in Chromium, and compares what they show with the facts in them.
+# Steps through the pages of eleven runs in Chromium, and compares what they show with the facts in them.
 page-test: bin/pramc
 	python3 gate/page_test.py bin/pramc
 

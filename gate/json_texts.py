@@ -3,9 +3,9 @@
 
 json_texts.py PROGRAM: each object of JSON is on a line of its own and has each name once; it says what the text of the same call says, and
 the exit status is the same. So it is with a run that is cut short, with changed texts that are refused, whose lines and columns are counted
-here, and with words that are. What `steps --locals` says is what its JSON says; a sweep over the sizes of an example, of which some
-are cut short or refused, says the same as text, as JSON and as CSV; and two programs on several inputs say of each what they say of it
-alone.
+here, and with words that are. What `steps --locals` and `steps --columns` say is what its JSON says; a sweep over the sizes of an example,
+of which some are cut short or refused, says the same as text, as JSON and as CSV; and two programs on several inputs say of each what they
+say of it alone.
 """
 import csv
 import json
@@ -29,6 +29,8 @@ CHANGE = re.compile(r" (\S+) (-?\d+) -> (-?\d+)")
 # a statement with its locals: what is beside the cells
 BESIDE = re.compile(r"(?P<sets>(?: [^ :]+ -?\d+ -> -?\d+)*)(?P<locals>(?: \w+(?: -?\d+: -?\d+ -> -?\d+)+)*(?: and \d+ more)?)"
                     r"(?P<printed>(?: prints(?: -?\d+)+)?)")
+# a statement with its column
+PLACED = re.compile(r"^(\d+) (?:fault .+ )?line (\d+):(\d+)", re.M)
 LOCAL = re.compile(r"(?: ([A-Za-z_]\w*))? (-?\d+): (-?\d+) -> (-?\d+)")
 MOST_LOCALS = 8
 EXCHANGE = re.compile(r"(\d+) (\w+) sent ((?:\d+ )+)received ((?:\d+ )+)h (\d+) line (\d+)")
@@ -255,6 +257,8 @@ def wrong(words, reader):
         return [f"pramc {' '.join(map(str, words))}: {error}\n{text}{out}{err}"]
     if words[0] == "trace":
         said.append({"outcome": WAYS.get(status)})
+    if words[0] == "steps" and [*found.pop(0)] != ["opening"]:
+        return [f"pramc {' '.join(map(str, words))}: no opening\n{out}"]
     if code == status and status != 2 and not err and not refused and says_all(said, found):
         return []
     return [f"pramc {' '.join(map(str, words))}: status {code}, not {status}\n{said}\n{found}\n{err}"]
@@ -271,6 +275,44 @@ def wrong_locals(words):
         if found:
             said[int(found[1])] = beside(found[2])
     return [] if said == told else [f"pramc {' '.join(map(str, words))} --locals: {said}\n{told}"]
+
+
+def cells_of(memory):
+    """What each cell holds, by its name, of declarations with their values."""
+    return {it["name"] + (f"[{int(it['low']) + i}]" if "low" in it else ""): v for it in memory for i, v in enumerate(it["values"])}
+
+
+def wrong_act(act, before, after, several):
+    """Whether a processor read other values than the cells held, at positions that don't ascend, or alone left another than it wrote."""
+    at, write, written = act["positions"], act["write"], act["written"]
+    if [before[it] for it in act["reads"]] != act["values"] or at != sorted({*at}) or len(at) != len(act["reads"]) or min(at, default=1) < 1:
+        return True
+    return (write is None) != (written is None) or write is not None and not several and after[write] != written
+
+
+def wrong_values(words):
+    """What is wrong with the values that processors read and write, beside the cells as the changes leave them, if anything is."""
+    _, out, _ = called([*words, "--format", "json"])
+    opening, *steps, end = read(out)
+    cells, found = cells_of(opening["opening"]), []
+    for step in steps:
+        before = dict(cells)
+        cells.update((it["cell"], it["after"]) for it in step.get("changes", []))
+        writes = [it["write"] for it in step["acts"]]
+        found += [(step["step"], it) for it in step["acts"] if wrong_act(it, before, cells, writes.count(it["write"]) > 1)]
+    if "memory" in end and cells_of(end["memory"]) != cells:
+        found.append((end, cells))
+    return [f"pramc {' '.join(map(str, words))}: {it}" for it in found]
+
+
+def wrong_columns(words):
+    """What is wrong with the columns of a run that is told statement by statement, if anything is."""
+    plain, text = (called([*words, *it])[1] for it in ([], ["--columns"]))
+    _, out, _ = called([*words, "--format", "json"])
+    told = [(it["step"], it["line"], it["column"]) for it in read(out) if "step" in it]
+    said = [tuple(map(int, it)) for it in PLACED.findall(text)]
+    same = PLACED.sub(lambda it: it[0].removesuffix(f":{it[3]}"), text) == plain
+    return [] if said == told and same else [f"pramc {' '.join(map(str, words))} --columns: {said}\n{told}\n{text}"]
 
 
 def wrong_table(words):
@@ -369,7 +411,8 @@ def of_example(name, text, folder):
     plan = folder / f"{name}.bsp"
     plan.write_text(called(["plan", file])[1])
     calls += [(["exec", plan, *values, "--workers", "2"], meaning), (["exec", plan, *values, "--bound", "5"], meaning)]
-    found = [wrong(*it) for it in calls] + [wrong_locals(["steps", file, *values])]
+    found = [wrong(*it) for it in calls] + [wrong_locals(["steps", file, *values]), wrong_columns(["steps", file, *values])]
+    found.append(wrong_values(["steps", file, *values]))
     for at, changed in enumerate(changed_texts(text)):
         other = folder / f"{name}_{at}.pram"
         other.write_text(changed)

@@ -28,6 +28,7 @@ COMMANDS = {
     "steps": ["steps"],
     "of them 3": ["steps", "--from", "1", "--to", "3"],
     "page": ["steps", "--html"],
+    "flow": ["steps", "--flow"],
     "run": ["run", *WORKERS],
     "trace": ["trace", *WORKERS],
 }

@@ -1,5 +1,5 @@
 #!/usr/bin/env python3
-"""Steps through the pages of nine runs in a browser without a screen, wide and on a phone, and compares what they show with what is told.
+"""Steps through the pages of eleven runs in a browser without a screen, wide and on a phone, and compares what they show with what is told.
 
 page_test.py PROGRAM: `PROGRAM steps FILE --html` writes the page of a run. A script behind the page's own presses its keys and buttons and
 moves its slider, and notes what is shown; Chromium writes the document that this leaves. What is wanted at each moment is worked out here, from
@@ -184,7 +184,7 @@ def moments_of(opening, steps):
             name = opening["variables"][it["variable"]]
             variables[name], changed[name] = it["after"], f"{it['before']} \u2192 {it['after']}"
         for it in step.get("locals", []):
-            local[it["processor"], it["local"]] = it["after"]
+            local[it["processor"], it["local"]] = it["after"] if "after" in it else it["value"]
         output += step.get("printed", [])
         names = [] if is_outside(step) or not step["acts"] else pardo_of(opening, step)[1]["locals"]
         acts = [row_of(step, it, before, values, names, old, local) for it in step["acts"]]
@@ -273,8 +273,11 @@ def compared(name, page, told, file):
     numbers = [0] + [it["step"] for it in kept]
     gaps = [i for i in range(1, len(numbers)) if numbers[i] != numbers[i - 1] + 1]
     numbers = [n for i, n in enumerate(numbers) for n in ([None, n] if i in gaps else [n])]
+    if numbers[-1] != len(steps):
+        gaps.append(len(numbers))
+        numbers.append(None)
     moments = moments_of(opening, steps)
-    visits = sorted({i for i in [0, 1, 2, 3, *(g + d for g in gaps for d in (-2, -1, 0, 1, 2)), *range(len(numbers) - 3, len(numbers))] if i >= 0})
+    visits = sorted({i for i in [0, 1, 2, 3, *(g + d for g in gaps for d in (-2, -1, 0, 1, 2)), *range(len(numbers) - 3, len(numbers))] if 0 <= i < len(numbers)})
     folded = any("low" in it and int(it["high"]) - int(it["low"]) >= 64 for it in opening["cells"])
     wrong = [] if [it for it in facts if it.get("step")] == [it for it in steps if it["step"] in set(numbers)] else ["other facts"]
     for size, (width, height) in SIZES.items():
@@ -288,13 +291,15 @@ def compared(name, page, told, file):
             else:
                 wrong += [f"{size}, moment {at}: {it}" for it in differs(shown, moments[number], steps[number - 1] if number else None, folded)]
             wrong += [f"{size}, moment {at}: {it}" for it in places_differ(shown, size, name == "tree_sum")]
-    if len(steps) > 2 and not at_address(page, 2).startswith("Statement 2 of"):
+    second = kept[min(1, len(kept) - 1)]["step"]
+    if len(steps) > 2 and not at_address(page, second).startswith(f"Statement {second} of"):
         wrong.append("the address is not followed")
     return [f"{name}: {it}" for it in wrong]
 
 
-def of_run(name, path, given, *options):
-    page = written(path, given, "--html", *options)
+def of_run(name, path, given, *options, window=()):
+    """A page of a run, or of the statements of a window, beside all that is told of the run."""
+    page = written(path, given, "--html", *options, *window)
     told = [json.loads(line) for line in written(path, given, "--format", "json", *options).splitlines()]
     return compared(name, page, told, path.name)
 
@@ -314,6 +319,8 @@ def main():
     found += of_run("far_cells", PAGES / "far_cells.pram", PAGES / "far_cells.in")
     found += of_run("long", PAGES / "long.pram", None)
     found += of_run("goes_on", PAGES / "goes_on.pram", None, "--bound", "60")
+    found += of_run("printed", PAGES / "printed.pram", None, window=("--from", "20", "--to", "26"))
+    found += of_run("held", PAGES / "held.pram", None, window=("--from", "3"))
     with tempfile.TemporaryDirectory() as folder:
         path = Path(folder) / HOSTILE.replace("/", "")
         shutil.copy(PAGES / "hostile.pram", path)
@@ -321,7 +328,7 @@ def main():
     found += of_facts("negative", written(EXAMPLES / "tree_sum.pram", EXAMPLES / "tree_sum.in", "--html"))
     for it in found:
         print(it)
-    print(f"pages: {'not all' if found else 'all'} of 9 runs are shown as is told of them, on a wide screen and on a phone")
+    print(f"pages: {'not all' if found else 'all'} of 11 runs are shown as is told of them, on a wide screen and on a phone")
     sys.exit(1 if found else 0)
 
 
