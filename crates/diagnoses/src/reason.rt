@@ -6,6 +6,7 @@ ghost use Rattle.step_entries.specs.Entries.{entry_is};
 ghost use Rattle.diagnoses.specs.Reasons as spec;
 
 use crate::wrong_element::wrong_element;
+use call_progress::Watch;
 use pram_check::Program;
 use std::alloc::{AllocError, Global};
 use step_entries::{Cause, Entry};
@@ -63,13 +64,19 @@ fn reason_in(alloc: Global, program: &Program, fault: Option<Entry>) -> Result<R
     }
 }
 
-/// Why a program's run faults, found by running the meaning again, of which the fault alone is kept. None where memory was refused, or where the input has more values than
-/// there are cells.
+/// Why a program's run faults, found by running the meaning again, of which the fault alone is kept; the watch is told how far that run is.
+/// None where memory was refused, or where the input has more values than there are cells.
 #[tactic(auto, using(crate::proofs::LastReason::reason_told))]
-pub fn run_reason(alloc: Global, program: &Program, input: &[i64], bound: u32) -> Option<Reason>
+pub fn run_reason<V: Watch>(
+    alloc: Global,
+    program: &Program,
+    input: &[i64],
+    bound: u32,
+    watch: &mut V,
+) -> Option<Reason>
     ensures { IfSome result (λ reason. spec.reason_is reason ≡ spec.run_reason program.now input.now bound) }
 {
-    let Ok(fault) = fault_of(alloc, program, input, bound) else {
+    let Ok(fault) = fault_of(alloc, program, input, bound, watch) else {
         return None;
     };
     match reason_in(alloc, program, fault) {

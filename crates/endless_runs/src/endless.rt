@@ -7,6 +7,7 @@ ghost use Rattle.endless_runs.specs.Endless.{NeverEnds};
 use crate::cycle::Cycle;
 use crate::search::Search;
 use crate::stop::Stop;
+use call_progress::Watch;
 use pram_check::Program;
 use pram_meaning::interpreter::Interpreter;
 use pram_meaning::open;
@@ -14,9 +15,15 @@ use std::alloc::Global;
 
 /// A loop outside pardo that comes back, on an input, to the state that it had: then the run never ends, and its outcome is within every
 /// bound that it goes on. `bound` statements are searched at most, by running them; two states of a loop are compared by its cells and its
-/// uniform variables, of which one is kept each time that the loop has run twice as many statements. None where nothing is known: there is
+/// uniform variables, of which one is kept each time that the loop has run twice as many statements. The watch is told how far the search is. None where nothing is known: there is
 /// no such loop or it comes later, the run ends or faults, there are more values than cells, or memory was refused.
-pub fn find_cycle(alloc: Global, program: &Program, input: &[i64], bound: u32) -> Option<Cycle>
+pub fn find_cycle<V: Watch>(
+    alloc: Global,
+    program: &Program,
+    input: &[i64],
+    bound: u32,
+    watch: &mut V,
+) -> Option<Cycle>
     ensures { (cycle : Cycle) → result ≡ Some cycle → NeverEnds program.now input.now }
 {
     if input.len() > program.layout().cells() as usize {
@@ -32,7 +39,7 @@ pub fn find_cycle(alloc: Global, program: &Program, input: &[i64], bound: u32) -
             bound,
         },
     };
-    match search.search_body(&mut run) {
+    match search.search_body(&mut run, watch) {
         Err(Stop::Cycle(cycle)) => Some(cycle),
         Ok(()) | Err(Stop::Unknown) => None,
     }

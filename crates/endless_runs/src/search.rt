@@ -11,6 +11,7 @@ ghost use Rattle.endless_runs.specs.Search.{ForFrom, IsKnown};
 
 use crate::kept::Keeper;
 use crate::stop::Stop;
+use call_progress::Watch;
 use pram_check::{Expression, Statement};
 use pram_meaning::action::Action;
 use pram_meaning::interpreter::Interpreter;
@@ -19,6 +20,15 @@ use pram_meaning::run::{Halt, Run, set_number};
 use pram_meaning::silent::Silent;
 use pram_tokens::Location;
 use pram_values::is_true;
+
+// A clock is looked at behind so many statements.
+const STRIDE: u32 = 16;
+
+fn look<V: Watch>(watch: &mut V, statements: u32) {
+    if statements % STRIDE == 0 {
+        watch.ran(statements);
+    }
+}
 
 /// Who searches a run.
 #[derive(Clone, Copy)]
@@ -98,7 +108,12 @@ impl<'a> Search<'a> {
     // One statement, with all that it holds.
     #[cycle(search)]
     #[tactic(auto, using(crate::proofs::Walk::while_known, crate::proofs::Walk::then_known, crate::proofs::Walk::else_known, crate::proofs::ForWalk::for_known))]
-    fn search_statement(&self, run: &mut Run, s: &Statement) -> Result<(), Stop>
+    fn search_statement<V: Watch>(
+        &self,
+        run: &mut Run,
+        watch: &mut V,
+        s: &Statement,
+    ) -> Result<(), Stop>
         requires within { run.old.count ≤ self.now.interpreter.bound }
         ensures known { IsKnown (Means self.now.interpreter.program.now s.now (state_of run.old)) (state_of run.new) result }
         ensures grows { OnOk result (run.old.count ≤ run.new.count) }
@@ -109,7 +124,7 @@ impl<'a> Search<'a> {
                 location,
                 test,
                 body,
-            } => self.search_while(run, body, *location, test),
+            } => self.search_while(run, watch, body, *location, test),
             Statement::If {
                 location,
                 test,
@@ -120,9 +135,9 @@ impl<'a> Search<'a> {
                     return Err(Stop::Unknown);
                 };
                 if holds {
-                    self.search_block(run, then_part)
+                    self.search_block(run, watch, then_part)
                 } else {
-                    self.search_block(run, else_part)
+                    self.search_block(run, watch, else_part)
                 }
             }
             Statement::For {
@@ -131,7 +146,7 @@ impl<'a> Search<'a> {
                 low,
                 high,
                 body,
-            } => self.search_for(run, body, *location, *variable, low, high),
+            } => self.search_for(run, watch, body, *location, *variable, low, high),
             Statement::Assign { .. } | Statement::Print { .. } | Statement::Pardo { .. } =>
                 self.run(run, s),
         }
@@ -140,14 +155,20 @@ impl<'a> Search<'a> {
     // The statements of a block, in order.
     #[cycle(search)]
     #[tactic(auto, using(crate::proofs::Walk::block_starts, crate::proofs::Walk::block_stops, crate::proofs::Walk::block_goes, crate::proofs::Walk::block_ends))]
-    fn search_block(&self, run: &mut Run, body: &Vec<Statement>) -> Result<(), Stop>
+    fn search_block<V: Watch>(
+        &self,
+        run: &mut Run,
+        watch: &mut V,
+        body: &Vec<Statement>,
+    ) -> Result<(), Stop>
         requires within { run.old.count ≤ self.now.interpreter.bound }
         ensures known { IsKnown (MeansList self.now.interpreter.program.now body.now.items (state_of run.old)) (state_of run.new) result }
         ensures grows { OnOk result (run.old.count ≤ run.new.count) }
         ensures within { OnOk result (run.new.count ≤ self.now.interpreter.bound) }
     {
         for s in body {
-            if let Err(stop) = self.search_statement(run, s) {
+            look(watch, run.count);
+            if let Err(stop) = self.search_statement(run, watch, s) {
                 return Err(stop);
             }
         }
@@ -157,9 +178,10 @@ impl<'a> Search<'a> {
     // The turns of a loop. Its state is kept now and then, and compared behind each turn.
     #[cycle(search)]
     #[tactic(auto, using(crate::proofs::Walk::loop_starts, crate::proofs::Walk::loop_stops, crate::proofs::Walk::loop_goes, crate::proofs::Walk::loop_ends, crate::proofs::Walk::loop_cycles))]
-    fn search_while(
+    fn search_while<V: Watch>(
         &self,
         run: &mut Run,
+        watch: &mut V,
         body: &Vec<Statement>,
         location: Location,
         test: &Expression,
@@ -178,7 +200,7 @@ impl<'a> Search<'a> {
             if !holds {
                 return Ok(());
             }
-            if let Err(stop) = self.search_block(run, body) {
+            if let Err(stop) = self.search_block(run, watch, body) {
                 return Err(stop);
             }
             if let Some(cycle) = keeper.find(run, location.line) {
@@ -193,9 +215,10 @@ impl<'a> Search<'a> {
     // The bounds of a `for`, and its turns.
     #[cycle(search)]
     #[tactic(auto, using(crate::proofs::ForWalk::bounds_known))]
-    fn search_for(
+    fn search_for<V: Watch>(
         &self,
         run: &mut Run,
+        watch: &mut V,
         body: &Vec<Statement>,
         location: Location,
         variable: usize,
@@ -211,15 +234,16 @@ impl<'a> Search<'a> {
         let Ok(numbers) = self.bounds(run, location, low, high) else {
             return Err(Stop::Unknown);
         };
-        self.search_turns(run, body, variable, &numbers)
+        self.search_turns(run, watch, body, variable, &numbers)
     }
 
     // The turns of a `for`, one for each number.
     #[cycle(search)]
     #[tactic(auto, using(crate::proofs::ForWalk::for_starts, crate::proofs::ForWalk::for_is_empty, crate::proofs::ForWalk::for_ends, crate::proofs::ForWalk::for_stops, crate::proofs::ForWalk::for_goes))]
-    fn search_turns(
+    fn search_turns<V: Watch>(
         &self,
         run: &mut Run,
+        watch: &mut V,
         body: &Vec<Statement>,
         variable: usize,
         numbers: &Numbers,
@@ -238,7 +262,7 @@ impl<'a> Search<'a> {
             let Ok(()) = self.set_next(run, variable, &left) else {
                 return Err(Stop::Unknown);
             };
-            if let Err(stop) = self.search_block(run, body) {
+            if let Err(stop) = self.search_block(run, watch, body) {
                 return Err(stop);
             }
             if left.is_at_end() {
@@ -250,13 +274,13 @@ impl<'a> Search<'a> {
 
     /// The whole body of the program.
     #[tactic(auto, using(crate::proofs::Walk::block_starts, crate::proofs::Walk::block_stops, crate::proofs::Walk::block_goes, crate::proofs::Walk::block_ends))]
-    pub(crate) fn search_body(&self, run: &mut Run) -> Result<(), Stop>
+    pub(crate) fn search_body<V: Watch>(&self, run: &mut Run, watch: &mut V) -> Result<(), Stop>
         requires within { run.old.count ≤ self.now.interpreter.bound }
         ensures known { IsKnown (MeansList self.now.interpreter.program.now self.now.interpreter.program.now.body (state_of run.old))
             (state_of run.new) result }
     {
         for s in self.interpreter.program.body() {
-            if let Err(stop) = self.search_statement(run, s) {
+            if let Err(stop) = self.search_statement(run, watch, s) {
                 return Err(stop);
             }
         }

@@ -11,6 +11,7 @@ ghost use Rattle.flow_pictures.specs.Drawing.{drawing_is};
 ghost use Rattle.flow_pictures.specs.Picture.{flow, picture};
 
 use crate::taker::Taker;
+use call_progress::Watch;
 use flow_pictures::{Drawing, Flow};
 use pram_check::Program;
 use std::alloc::{AllocError, Global};
@@ -19,13 +20,14 @@ use write_rules::Outcome;
 
 /// Runs a program on an input that fits, for at most `bound` statements, and takes what is drawn of the statements whose numbers, counted
 /// from 1, go from one to another. `AllocError`: memory was refused.
-pub(crate) fn draw_run(
+pub(crate) fn draw_run<V: Watch>(
     alloc: Global,
     program: &Program,
     input: &[i64],
     bound: u32,
     from: usize,
     to: usize,
+    watch: &mut V,
 ) -> Result<(Outcome, Drawing), AllocError>
     ensures outcome { IfOk result (λ r. IsOutcome program.now input.now bound (verdict_of r.0)) }
     ensures drawn { IfOk result (λ r. (layout : List SharedEntry) (text : List ℕ) (only : List CellSpan) →
@@ -38,7 +40,7 @@ pub(crate) fn draw_run(
         program,
         flow,
     };
-    let (taker, done) = tell_run(alloc, program, input, bound, taker);
+    let (taker, done) = tell_run(alloc, program, input, bound, taker, watch);
     match done {
         Ok(outcome) => {
             let drawing = taker.flow.finish()?;

@@ -7,6 +7,7 @@ ghost use Rattle.pram_meaning.specs.Outcome.{IsOutcome};
 ghost use Rattle.flow_streams.specs.Streamed.{HasStreamedFlow};
 
 use crate::drawing::draw_run;
+use call_progress::Watch;
 use flow_pictures::{CellSpan, write_flow};
 use pram_check::Program;
 use std::alloc::Global;
@@ -17,11 +18,12 @@ use write_rules::Outcome;
 /// Runs a program on an input, for at most `bound` statements, and writes the picture of what passes through shared memory in the statements
 /// whose numbers, counted from 1, go from one to another; `text` is what was read as the program. Where `only` has the cells of some
 /// declarations, no others have a row. The picture is written when the run is over; beside the run it takes the memory of the run's cells,
-/// twice, and of the statements that are drawn, however many there are. The outcome is the answer.
+/// twice, and of the statements that are drawn, however many there are. The watch is told how far the run is, and the outcome
+/// is the answer.
 /// - `InputTooLong` (E11): there are more values than cells, and nothing was written.
 /// - `OutOfMemory` (E16): memory was refused, and nothing was written.
 /// - `WriteFailed` (E17): the writer failed; what it took is a beginning of the picture.
-pub fn stream_flow<W: Out>(
+pub fn stream_flow<W: Out, V: Watch>(
     alloc: Global,
     text: &[u8],
     program: &Program,
@@ -30,6 +32,7 @@ pub fn stream_flow<W: Out>(
     only: &[CellSpan],
     from: usize,
     to: usize,
+    watch: &mut V,
     out: &mut W,
 ) -> Result<Outcome, StreamFailure>
     requires counted { (W.Out.state out.old).failures < 2 ^ 63 }
@@ -42,7 +45,7 @@ pub fn stream_flow<W: Out>(
     if input.len() > program.layout().cells() as usize {
         return Err(StreamFailure::InputTooLong);
     }
-    let Ok((outcome, drawing)) = draw_run(alloc, program, input, bound, from, to) else {
+    let Ok((outcome, drawing)) = draw_run(alloc, program, input, bound, from, to, watch) else {
         return Err(StreamFailure::OutOfMemory);
     };
     match write_flow(out, program.layout(), text, only, &drawing) {

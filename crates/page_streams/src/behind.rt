@@ -6,18 +6,20 @@ ghost use Rattle.page_streams.specs.Gathered.{IsBehind};
 ghost use Rattle.page_streams.specs.Pages.{IsStateBehind};
 
 use crate::replayer::Replayer;
+use call_progress::Watch;
 use pram_check::Program;
 use std::alloc::{AllocError, Global};
 use step_journal::tell_run;
 use step_pages::{RunState, state_line};
 
 // Runs a program on an input that fits, to the state behind so many statements.
-fn state_behind(
+fn state_behind<V: Watch>(
     alloc: Global,
     program: &Program,
     input: &[i64],
     bound: u32,
     behind: usize,
+    watch: &mut V,
 ) -> Result<RunState, AllocError>
     ensures state { IfOk result (λ s. IsBehind input.now (run_entries program.now input.now bound) behind s) }
 {
@@ -27,7 +29,7 @@ fn state_behind(
         count: 0,
         state,
     };
-    let (replayer, done) = tell_run(alloc, program, input, bound, replayer);
+    let (replayer, done) = tell_run(alloc, program, input, bound, replayer, watch);
     match done {
         Ok(_) => Ok(replayer.state),
         Err(_) => Err(AllocError),
@@ -35,34 +37,36 @@ fn state_behind(
 }
 
 // Its line.
-fn line_behind(
+fn line_behind<V: Watch>(
     alloc: Global,
     program: &Program,
     input: &[i64],
     bound: u32,
     behind: usize,
+    watch: &mut V,
 ) -> Result<String, AllocError>
     ensures line { IfOk result
         (λ line. IsStateBehind input.now (run_entries program.now input.now bound) (Some behind) (string_bytes line)) }
 {
-    let state = state_behind(alloc, program, input, bound, behind)?;
+    let state = state_behind(alloc, program, input, bound, behind, watch)?;
     state_line(alloc, &state, behind)
 }
 
 /// The line of the state behind the entry of this number, where there is one: for it the program runs once more on the input, which fits.
 /// `AllocError`: memory was refused.
-pub(crate) fn state_if(
+pub(crate) fn state_if<V: Watch>(
     alloc: Global,
     program: &Program,
     input: &[i64],
     bound: u32,
     behind: Option<usize>,
+    watch: &mut V,
 ) -> Result<String, AllocError>
     ensures line { IfOk result
         (λ line. IsStateBehind input.now (run_entries program.now input.now bound) behind (string_bytes line)) }
 {
     match behind {
         None => Ok(String::new(alloc)),
-        Some(behind) => line_behind(alloc, program, input, bound, behind),
+        Some(behind) => line_behind(alloc, program, input, bound, behind, watch),
     }
 }

@@ -8,6 +8,7 @@ ghost use Rattle.page_streams.specs.Gathered.{IsGathered};
 
 use crate::asked::Asked;
 use crate::gatherer::Gatherer;
+use call_progress::Watch;
 use pram_check::Program;
 use std::alloc::{AllocError, Global};
 use step_journal::tell_run;
@@ -24,12 +25,13 @@ pub(crate) struct Gathered {
 
 /// Runs a program on an input that fits, for at most `bound` statements, and gathers what its page takes. Beside the run it takes the
 /// memory of one statement, of the state and of the lines that are kept. `AllocError`: memory was refused.
-pub(crate) fn gather(
+pub(crate) fn gather<V: Watch>(
     alloc: Global,
     asked: Asked<'_>,
     program: &Program,
     input: &[i64],
     bound: u32,
+    watch: &mut V,
 ) -> Result<(Outcome, Gathered), AllocError>
     ensures outcome { IfOk result (λ r. IsOutcome program.now input.now bound (verdict_of r.0)) }
     ensures gathered { IfOk result (λ r. IsGathered asked.entry input.now (run_entries program.now input.now bound) r.1) }
@@ -42,7 +44,7 @@ pub(crate) fn gather(
         state,
         lines: KeptLines::new(alloc),
     };
-    let (gatherer, done) = tell_run(alloc, program, input, bound, gatherer);
+    let (gatherer, done) = tell_run(alloc, program, input, bound, gatherer, watch);
     match done {
         Ok(outcome) => {
             let (count, state, lines) = (gatherer.count, gatherer.state, gatherer.lines);

@@ -12,6 +12,7 @@ use crate::asked::Asked;
 use crate::behind::state_if;
 use crate::facts::keep_facts;
 use crate::gathering::gather;
+use call_progress::Watch;
 use pram_check::Program;
 use std::alloc::{AllocError, Global};
 use step_pages::{Kept, KeptLines, write_page};
@@ -28,7 +29,7 @@ pub(crate) struct Page {
 }
 
 // What stands in the page of a run on an input that fits, and what the run came to.
-fn make_page(
+fn make_page<V: Watch>(
     alloc: Global,
     file: &[u8],
     text: &[u8],
@@ -37,6 +38,7 @@ fn make_page(
     bound: u32,
     first: usize,
     last: usize,
+    watch: &mut V,
 ) -> Result<(Outcome, Page), AllocError>
     ensures outcome { IfOk result (λ r. IsOutcome program.now input.now bound (verdict_of r.0)) }
     ensures page { IfOk result (λ r. IsPaged file.now text.now program.now input.now r.0 (run_entries program.now input.now bound) first last
@@ -49,11 +51,18 @@ fn make_page(
         first,
         last,
     };
-    let (outcome, gathered) = gather(alloc, asked, program, input, bound)?;
+    let (outcome, gathered) = gather(alloc, asked, program, input, bound, watch)?;
     let told = last.min(gathered.count);
     let lines = keep_facts(alloc, file, text, program, input, asked, &outcome, gathered)?;
     let kept = lines.kept();
-    let state = state_if(alloc, program, input, bound, lines.gap_end(kept, told))?;
+    let state = state_if(
+        alloc,
+        program,
+        input,
+        bound,
+        lines.gap_end(kept, told),
+        watch,
+    )?;
     Ok((outcome, Page { lines, kept, state }))
 }
 
@@ -61,11 +70,11 @@ fn make_page(
 /// from `first` to `last`; `file` is what the program's file is called, and `text` the text that was read as the program. The page is
 /// written when the run is over. No entry is kept, and of the lines of facts those that could stand in the page: beside the run it takes
 /// the memory of one statement and some MiB. Where not all have room, the program runs a second time, for the state behind those that are
-/// left out.
+/// left out. The watch is told how far each run is.
 ///
 /// E11 where there are more values than cells, and then nothing is written; E17 where the writer failed; E16 only where memory was refused,
 /// and then nothing is written either.
-pub fn stream_page<W: Out>(
+pub fn stream_page<W: Out, V: Watch>(
     alloc: Global,
     file: &[u8],
     text: &[u8],
@@ -74,6 +83,7 @@ pub fn stream_page<W: Out>(
     bound: u32,
     first: usize,
     last: usize,
+    watch: &mut V,
     out: &mut W,
 ) -> Result<Outcome, StreamFailure>
     requires counted { (W.Out.state out.old).failures < 2 ^ 63 }
@@ -86,8 +96,9 @@ pub fn stream_page<W: Out>(
     if input.len() > program.layout().cells() as usize {
         return Err(StreamFailure::InputTooLong);
     }
-    let Ok((outcome, page)) = make_page(alloc, file, text, program, input, bound, first, last)
-    else {
+    let Ok((outcome, page)) = make_page(
+        alloc, file, text, program, input, bound, first, last, watch,
+    ) else {
         return Err(StreamFailure::OutOfMemory);
     };
     match write_page(out, &page.lines, page.kept, page.state.as_bytes()) {

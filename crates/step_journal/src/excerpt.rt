@@ -10,6 +10,7 @@ ghost use Rattle.step_journal.specs.Entries.{run_entries};
 
 use crate::telling::tell_run;
 use crate::window::Window;
+use call_progress::Watch;
 use pram_check::Program;
 use pram_meaning::MeaningRefusal;
 use std::alloc::Global;
@@ -24,16 +25,17 @@ pub struct Excerpt {
 }
 
 /// Runs a program on an input, for at most `bound` statements, as [`steps_of`](crate::steps_of) does, and keeps the entries alone whose
-/// numbers, counted from 1, go from `first` to `last`: beside the run it takes the memory of these, and of one statement. E11 where there
-/// are more values than cells; E16 only where memory was refused.
+/// numbers, counted from 1, go from `first` to `last`: beside the run it takes the memory of these, and of one statement. The watch is told how
+/// far the run is. E11 where there are more values than cells; E16 only where memory was refused.
 #[tactic(auto, using(crate::proofs::KeptBetween::all_between, crate::proofs::KeptBetween::all_counted))]
-pub fn steps_between(
+pub fn steps_between<V: Watch>(
     alloc: Global,
     program: &Program,
     input: &[i64],
     bound: u32,
     first: usize,
     last: usize,
+    watch: &mut V,
 ) -> Result<(Outcome, Excerpt), MeaningRefusal>
     ensures outcome { IfOk result (λ r. IsOutcome program.now input.now bound (verdict_of r.0)) }
     ensures fits { OnOk result (length input.now ≤ total_size program.now.layout) }
@@ -47,7 +49,7 @@ pub fn steps_between(
         count: 0,
         entries: Vec::new(alloc),
     };
-    let (window, done) = tell_run(alloc, program, input, bound, window);
+    let (window, done) = tell_run(alloc, program, input, bound, window, watch);
     match done {
         Ok(outcome) => {
             let (entries, whole) = (window.entries, window.count);

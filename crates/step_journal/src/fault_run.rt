@@ -7,26 +7,29 @@ ghost use Rattle.step_entries.specs.Entries.{entry_is};
 ghost use Rattle.step_journal.specs.LastFault.{run_fault};
 
 use crate::last_fault::LastFault;
+use call_progress::Watch;
 use pram_check::Program;
 use pram_meaning::interpreter::Interpreter;
 use pram_meaning::run::Halt;
 use pram_meaning::{MeaningRefusal, open};
+use run_watching::run_watched;
 use std::alloc::{AllocError, Global};
 use step_entries::Entry;
 
 // The fault of a run on an input that fits.
 #[tactic(auto, using(crate::proofs::FaultEntries::last_heard))]
-fn hear_fault(
+fn hear_fault<V: Watch>(
     alloc: Global,
     program: &Program,
     input: &[i64],
     bound: u32,
+    watch: &mut V,
 ) -> Result<Option<Entry>, AllocError>
     requires { length input.now ≤ total_size program.now.layout }
     ensures { IfOk result (λ r. option_map entry_is r ≡ run_fault program.now input.now bound) }
 {
     let mut run = open(alloc, program, input)?;
-    let mut last = LastFault {
+    let last = LastFault {
         alloc,
         program,
         entry: None,
@@ -36,7 +39,7 @@ fn hear_fault(
         program,
         bound,
     };
-    let done = interpreter.run_body(&mut run, &mut last);
+    let (last, done) = run_watched(&interpreter, &mut run, last, watch);
     let entry = last.entry;
     match done {
         Ok(()) => Ok(entry),
@@ -48,12 +51,13 @@ fn hear_fault(
 
 /// The entry of the fault with which a program's run on an input ends within `bound` statements, as [`steps_of`](crate::steps_of) tells
 /// it, and none where the run ends or goes on. Of what runs before nothing is kept, so it takes the memory of the run and of one
-/// statement. E11 where there are more values than cells; E16 only where memory was refused.
-pub fn fault_of(
+/// statement. The watch is told how far the run is. E11 where there are more values than cells; E16 only where memory was refused.
+pub fn fault_of<V: Watch>(
     alloc: Global,
     program: &Program,
     input: &[i64],
     bound: u32,
+    watch: &mut V,
 ) -> Result<Option<Entry>, MeaningRefusal>
     ensures fault { IfOk result (λ r. option_map entry_is r ≡ run_fault program.now input.now bound) }
     ensures too_long { (result ≡ Err MeaningRefusal.InputTooLong) ↔ (total_size program.now.layout < length input.now) }
@@ -61,7 +65,7 @@ pub fn fault_of(
     if input.len() > program.layout().cells() as usize {
         return Err(MeaningRefusal::InputTooLong);
     }
-    match hear_fault(alloc, program, input, bound) {
+    match hear_fault(alloc, program, input, bound, watch) {
         Ok(entry) => Ok(entry),
         Err(AllocError) => Err(MeaningRefusal::OutOfMemory),
     }

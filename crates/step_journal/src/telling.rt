@@ -9,22 +9,25 @@ ghost use Rattle.step_journal.specs.Telling.{HasToldPart};
 
 use crate::journal::Journal;
 use crate::teller::Teller;
+use call_progress::Watch;
 use pram_check::Program;
 use pram_meaning::interpreter::Interpreter;
 use pram_meaning::run::Halt;
 use pram_meaning::slate::Slate;
 use pram_meaning::{MeaningRefusal, open};
+use run_watching::run_watched;
 use std::alloc::{AllocError, Global};
 use write_rules::Outcome;
 
 // That of a run on an input that fits. The only error is that it was cut off.
 #[tactic(auto, using(pram_meaning::proofs::References::ended, pram_meaning::proofs::References::stopped, pram_meaning::proofs::References::reached))]
-fn tell_fitting<T: Teller + Drop>(
+fn tell_fitting<T: Teller + Drop, V: Watch>(
     alloc: Global,
     program: &Program,
     input: &[i64],
     bound: u32,
     teller: T,
+    watch: &mut V,
 ) -> (T, Result<Outcome, AllocError>)
     requires { length input.now ≤ total_size program.now.layout }
     ensures outcome { IfOk result.1 (λ o. IsOutcome program.now input.now bound (verdict_of o)) }
@@ -37,7 +40,7 @@ fn tell_fitting<T: Teller + Drop>(
     let Ok(slate) = Slate::new(alloc, program.layout().cells()) else {
         return (teller, Err(AllocError));
     };
-    let mut journal = Journal {
+    let journal = Journal {
         alloc,
         program,
         slate,
@@ -48,7 +51,7 @@ fn tell_fitting<T: Teller + Drop>(
         program,
         bound,
     };
-    let done = interpreter.run_body(&mut run, &mut journal);
+    let (journal, done) = run_watched(&interpreter, &mut run, journal, watch);
     let teller = journal.teller;
     match done {
         Ok(()) => {
@@ -68,14 +71,15 @@ fn tell_fitting<T: Teller + Drop>(
 }
 
 /// Runs a program on an input, for at most `bound` statements, as [`pram_meaning::reference_run`] does, and tells each statement to the
-/// teller as the run goes; entry k, counted from 1, is the k-th statement that ran. The teller comes back with what the run came to. E11
-/// where there are more values than cells, and then nothing is told; E16 where memory was refused or the teller broke off.
-pub fn tell_run<T: Teller + Drop>(
+/// teller as the run goes; entry k, counted from 1, is the k-th statement that ran. The watch is told how far the run is, and the teller comes
+/// back with what it came to. E11 where there are more values than cells, and then nothing is told; E16 where memory was refused or the teller broke off.
+pub fn tell_run<T: Teller + Drop, V: Watch>(
     alloc: Global,
     program: &Program,
     input: &[i64],
     bound: u32,
     teller: T,
+    watch: &mut V,
 ) -> (T, Result<Outcome, MeaningRefusal>)
     ensures outcome { IfOk result.1 (λ o. IsOutcome program.now input.now bound (verdict_of o)) }
     ensures fits { OnOk result.1 (length input.now ≤ total_size program.now.layout) }
@@ -88,7 +92,7 @@ pub fn tell_run<T: Teller + Drop>(
     if input.len() > program.layout().cells() as usize {
         return (teller, Err(MeaningRefusal::InputTooLong));
     }
-    let (teller, done) = tell_fitting(alloc, program, input, bound, teller);
+    let (teller, done) = tell_fitting(alloc, program, input, bound, teller, watch);
     match done {
         Ok(outcome) => (teller, Ok(outcome)),
         Err(AllocError) => (teller, Err(MeaningRefusal::OutOfMemory)),

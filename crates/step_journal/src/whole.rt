@@ -11,6 +11,7 @@ ghost use Rattle.work_time.specs.Steps.{run_steps};
 
 use crate::kept::Kept;
 use crate::telling::tell_run;
+use call_progress::Nobody;
 use pram_check::Program;
 use pram_meaning::MeaningRefusal;
 use std::alloc::Global;
@@ -46,7 +47,7 @@ pub fn steps_of(
     let kept = Kept {
         entries: Vec::new(alloc),
     };
-    let (kept, done) = tell_run(alloc, program, input, bound, kept);
+    let (kept, done) = tell_run(alloc, program, input, bound, kept, &mut Nobody);
     match done {
         Ok(outcome) => Ok((outcome, kept.entries)),
         Err(refusal) => Err(refusal),

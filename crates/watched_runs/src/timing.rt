@@ -4,7 +4,7 @@ ghost use Rattle.std.specs.Prelude.{◌≤◌};
 
 use crate::looker::Looker;
 use crate::timed_teller::TimedTeller;
-use call_progress::Watch;
+use call_progress::{Nobody, Watch};
 use pram_check::Program;
 use pram_meaning::interpreter::Interpreter;
 use pram_meaning::open;
@@ -66,7 +66,7 @@ pub fn steps_bound_in_time<V: Watch>(
         count: 0,
         is_over: false,
     };
-    let (teller, _) = tell_run(alloc, program, input, bound, teller);
+    let (teller, _) = tell_run(alloc, program, input, bound, teller, &mut Nobody);
     if teller.is_over {
         teller.count.min(bound)
     } else {

@@ -8,7 +8,7 @@ use Rattle.endless_runs.proofs.Never.{endless_by, never_ends}
 use Rattle.endless_runs.proofs.endless.find_cycle.Goals as goal
 
 pub returns-in-Err-Cycle : goal.returns-in-Err-Cycle
-returns-in-Err-Cycle c cycle is =
+returns-in-Err-Cycle g c cycle is =
     let p = c.args.program.now in
     let e = c.in-Ok.ensures in
     let why = c.in-Err-Cycle in

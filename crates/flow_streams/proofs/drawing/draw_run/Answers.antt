@@ -5,7 +5,7 @@ use Rattle.flow_streams.proofs.Ended.{ended}
 use Rattle.flow_streams.proofs.drawing.draw_run.Goals as goal
 
 pub returns-in_ok-drawing-in-Ok-clause-drawn : goal.returns-in_ok-drawing-in-Ok-clause-drawn
-returns-in_ok-drawing-in-Ok-clause-drawn c =
+returns-in_ok-drawing-in-Ok-clause-drawn g c =
     let program = c.args.program.now in
     let input = c.args.input.now in
     let asides = asides_in program.body in

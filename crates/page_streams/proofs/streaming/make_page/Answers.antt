@@ -6,7 +6,7 @@ use Rattle.page_streams.proofs.Whole.{between_so}
 use Rattle.page_streams.proofs.streaming.make_page.Goals as goal
 
 pub returns-clause-page : goal.returns-clause-page
-returns-clause-page c =
+returns-clause-page g c =
     let input = c.args.input.now in
     let es = run_entries c.args.program.now input c.args.bound in
     let gathered = c.in_ok-outcome.ensures.gathered in

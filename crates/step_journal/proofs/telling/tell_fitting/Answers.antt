@@ -1,4 +1,7 @@
-use Rattle.pram_meaning.specs.Runs.{state_of}
+use Rattle.std.proofs.Common.{Result, subst}
+use Rattle.pram_meaning.specs.Bounded.{perform_list}
+use Rattle.pram_meaning.specs.Runs.{IsBehaviour, state_of}
+use Rattle.pram_meaning.specs.declared.run.Halt.{Halt}
 use Rattle.pram_meaning.proofs.References.{ended}
 use Rattle.step_journal.specs.declared.journal.Journal.{Journal}
 use Rattle.step_journal.specs.Entries.{run_entries}
@@ -18,8 +21,11 @@ returns-in_default-new-clause-part g c =
 pub returns-in-Ok-done-clause-outcome : goal.returns-in-Ok-done-clause-outcome
 returns-in-Ok-done-clause-outcome g c =
     let e = c.in-Ok.ensures in
-    ended c.args.program.now c.args.input.now c.args.bound c.in-Ok.run' (state_of c.run_body-done.new.run) e.count e.output e.uniforms
-    e.cells c.in-Ok-done.ensures.value
+    let p = c.args.program.now in
+    let value = subst (λ (r : Result (Unit {0}) Halt). IsBehaviour r (state_of c.run_watched-journal.new.run)
+    (perform_list p c.args.bound p.body (state_of c.in-Ok.run'))) c.in-Ok-done.is c.run_watched-journal.ensures.value in
+    ended c.args.program.now c.args.input.now c.args.bound c.in-Ok.run' (state_of c.run_watched-journal.new.run) e.count e.output e.uniforms
+    e.cells value
 
 -- memory was refused within the run
 pub returns-in-Err-OutOfMemory-clause-part : goal.returns-in-Err-OutOfMemory-clause-part
@@ -27,6 +33,6 @@ returns-in-Err-OutOfMemory-clause-part g c =
     let e = c.in-Ok.ensures in
     let refused = rw c.in-Err-OutOfMemory.is at c.in-Err-OutOfMemory.field-0-is in
     part_told g.T.Teller.tells g.T.Teller.breaks_off g.met.T.Teller.tells_on (λ (j : Journal g.row.T.Denot). j.program.now)
-    (λ (j : Journal g.row.T.Denot). j.teller) c.run_body-done.result c.in-Err-OutOfMemory.field-0 c.args.input.now
-    c.args.bound c.in-Ok.run' _ c.run_body-done.new.listener c.in-Err-OutOfMemory.is refused e.count e.output
-    e.uniforms e.cells c.run_body-done.ensures.heard
+    (λ (j : Journal g.row.T.Denot). j.teller) c.run_watched-journal.result.1 c.in-Err-OutOfMemory.field-0 c.args.input.now
+    c.args.bound c.in-Ok.run' _ c.run_watched-journal.result.0 c.in-Err-OutOfMemory.is refused e.count e.output
+    e.uniforms e.cells c.run_watched-journal.ensures.heard

@@ -8,20 +8,20 @@ use Rattle.endless_runs.proofs.search.Search.+search.Goals as goal
 
 pub search_statement-returns-in-While-clause-known :
     goal.search_statement-returns-in-While-clause-known
-search_statement-returns-in-While-clause-known t c =
+search_statement-returns-in-While-clause-known g t c =
     while_known c.args.self.now.interpreter.program.now c.in-While.location c.args.s.now c.in-While.test c.in-While.body
     (state_of c.args.run.now) (state_of c.search_while.new.run) c.search_while.result c.in-While.is c.search_while.ensures.known
 
 pub search_while-returns-then-not-holds-clause-known :
     goal.search_while-returns-then-not-holds-clause-known
-search_while-returns-then-not-holds-clause-known t c =
+search_while-returns-then-not-holds-clause-known g t c =
     loop_ends c.args.self.now.interpreter.program.now c.args.location.line c.args.test.now c.args.body.now.items
     (state_of c.args.run.now) (state_of c.turns.run) (state_of c.test.new.run) c.turns.keeper.kept c.turns.invariant.0
     (subst (λ (z : Bool). Tested c.args.self.now.interpreter.program.now c.args.location.line c.args.test.now (state_of c.turns.run)
     (Ends z (state_of c.test.new.run))) c.if-not-holds.true c.in-Ok.ensures.tested)
 
 pub search_while-turns-preserved : goal.search_while-turns-preserved
-search_while-turns-preserved t c =
+search_while-turns-preserved g t c =
     let a = c.turns.invariant.1 in
     let b = c.in-Ok.ensures.more in
     let d = c.in_default-search_block.ensures.grows in (
@@ -36,20 +36,20 @@ search_while-turns-preserved t c =
     )
 
 pub search_for-returns-clause-known : goal.search_for-returns-clause-known
-search_for-returns-clause-known t c =
+search_for-returns-clause-known g t c =
     bounds_known c.args.self.now.interpreter.program.now c.args.location.line c.args.variable c.args.low.now c.args.high.now
     c.args.body.now.items (state_of c.args.run.now) (state_of c.bounds.new.run) (state_of c.search_turns.new.run) c.in-Ok.numbers.next
     c.in-Ok.numbers.last c.search_turns.result c.in-Ok.ensures.bounds c.search_turns.ensures.known
 
 pub search_statement-returns-in-For-clause-known :
     goal.search_statement-returns-in-For-clause-known
-search_statement-returns-in-For-clause-known t c =
+search_statement-returns-in-For-clause-known g t c =
     let p = c.in-For in
     for_known c.args.self.now.interpreter.program.now p.location c.args.s.now p.variable p.low p.high p.body (state_of c.args.run.now)
     (state_of c.search_for.new.run) c.search_for.result p.is c.search_for.ensures.known
 
 pub search_turns-returns-in-Err-clause-known : goal.search_turns-returns-in-Err-clause-known
-search_turns-returns-in-Err-clause-known t c =
+search_turns-returns-in-Err-clause-known g t c =
     let set = c.in-Ok.ensures.set in
     for_stops c.args.self.now.interpreter.program.now c.args.variable c.args.body.now.items c.args.numbers.now.next c.args.numbers.now.last
     c.turns.left.next c.turns.left.last (state_of c.args.run.now) (state_of c.turns.run) set.0 (state_of c.set_next.new.run)
@@ -57,7 +57,7 @@ search_turns-returns-in-Err-clause-known t c =
 
 pub search_turns-returns-then-is_at_end-clause-known :
     goal.search_turns-returns-then-is_at_end-clause-known
-search_turns-returns-then-is_at_end-clause-known t c =
+search_turns-returns-then-is_at_end-clause-known g t c =
     let set = c.in-Ok.ensures.set in
     for_ends c.args.self.now.interpreter.program.now c.args.variable c.args.body.now.items c.args.numbers.now.next c.args.numbers.now.last
     c.turns.left.next c.turns.left.last (state_of c.args.run.now) (state_of c.turns.run) set.0 (state_of c.set_next.new.run)
@@ -65,7 +65,7 @@ search_turns-returns-then-is_at_end-clause-known t c =
     (c.is_at_end.ensures.last c.if-is_at_end.true)
 
 pub search_turns-turns-preserved : goal.search_turns-turns-preserved
-search_turns-turns-preserved t c =
+search_turns-turns-preserved g t c =
     let set = c.in-Ok.ensures.set in
     let a = c.turns.invariant.1 in
     let b = c.in-Ok.ensures.more in
