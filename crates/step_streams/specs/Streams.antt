@@ -3,12 +3,12 @@ use Rattle.std.specs.Prelude.{◌≡◌, ◌+◌, ℕ, List, ◌++◌}
 use Rattle.text_out.specs.Printing.{Printing, Prints}
 use Rattle.step_entries.specs.Entries.{Entry}
 use Rattle.step_texts.specs.Passing.{passed}
-use Rattle.step_texts.specs.StepText.{entry_line, line_within, lines_from}
+use Rattle.step_texts.specs.StepText.{line_within, lines_from, told_line}
 use Rattle.step_streams.specs.declared.asked.Asked.{Asked}
 
 -- the line of the entry behind so many that were counted
 abbrev pub line_of : Asked → (count : ℕ) → Entry → List ℕ
-line_of a count e = entry_line a.layout.now a.telling.now.manner a.telling.now.detail (count + 1) e
+line_of a count e = told_line a.layout.now a.telling.now (count + 1) e
 
 -- that, where it is asked for
 abbrev pub line_behind : Asked → (count : ℕ) → Entry → List ℕ

@@ -1,16 +1,19 @@
 //! Who writes the entries of a run as they come.
 
 ghost use Rattle.std.proofs.Common.{◌∙◌};
-ghost use Rattle.std.specs.Prelude.{◌≡◌, ◌<◌, ◌^◌, ◌-◌, refl, true};
+ghost use Rattle.std.specs.Prelude.{◌≡◌, ◌<◌, ◌+◌, ◌^◌, ◌-◌, refl, true};
+ghost use Rattle.std.specs.Option.{option_map};
 ghost use Rattle.text_out.specs.Printing.{MayFail, Prints, printing};
 ghost use Rattle.step_entries.specs.Entries.{entry_is};
 ghost use Rattle.step_texts.specs.Passing.{is_told, one_more};
+ghost use Rattle.step_texts.specs.StepText.{line_of_left};
 ghost use Rattle.step_streams.specs.StreamLaws.{streams_nothing, streams_on};
 ghost use Rattle.step_streams.specs.Streams.{Streams, line_behind, line_of};
 
 use crate::asked::Asked;
 use std::alloc::AllocError;
 use step_entries::Entry;
+use step_focus::focused;
 use step_journal::Teller;
 use step_texts::write_line;
 use text_out::Out;
@@ -48,21 +51,37 @@ impl<'a, W: Out> Stream<'a, W> {
         }
     }
 
-    // The line of the next entry.
-    fn write(&mut self, entry: &Entry)
+    // The line of what is left of the next entry.
+    fn write_left(&mut self, left: &Option<Entry>)
         requires few { self.old.count < 2 ^ 64 - 1 }
         ensures asked { self.new.asked ≡ self.old.asked }
         ensures same_out { self.new.out.ghost_name ≡ self.old.out.ghost_name }
         ensures count { self.new.count ≡ self.old.count }
         ensures prints { Prints (printing (W.Out.state self.old.out.now) self.old.failed)
             (printing (W.Out.state self.new.out.now) self.new.failed)
-            (line_of self.old.asked self.old.count (entry_is entry.now)) }
+            (line_of_left self.old.asked.layout.now self.old.asked.telling.now (self.old.count + 1) (option_map entry_is left.now)) }
     {
-        if !self.failed {
-            let (asked, number) = (self.asked, self.count + 1);
-            let told = write_line(self.out, asked.layout, asked.telling, number, entry);
-            self.failed = told.is_err();
+        if let Some(entry) = left {
+            if !self.failed {
+                let (asked, number) = (self.asked, self.count + 1);
+                let told = write_line(self.out, asked.layout, asked.telling, number, entry);
+                self.failed = told.is_err();
+            }
         }
+    }
+
+    // That of the next entry.
+    fn write(&mut self, entry: Entry)
+        requires few { self.old.count < 2 ^ 64 - 1 }
+        ensures asked { self.new.asked ≡ self.old.asked }
+        ensures same_out { self.new.out.ghost_name ≡ self.old.out.ghost_name }
+        ensures count { self.new.count ≡ self.old.count }
+        ensures prints { Prints (printing (W.Out.state self.old.out.now) self.old.failed)
+            (printing (W.Out.state self.new.out.now) self.new.failed)
+            (line_of self.old.asked self.old.count (entry_is entry)) }
+    {
+        let left = focused(&self.asked.telling.focus, entry);
+        self.write_left(&left);
     }
 }
 
@@ -88,7 +107,7 @@ impl<'a, W: Out> Teller for Stream<'a, W> {
             self.count_on();
             return Ok(());
         }
-        self.write(&entry);
+        self.write(entry);
         if self.failed {
             return Err(AllocError);
         }

@@ -13,6 +13,7 @@ ghost use Rattle.step_streams.specs.Streams.{PrintsFirst, Streams};
 use crate::asked::Asked;
 use crate::failure::StreamFailure;
 use crate::stream::Stream;
+use call_progress::Watch;
 use pram_check::Program;
 use pram_meaning::MeaningRefusal;
 use std::alloc::Global;
@@ -22,12 +23,13 @@ use text_out::Out;
 use write_rules::Outcome;
 
 // The run, told to a stream, which comes back; what it comes to goes into `done`.
-fn run_into<'a, W: Out>(
+fn run_into<'a, W: Out, V: Watch>(
     alloc: Global,
     program: &Program,
     input: &[i64],
     bound: u32,
     stream: Stream<'a, W>,
+    watch: &mut V,
     done: &mut Result<Outcome, MeaningRefusal>,
 ) -> Stream<'a, W>
     ensures same_out { result.out.ghost_name ≡ stream.entry.out.ghost_name }
@@ -43,18 +45,19 @@ fn run_into<'a, W: Out>(
     ensures untold { done.new ≡ Err MeaningRefusal.InputTooLong → Streams stream.entry.asked stream.entry.count result.count
         (printing (W.Out.state stream.entry.out.now) stream.entry.failed) (printing (W.Out.state result.out.now) result.failed) [] }
 {
-    let (stream, outcome) = tell_run(alloc, program, input, bound, stream);
+    let (stream, outcome) = tell_run(alloc, program, input, bound, stream, watch);
     *done = outcome;
     stream
 }
 
 /// Runs a program on an input, for at most `bound` statements, and writes each entry whose number, counted from 1, goes from `first` to
-/// `last` as soon as its statement has run, on a line, as [`step_texts::write_steps`] does for entries that are kept. No entry is kept:
-/// beside the run it takes the memory of one statement. Behind `last` no more entries are made, and the run goes on to its outcome.
+/// `last` as soon as its statement has run, on a line, as the telling says; no line of an entry of which nothing is looked at. No entry is
+/// kept: beside the run it takes the memory of one statement. Behind `last` no more entries are made, and the run goes on to its outcome.
+/// The watch is told how far it is.
 ///
 /// E11 where there are more values than cells, and then nothing is written; E17 where the writer failed, which ends the run; E16 only where
 /// memory was refused, behind the lines of the statements before.
-pub fn stream_steps<W: Out>(
+pub fn stream_steps<W: Out, V: Watch>(
     alloc: Global,
     program: &Program,
     input: &[i64],
@@ -62,6 +65,7 @@ pub fn stream_steps<W: Out>(
     telling: &Telling<'_>,
     first: usize,
     last: usize,
+    watch: &mut V,
     out: &mut W,
 ) -> Result<Outcome, StreamFailure>
     requires counted { (W.Out.state out.old).failures < 2 ^ 63 }
@@ -84,7 +88,7 @@ pub fn stream_steps<W: Out>(
         failed: false,
     };
     let mut done = Err(MeaningRefusal::OutOfMemory);
-    let stream = run_into(alloc, program, input, bound, stream, &mut done);
+    let stream = run_into(alloc, program, input, bound, stream, watch, &mut done);
     let Stream { failed, .. } = stream;
     match done {
         Ok(outcome) => Ok(outcome),

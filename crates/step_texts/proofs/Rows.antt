@@ -5,7 +5,7 @@ use Rattle.std.proofs.lemmas.Bool.{le-leb, le-ltb, lt-leb, ltb-false, ltb-true}
 use Rattle.pram_model.specs.Layout.{SharedEntry}
 use Rattle.step_entries.specs.Entries.{Entry}
 use Rattle.step_texts.specs.declared.telling.Telling.{Telling}
-use Rattle.step_texts.specs.StepText.{entry_line, line_within, lines_from}
+use Rattle.step_texts.specs.StepText.{line_within, lines_from, told_line}
 use Rattle.step_texts.specs.Passing.{is_told, one_more, passed}
 
 -- ---- one entry
@@ -23,9 +23,9 @@ swapped false false = refl
 -- the line of an entry behind c others
 pub line_is : (layout : List SharedEntry) (telling : Telling) (first last c : ℕ) (e : Entry) →
     line_within layout telling first last (c + 1) e
-    ≡ (if is_told first last c then entry_line layout telling.manner telling.detail (c + 1) e else [])
+    ≡ (if is_told first last c then told_line layout telling (c + 1) e else [])
 line_is layout telling first last c e =
-    let line : Bool → List ℕ = λ b. if b then entry_line layout telling.manner telling.detail (c + 1) e else [] in
+    let line : Bool → List ℕ = λ b. if b then told_line layout telling (c + 1) e else [] in
     ap line (swapped (nat_le first (c + 1)) (nat_le (c + 1) last)
     ∙ ap (λ b. b && nat_le first (c + 1)) (sym (within_is last c (nat_lt c last) refl)))
 
@@ -42,7 +42,7 @@ nothing_past : (layout : List SharedEntry) (telling : Telling) (first last c : �
     line_within layout telling first last (c + 1) e ≡ []
 nothing_past layout telling first last c e l =
     line_is layout telling first last c e
-    ∙ ap (λ b. if b && nat_le first (c + 1) then entry_line layout telling.manner telling.detail (c + 1) e else []) (le-ltb c last l)
+    ∙ ap (λ b. if b && nat_le first (c + 1) then told_line layout telling (c + 1) e else []) (le-ltb c last l)
 
 no_lines_past : (layout : List SharedEntry) (telling : Telling) (first last c : ℕ) (es : List Entry) → last ≤ c →
     lines_from layout telling first last (c + 1) es ≡ []

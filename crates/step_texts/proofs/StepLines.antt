@@ -1,19 +1,13 @@
 -- The text of entries, one by one.
 use Rattle.std.proofs.Common.{◌≡◌, ◌∙◌, ◌<◌, ◌+◌, ◌++◌, ◌∷◌, [], List, ℕ, ℤ, Option, Some, ap, arith, codes, drop, get_or}
-use Rattle.std.proofs.Common.{length, map, refl, sym}
+use Rattle.std.proofs.Common.{length, refl, sym}
 use Rattle.std.proofs.lemmas.List.{drop_more}
 use Rattle.pram_model.specs.Layout.{SharedEntry}
 use Rattle.step_entries.specs.declared.change.Change.{Change}
-use Rattle.step_entries.specs.declared.entry as rust
 use Rattle.step_entries.specs.declared.local_change.LocalChange.{LocalChange}
 use Rattle.pram_trees.specs.Program.{ProgramTree}
 use Rattle.step_texts.specs.BesideCells.{each_local_text, local_text, printed_text, variable_text, variables_text}
-use Rattle.step_entries.specs.Entries.{entry_is}
-use Rattle.text_out.specs.Out.{OutState, with_bytes}
-use Rattle.text_out.proofs.Progress.{Progress, goes_on}
 use Rattle.program_texts.specs.Shown.{spaced}
-use Rattle.step_texts.specs.declared.telling.Telling.{Telling}
-use Rattle.step_texts.specs.StepText.{line_within, lines_from}
 use Rattle.step_texts.specs.ChangeTexts.{change_text, changes_text, meeting_text}
 
 -- the change at i, and those behind it
@@ -42,35 +36,6 @@ locals_from tree at before ds i d below is =
 pub some_printed : (vs : List ℤ) → 0 < length vs → printed_text vs ≡ codes " prints" ++ spaced vs
 some_printed [] h = absurd (omega (arith, h))
 some_printed (v ∷ vs) h = refl
-
--- the entry at i, and those behind it
-pub lines_at : (layout : List SharedEntry) (telling : Telling) (first last : ℕ) (es : List rust.Entry.Entry) (i before : ℕ)
-    (e : rust.Entry.Entry) → i < length es → e ≡ get_or es i e → lines_from layout telling first last (before + 1) (map entry_is
-    (drop i es)) ≡
-    line_within layout telling first last (before + 1) (entry_is e) ++ lines_from layout telling first last ((before + 1) + 1)
-    (map entry_is (drop (i + 1) es))
-lines_at layout telling first last es i before e below is =
-    ap (λ es. lines_from layout telling first last (before + 1) (map entry_is es)) (drop_more es i e below)
-    ∙ ap (λ e. line_within layout telling first last (before + 1) (entry_is e)
-    ++ lines_from layout telling first last ((before + 1) + 1) (map entry_is (drop (i + 1) es))) (sym is)
-
--- lines on their way: what was written, and how many entries are behind
-pub record InLines (old new : OutState) (all : List ℕ) (layout : List SharedEntry) (telling : Telling) (first last : ℕ)
-    (es : List rust.Entry.Entry) (i before : ℕ) :
-    Type 0 where
-  pub progress : Progress old new all (lines_from layout telling first last (before + 1) (map entry_is (drop i es)))
-  pub counted : before ≡ i
-
-pub line_written : (old now new : OutState) (all : List ℕ) (layout : List SharedEntry) (telling : Telling) (first last : ℕ)
-    (es : List rust.Entry.Entry)
-    (i before : ℕ) (e : rust.Entry.Entry) → InLines old now all layout telling first last es i before → i < length es → e ≡ get_or es i e →
-    new ≡ with_bytes now (line_within layout telling first last (before + 1) (entry_is e)) →
-    InLines old new all layout telling first last es (i + 1) (before + 1)
-line_written old now new all layout telling first last es i before e l below is w =
-    record {
-      progress = goes_on _ _ _ _ _ _ _ l.progress (lines_at layout telling first last es i before e below is) w;
-      counted = let c : before ≡ i = l.counted in omega (arith, c);
-    }
 
 -- where some met
 pub some_met : (who : List ℤ) → 0 < length who → meeting_text who ≡ codes " processors" ++ spaced who

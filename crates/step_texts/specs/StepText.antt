@@ -1,8 +1,9 @@
 -- How the entries of a run are written, each on a line.
-use Rattle.std.specs.Prelude.{ℕ, ◌+◌, nat_le, ◌&&◌, if◌then◌else◌, List, [], ◌∷◌, ◌++◌}
+use Rattle.std.specs.Prelude.{ℕ, ◌+◌, nat_le, ◌&&◌, if◌then◌else◌, List, [], ◌∷◌, ◌++◌, Option, Some, None}
 use Rattle.pram_model.specs.Layout.{SharedEntry}
 use Rattle.program_texts.specs.Shown.{line}
 use Rattle.step_entries.specs.Entries.{Entry}
+use Rattle.step_focus.specs.Focus.{focused}
 use Rattle.step_texts.specs.declared.manner.Manner.{Manner}
 use Rattle.step_texts.specs.declared.manner.Manner.TheVariants.{OnTerminal, Plain}
 use Rattle.step_texts.specs.declared.telling.Detail.{Detail}
@@ -15,10 +16,19 @@ abbrev pub entry_line : List SharedEntry → Manner → Detail → ℕ → Entry
 entry_line layout Plain detail number e = line (entry_text layout detail number e)
 entry_line layout (OnTerminal text colours) detail number e = terminal.entry_line layout text.now colours detail number e
 
+-- that of what is left of an entry, and none where nothing is
+abbrev pub line_of_left : List SharedEntry → Telling → ℕ → Option Entry → List ℕ
+line_of_left layout telling number None = []
+line_of_left layout telling number (Some e) = entry_line layout telling.manner telling.detail number e
+
+-- that of an entry, of which so much is looked at
+abbrev pub told_line : List SharedEntry → Telling → ℕ → Entry → List ℕ
+told_line layout telling number e = line_of_left layout telling number (focused telling.focus e)
+
 -- that of an entry whose number is asked for
 abbrev pub line_within : List SharedEntry → Telling → (first last number : ℕ) → Entry → List ℕ
 line_within layout telling first last number e =
-    if nat_le first number && nat_le number last then entry_line layout telling.manner telling.detail number e else []
+    if nat_le first number && nat_le number last then told_line layout telling number e else []
 
 -- the lines of entries that are numbered from this on
 abbrev pub lines_from : List SharedEntry → Telling → (first last number : ℕ) → List Entry → List ℕ

@@ -12,5 +12,5 @@ mod terminal;
 mod values;
 
 pub use manner::Manner;
-pub use step_text::{write_entry, write_line, write_steps};
+pub use step_text::{write_entry, write_line};
 pub use telling::{Detail, Telling};

@@ -1,10 +1,10 @@
 //! The text of entries.
 
-ghost use Rattle.std.specs.Prelude.{◌<◌, ◌+◌, ◌-◌, ◌^◌, map};
+ghost use Rattle.std.specs.Prelude.{◌<◌, ◌^◌, map};
 ghost use Rattle.text_out.specs.Out.{Writes};
 ghost use Rattle.program_texts.specs.Shown.{line};
 ghost use Rattle.step_entries.specs.Entries.{entry_is, own_is};
-ghost use Rattle.step_texts.specs.StepText.{entry_line, line_within, steps_text};
+ghost use Rattle.step_texts.specs.StepText.{entry_line};
 ghost use Rattle.step_texts.specs.ChangeTexts as spec;
 
 use crate::beside_cells::write_beside_cells;
@@ -224,49 +224,4 @@ pub fn write_line<W: Out>(
             write_on_terminal(out, layout, text, *colours, detail, number, entry)
         }
     }
-}
-
-// The line of an entry behind so many others, if its number is asked for.
-fn write_within<W: Out>(
-    out: &mut W,
-    layout: &Layout,
-    telling: &Telling<'_>,
-    first: usize,
-    last: usize,
-    before: usize,
-    entry: &Entry,
-) -> Result<(), WriteFault>
-    requires counted { (W.Out.state out.old).failures < 2 ^ 63 }
-    requires few { before < 2 ^ 64 - 1 }
-    ensures written { Writes (W.Out.state out.old) (W.Out.state out.new)
-        (line_within layout.now telling.now first last (before + 1) (entry_is entry.now)) result }
-{
-    let number = before + 1;
-    if first <= number && number <= last {
-        write_line(out, layout, telling, number, entry)
-    } else {
-        out.write_all(b"")
-    }
-}
-
-/// Writes the entries whose numbers, counted from 1, go from `first` to `last`, each on a line. The
-/// error is that the writer failed (E17).
-pub fn write_steps<W: Out>(
-    out: &mut W,
-    layout: &Layout,
-    telling: &Telling<'_>,
-    entries: &[Entry],
-    first: usize,
-    last: usize,
-) -> Result<(), WriteFault>
-    requires counted { (W.Out.state out.old).failures < 2 ^ 63 }
-    ensures written { Writes (W.Out.state out.old) (W.Out.state out.new)
-        (steps_text layout.now telling.now first last (map entry_is entries.now)) result }
-{
-    let mut before = 0;
-    for entry in entries {
-        write_within(out, layout, telling, first, last, before, entry)?;
-        before += 1;
-    }
-    Ok(())
 }

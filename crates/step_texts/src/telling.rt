@@ -2,6 +2,7 @@
 
 use crate::manner::Manner;
 use pram_trees::Tree;
+use step_focus::Focus;
 
 /// What is told of a statement beside its line, its processors and the cells that it changed, or its fault.
 #[derive(Clone, Copy)]
@@ -13,9 +14,10 @@ pub struct Detail<'a> {
     pub columns: Option<&'a [u8]>,
 }
 
-/// How entries are written, and what is told of each.
+/// How entries are written, what is told of each, and what of each is looked at.
 #[derive(Clone, Copy)]
 pub struct Telling<'a> {
     pub manner: Manner<'a>,
     pub detail: Detail<'a>,
+    pub focus: Focus<'a>,
 }
