@@ -1,5 +1,5 @@
 -- What holds of the files that names stand for holds as long as they stand for the same.
-use Rattle.std.proofs.Common.{ℕ, ℤ, List, inl, inr}
+use Rattle.std.proofs.Common.{◌⊎◌, ℕ, ℤ, List, inl, inr}
 use Rattle.std.specs.Prelude.{Option, Some, None}
 use Rattle.pram_model.specs.Layout.{SharedEntry}
 use Rattle.pram_tokens.specs.Scanning.{longest}
@@ -24,7 +24,7 @@ use Rattle.command_facts.specs.declared.found.FoundRun.{FoundRun}
 use Rattle.command_facts.specs.declared.loaded.Loaded.{Loaded}
 use Rattle.command_facts.specs.Found.{IsLoaded, IsOpening, IsRunFound}
 use Rattle.command_facts.specs.Held.{IsAtFile, IsAtMemory, IsAtProgram, IsAtText, IsExpansionIn, IsNoFile, IsOfInput, StopsAtProgram}
-use Rattle.command_facts.specs.Refused.{IsProgramIn, RefusesRun, StopsAtOpening, StopsBefore}
+use Rattle.command_facts.specs.Refused.{IsForeignTo, IsProgramIn, RefusesRun, StopsAtOpening, StopsBefore}
 use Rattle.command_facts.specs.Sweeps.{ComesOut, IsProgramRefused, IsRow, RunsAs}
 
 -- ---- files
@@ -131,11 +131,17 @@ module _ (now before : List ℕ → Option (List ℕ) → Type 0) (same : IsSame
   stops_before layout words h (inl stops) = inl stops
   stops_before layout words h (inr stops) = inr (opening_stops layout words.opening h stops)
 
+  stops_behind : (program : Checked) (words : RunWords) (h : Halted) →
+      IsForeignTo program.tree words h.stop h.about ⊎ StopsBefore now program.layout words h →
+      IsForeignTo program.tree words h.stop h.about ⊎ StopsBefore before program.layout words h
+  stops_behind program words h (inl foreign) = inl foreign
+  stops_behind program words h (inr stops) = inr (stops_before program.layout words h stops)
+
   run_stops : (verb : Verb) (file : ProgramFile) (words : RunWords) (h : Halted) → RefusesRun now verb file words h →
       RefusesRun before verb file words h
   run_stops verb file words h (inl stops) = inl (program_stops file h stops)
   run_stops verb file words h (inr (inl stops)) =
-      inr (inl (stops.0, program_held file stops.0 stops.1, stops_before stops.0.layout words h stops.2))
+      inr (inl (stops.0, program_held file stops.0 stops.1, stops_behind stops.0 words h stops.2))
   run_stops verb file words h (inr (inr stops)) = inr (inr (record {
     program = stops.program;
     is = program_held file stops.program stops.is;

@@ -1,5 +1,6 @@
 -- What calls find of programs, of their runs and of listings.
 use Rattle.std.specs.Prelude.{◌≡◌, ◌≤◌, ℕ, ℤ, Bool, true, false, List, [], codes, length, Option, Some, None, ◌+◌, ◌/◌}
+use Rattle.pram_trees.specs.Program.{ProgramTree}
 use Rattle.pram_model.specs.Layout.{SharedEntry, total_size}
 use Rattle.pram_check.specs.Checked.{Checked}
 use Rattle.superstep_machine.specs.Trace.{Exchange}
@@ -24,6 +25,7 @@ use Rattle.step_entries.specs.Entries.{Entry}
 use Rattle.step_journal.specs.Entries.{run_entries}
 use Rattle.drawn_inputs.specs.Drawn.{drawn}
 use Rattle.memory_texts.specs.Chosen.{unknown_name}
+use Rattle.step_focus.specs.Focus.{undeclared_name}
 use Rattle.command_requests.specs.declared.opening.Opening.{Opening}
 use Rattle.command_requests.specs.declared.opening.Opening.TheVariants as opening
 use Rattle.command_requests.specs.declared.request.RunWords.{RunWords}
@@ -112,6 +114,10 @@ AreFactsOf _ program input words v _ = ⊥
 abbrev pub AreThere : List SharedEntry → RunWords → Type 0
 AreThere layout words = unknown_name layout words.shown ≡ None
 
+-- The program has the names of which alone is to be told.
+abbrev pub AreNamed : ProgramTree → RunWords → Type 0
+AreNamed tree words = undeclared_name tree words.steps.only ≡ None
+
 -- the outcome of the file's program on the call's input, within the bound of the run that is made, and what is found beside it
 pub record IsRunFound (holds : List ℕ → Option (List ℕ) → Type 0) (verb : Verb) (file : ProgramFile) (words : RunWords) (r : FoundRun)
     : Type 0 where
@@ -128,6 +134,7 @@ pub record IsStepsFound (holds : List ℕ → Option (List ℕ) → Type 0) (fil
   pub given : IsOpening holds s.loaded.program.layout words.opening s.input.items
   pub made : IsMade verb.Steps words s.words
   pub there : AreThere s.loaded.program.layout words
+  pub named : AreNamed s.loaded.program.tree words
   pub fits : length s.input.items ≤ total_size s.loaded.program.layout
 
 -- what is told of that run within the bound

@@ -1,5 +1,6 @@
 -- Why a call finds nothing.
 use Rattle.std.specs.Prelude.{◌≡◌, ◌⊎◌, ℕ, ℤ, List, length, Option, Some}
+use Rattle.pram_trees.specs.Program.{ProgramTree}
 use Rattle.pram_model.specs.Layout.{SharedEntry, total_size}
 use Rattle.pram_check.specs.Checked.{Checked}
 use Rattle.superstep_instructions.specs.Code.{SuperstepCode}
@@ -13,6 +14,7 @@ use Rattle.diagnoses.specs.declared.about.About.{About}
 use Rattle.diagnoses.specs.declared.about.About.TheVariants as about
 use Rattle.program_runs.specs.Reserved.{IsCodeRefusedWith, IsProgramRefusedWith}
 use Rattle.memory_texts.specs.Chosen.{unknown_name}
+use Rattle.step_focus.specs.Focus.{undeclared_name}
 use Rattle.command_requests.specs.declared.opening.Opening.{Opening}
 use Rattle.command_requests.specs.declared.opening.Opening.TheVariants as opening
 use Rattle.command_requests.specs.declared.request.RunWords.{RunWords}
@@ -94,13 +96,20 @@ abbrev pub IsUnknownIn : List SharedEntry → RunWords → Stop → About → Ty
 IsUnknownIn layout words (stop.Number word) a = (unknown_name layout words.shown ≡ Some word.now) × (a ≡ about.Nothing)
 IsUnknownIn layout words _ a = ⊥
 
+-- a name of which alone is to be told is none that the program has
+abbrev pub IsForeignTo : ProgramTree → RunWords → Stop → About → Type 0
+IsForeignTo tree words (stop.Number word) a = (undeclared_name tree words.steps.only ≡ Some word.now) × (a ≡ about.Nothing)
+IsForeignTo tree words _ a = ⊥
+
 -- the call stops at the names that are to be shown, or at what its cells hold
 abbrev pub StopsBefore : (List ℕ → Option (List ℕ) → Type 0) → List SharedEntry → RunWords → Halted → Type 0
 StopsBefore holds layout words h = IsUnknownIn layout words h.stop h.about ⊎ StopsAtOpening holds layout words.opening h
 
 -- it stops so behind the program's file, or behind the listing's
 abbrev pub StopsBehindProgram : (List ℕ → Option (List ℕ) → Type 0) → ProgramFile → RunWords → Halted → Type 0
-StopsBehindProgram holds file words h = (program : Checked) × IsProgramIn holds file program × StopsBefore holds program.layout words h
+StopsBehindProgram holds file words h =
+    (program : Checked) × IsProgramIn holds file program
+    × (IsForeignTo program.tree words h.stop h.about ⊎ StopsBefore holds program.layout words h)
 
 abbrev pub StopsBehindListing : (List ℕ → Option (List ℕ) → Type 0) → List ℕ → RunWords → Halted → Type 0
 StopsBehindListing holds file words h =

@@ -3,8 +3,8 @@
 ghost use Rattle.std.specs.Prelude.{◌≡◌, ◌⊎◌, IfOk, IfErr};
 ghost use Rattle.system_files.specs.Files.{IsSame};
 ghost use Rattle.command_facts.specs.Calls.{Finds, FindsOf, IsCodeOfFile, Refuses, RefusesOf};
-ghost use Rattle.command_facts.specs.Found.{AreThere, IsCodeFound, IsComparisonFound, IsLoaded, IsOpening, IsRunFound, IsStepsFound};
-ghost use Rattle.command_facts.specs.Refused.{IsUnknownIn, RefusesCodeRun, RefusesRun, StopsAtCode, StopsBehindProgram};
+ghost use Rattle.command_facts.specs.Found.{AreNamed, AreThere, IsCodeFound, IsComparisonFound, IsLoaded, IsOpening, IsRunFound, IsStepsFound};
+ghost use Rattle.command_facts.specs.Refused.{IsForeignTo, IsUnknownIn, RefusesCodeRun, RefusesRun, StopsAtCode, StopsBehindProgram};
 ghost use Rattle.command_facts.specs.Held.{StopsAtProgram};
 
 use crate::exploring::find_scope;
@@ -21,13 +21,14 @@ use bsp_verify::Verified;
 use call_progress::Watch;
 use command_requests::{ProgramFile, Request, RunWords, Verb};
 use memory_texts::unknown_name;
-use pram_trees::Layout;
+use pram_trees::{Layout, Tree};
 use program_runs::{compile_program, outcome_of_code};
 use program_texts::{Refusal, Stop};
 use rule_comparison::{Comparison, compare_rules};
 use std::alloc::Global;
 use std::sync::Wait;
 use std::thread::Threads;
+use step_focus::undeclared_name;
 use system_files::Sources;
 use workers::Gate;
 
@@ -42,6 +43,17 @@ fn check_names<'a>(layout: &Layout, words: RunWords<'a>) -> Result<(), Halted<'a
     }
 }
 
+// Stops at the first name of which alone is to be told and that the program doesn't have (P1).
+fn check_told<'a>(tree: &Tree, words: RunWords<'a>) -> Result<(), Halted<'a>>
+    ensures named { IfOk result (λ _. AreNamed tree.now words.entry) }
+    ensures foreign { IfErr result (λ h. IsForeignTo tree.now words.entry h.stop h.about) }
+{
+    match undeclared_name(tree, words.steps.only) {
+        None => Ok(()),
+        Some(name) => Err(Halted::from(Stop::Number(name))),
+    }
+}
+
 // The program of a file, and behind it what its first cells hold before the first statement.
 fn load_given<'a, S: Sources>(
     alloc: Global,
@@ -51,6 +63,7 @@ fn load_given<'a, S: Sources>(
 ) -> Result<(Loaded<'a>, Vec<i64>), Halted<'a>>
     ensures loaded { IfOk result (λ given. IsLoaded (S.Sources.holds sources.old file.now.name.now) file.now given.0) }
     ensures there { IfOk result (λ given. AreThere given.0.program.layout words.entry) }
+    ensures named { IfOk result (λ given. AreNamed given.0.program.tree words.entry) }
     ensures input { IfOk result (λ given. IsOpening (S.Sources.holds sources.old) given.0.program.layout words.entry.opening given.1.items) }
     ensures refused { IfErr result (λ h. StopsAtProgram (S.Sources.holds sources.old file.now.name.now) file.now h
         ⊎ StopsBehindProgram (S.Sources.holds sources.old) file.now words.entry h) }
@@ -58,6 +71,7 @@ fn load_given<'a, S: Sources>(
 {
     let loaded = load_program(alloc, sources, file)?;
     check_names(loaded.program.layout(), words)?;
+    check_told(loaded.program.tree(), words)?;
     let input = load_opening(alloc, sources, words.opening, loaded.program.layout())?;
     Ok((loaded, input))
 }
@@ -223,7 +237,7 @@ fn find_of<'a, R: Threads + Wait + Sync, S: Sources, V: Watch + Gate + Sync>(
 ///
 /// A refusal is judged in this order: of a program the words that give sizes (P1), its file and its text as it stands (P2, E2, E1), its
 /// sizes (E19, P1 for one that the text doesn't declare, E2), and what it comes to by them (E3 to E10); of a listing P2, E2, E15, E14; a name
-/// that is to be shown and isn't declared (P1); the input's file and its text (P2, E1 to E3), or a memory's, of which also a name that isn't
+/// that is to be shown or told and isn't declared (P1); the input's file and its text (P2, E1 to E3), or a memory's, of which also a name that isn't
 /// declared (E6) and too many values (E11) are told; the number of workers (E13), the map (E12), and the number of the input's values (E11); and with
 /// a reserve whether the run comes past it (E18). E16 comes where memory was refused. A run that is told statement by statement is judged
 /// so and not yet run: who tells it runs it.

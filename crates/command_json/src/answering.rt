@@ -5,11 +5,12 @@ ghost use Rattle.std.specs.String.{string_bytes};
 ghost use Rattle.pram_model.specs.Layout.{total_size};
 ghost use Rattle.command_facts.specs.Calls.{FitsIn, IsSettled};
 ghost use Rattle.command_json.specs.Left.{LeavesFound, LeavesJson};
+ghost use Rattle.command_json.specs.Stepped.{IsToldBy};
 
 use crate::reporting::{report, tell_found_in_time, tell_time};
 use crate::stepping::write_stepped;
 use crate::telling::write_found;
-use call_progress::Watch;
+use call_progress::{Nobody, Watch};
 use command_facts::{Found, FoundSteps, Halted, find};
 use command_requests::Request;
 use program_texts::{Status, Stop};
@@ -19,12 +20,35 @@ use std::thread::Threads;
 use system_files::Sources;
 use text_out::Out;
 use workers::Gate;
+use write_rules::Outcome;
 
-// A run of a program is told as it runs.
-fn tell_steps<O: Out, E: Out>(
+// A run of a program is told as it runs. The watch is told how far it is, but where its lines come on a terminal.
+fn write_watched<'a, V: Watch, O: Out>(
+    alloc: Global,
+    on_terminal: bool,
+    steps: &FoundSteps<'_>,
+    watch: &mut V,
+    out: &mut O,
+) -> Result<Outcome, Stop<'a>>
+    requires fits { length steps.now.input.items ≤ total_size steps.now.loaded.program.layout }
+    requires out { (O.Out.state out.old).failures < 2 ^ 62 }
+    ensures told { IsToldBy steps.now (O.Out.state out.old) (O.Out.state out.new) result }
+{
+    if on_terminal {
+        return write_stepped(alloc, steps, &mut Nobody, out);
+    }
+    let told = write_stepped(alloc, steps, watch, out);
+    watch.close();
+    told
+}
+
+// What is refused of it goes to the other stream.
+fn tell_steps<V: Watch, O: Out, E: Out>(
     alloc: Global,
     words: &[String],
+    on_terminal: bool,
     steps: &FoundSteps<'_>,
+    watch: &mut V,
     out: &mut O,
     err: &mut E,
 ) -> Status
@@ -34,7 +58,7 @@ fn tell_steps<O: Out, E: Out>(
     ensures leaves { LeavesFound (map string_bytes words.now) (Found.Stepped steps.now) (O.Out.state out.old) (O.Out.state out.new)
         (E.Out.state err.old) (E.Out.state err.new) result }
 {
-    match write_stepped(alloc, steps, out) {
+    match write_watched(alloc, on_terminal, steps, watch, out) {
         Ok(outcome) => {
             tell_time(err, &outcome, &steps.words);
             Status::of(&outcome)
@@ -74,10 +98,12 @@ fn tell<O: Out, E: Out>(
 
 // Either.
 #[tactic(auto, using(command_facts::proofs::Steps::settled))]
-fn tell_found<O: Out, E: Out>(
+fn tell_found<V: Watch, O: Out, E: Out>(
     alloc: Global,
     words: &[String],
+    on_terminal: bool,
     found: &Found<'_>,
+    watch: &mut V,
     out: &mut O,
     err: &mut E,
 ) -> Status
@@ -88,7 +114,7 @@ fn tell_found<O: Out, E: Out>(
         (E.Out.state err.old) (E.Out.state err.new) result }
 {
     match found {
-        Found::Stepped(steps) => tell_steps(alloc, words, steps, out, err),
+        Found::Stepped(steps) => tell_steps(alloc, words, on_terminal, steps, watch, out, err),
         settled => tell(alloc, words, settled, out, err),
     }
 }
@@ -100,6 +126,7 @@ fn answer_request<R: Threads + Wait + Sync, S: Sources, V: Watch + Gate + Sync, 
     alloc: Global,
     request: Request<'_>,
     words: &[String],
+    on_terminal: bool,
     sources: &mut S,
     watch: &mut V,
     out: &mut O,
@@ -111,7 +138,7 @@ fn answer_request<R: Threads + Wait + Sync, S: Sources, V: Watch + Gate + Sync, 
         (O.Out.state out.old) (O.Out.state out.new) (E.Out.state err.old) (E.Out.state err.new) result }
 {
     match find(rt, alloc, request, sources, watch) {
-        Ok(found) => tell_found(alloc, words, &found, out, err),
+        Ok(found) => tell_found(alloc, words, on_terminal, &found, watch, out, err),
         Err(halted) => {
             report(alloc, err, words, &halted);
             Status::Refused
@@ -126,6 +153,8 @@ fn answer_request<R: Threads + Wait + Sync, S: Sources, V: Watch + Gate + Sync, 
 /// there is to say of it, and there nothing else is written: what [`find`](command_facts::find) refuses, E17 where standard output failed,
 /// and E16 where memory was refused; behind whole lines of the first statements, where a run is told statement by statement. `expand`,
 /// `plan`, `export`, `explain` and the version are not told as JSON (P1).
+///
+/// The watch is told how far long runs are, but not of one whose lines are written as it goes where standard output is a terminal.
 pub fn answer_in_json<
     'a,
     R: Threads + Wait + Sync,
@@ -138,6 +167,7 @@ pub fn answer_in_json<
     alloc: Global,
     asked: Result<Request<'a>, Stop<'a>>,
     words: &[String],
+    on_terminal: bool,
     sources: &mut S,
     watch: &mut V,
     out: &mut O,
@@ -149,7 +179,17 @@ pub fn answer_in_json<
         (O.Out.state out.old) (O.Out.state out.new) (E.Out.state err.old) (E.Out.state err.new) result }
 {
     match asked {
-        Ok(request) => answer_request(rt, alloc, request, words, sources, watch, out, err),
+        Ok(request) => answer_request(
+            rt,
+            alloc,
+            request,
+            words,
+            on_terminal,
+            sources,
+            watch,
+            out,
+            err,
+        ),
         Err(stop) => {
             report(alloc, err, words, &Halted::from(stop));
             Status::Refused

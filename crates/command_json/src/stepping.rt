@@ -8,6 +8,7 @@ ghost use Rattle.command_facts.specs.Found.{IsOutcomeOf, entries_of};
 ghost use Rattle.command_json.specs.Stepped as spec;
 
 use crate::writing::write_json;
+use call_progress::Watch;
 use command_facts::FoundSteps;
 use json_streams::stream_json;
 use json_texts::{json_opening, json_outcome};
@@ -21,9 +22,10 @@ use write_rules::Outcome;
 
 // Runs the program and writes each statement that is asked for as soon as it has run. The input fits, so that a run is refused for memory
 // alone.
-fn stream_lines<'a, O: Out>(
+fn stream_lines<'a, V: Watch, O: Out>(
     alloc: Global,
     steps: &FoundSteps<'_>,
+    watch: &mut V,
     out: &mut O,
 ) -> Result<Outcome, Stop<'a>>
     requires fits { length steps.now.input.items ≤ total_size steps.now.loaded.program.layout }
@@ -47,6 +49,7 @@ fn stream_lines<'a, O: Out>(
         bound,
         first,
         last,
+        watch,
         out,
     ) {
         Ok(outcome) => Ok(outcome),
@@ -57,16 +60,17 @@ fn stream_lines<'a, O: Out>(
 }
 
 // The statements and the outcome.
-fn write_run<'a, O: Out>(
+fn write_run<'a, V: Watch, O: Out>(
     alloc: Global,
     steps: &FoundSteps<'_>,
+    watch: &mut V,
     out: &mut O,
 ) -> Result<Outcome, Stop<'a>>
     requires fits { length steps.now.input.items ≤ total_size steps.now.loaded.program.layout }
     requires out { (O.Out.state out.old).failures < 2 ^ 62 }
     ensures told { spec.IsToldBehind steps.now [] (O.Out.state out.old) (O.Out.state out.new) result }
 {
-    let outcome = stream_lines(alloc, steps, out)?;
+    let outcome = stream_lines(alloc, steps, watch, out)?;
     let line = json_outcome(alloc, steps.loaded.program.layout(), &outcome, Choice::All)?;
     write_json(out, &line, Status::of(&outcome))?;
     Ok(outcome)
@@ -82,10 +86,11 @@ fn opening_line(alloc: Global, steps: &FoundSteps<'_>) -> Result<String, AllocEr
 }
 
 /// Runs a program and writes as lines of JSON what its cells hold before it, its statements, each as soon as it has run, and behind them what
-/// it came to. E17 where the writer failed, E16 where memory was refused, behind the lines of the statements before.
-pub(crate) fn write_stepped<'a, O: Out>(
+/// it came to. The watch is told how far the run is. E17 where the writer failed, E16 where memory was refused, behind the lines of the statements before.
+pub(crate) fn write_stepped<'a, V: Watch, O: Out>(
     alloc: Global,
     steps: &FoundSteps<'_>,
+    watch: &mut V,
     out: &mut O,
 ) -> Result<Outcome, Stop<'a>>
     requires fits { length steps.now.input.items ≤ total_size steps.now.loaded.program.layout }
@@ -94,5 +99,5 @@ pub(crate) fn write_stepped<'a, O: Out>(
 {
     let line = opening_line(alloc, steps)?;
     out.write_all(line.as_bytes())?;
-    write_run(alloc, steps, out)
+    write_run(alloc, steps, watch, out)
 }

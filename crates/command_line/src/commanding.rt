@@ -35,7 +35,8 @@ fn explaining(terminal: Terminal, words: &[String]) -> Terminal
 /// [`asks_for_json`](command_requests::asks_for_json); what is done then by [`answer`](command_text::answer) and
 /// [`answer_in_json`](command_json::answer_in_json). In words a refusal and a fault are explained where standard error is a terminal or one
 /// of the words is `--explain`; and a refusal is told in the lines that editors read where
-/// [`asks_for_gnu`](command_requests::asks_for_gnu) says so. While many runs are made, the watch is told how far they are.
+/// [`asks_for_gnu`](command_requests::asks_for_gnu) says so. While many runs are made, or a
+/// long one, the watch is told how far they are, but where a run is told on a terminal as it goes.
 pub fn command<
     R: Threads + Wait + Sync,
     W: Reader,
@@ -61,7 +62,8 @@ pub fn command<
 {
     let asked = reader.read(alloc, words);
     if asks_for_json(words) {
-        answer_in_json(rt, alloc, asked, words, sources, watch, out, err)
+        let on = terminal.output;
+        answer_in_json(rt, alloc, asked, words, on, sources, watch, out, err)
     } else {
         let on = explaining(terminal, words);
         answer(rt, alloc, asked, words, on, sources, watch, out, err)

@@ -64,7 +64,7 @@ pub struct RunWords<'a> {
     /// For how much workers take all their memory before the first exchange. Without one they take it on the way.
     pub reserve: Option<Reserve>,
     pub costs: CostWords,
-    pub steps: StepWords,
+    pub steps: StepWords<'a>,
     pub trace: TraceWords,
     /// How statements, exchanges or costs at several sizes are told.
     pub form: Form,

@@ -1,8 +1,10 @@
 //! Which entries of a run are told, and what of each.
 
+use memory_texts::Choice;
+
 /// Which entries of a run are told, counted from 1, and what of each.
 #[derive(Clone, Copy, Debug)]
-pub struct StepWords {
+pub struct StepWords<'a> {
     /// The number of the first.
     pub from: u32,
     /// The number of the last.
@@ -11,4 +13,6 @@ pub struct StepWords {
     pub locals: bool,
     /// Whether the column at which each statement begins is told too.
     pub columns: bool,
+    /// The cells, variables and locals that alone are told, where names are given, and no statement that changed none of them.
+    pub only: Choice<'a>,
 }

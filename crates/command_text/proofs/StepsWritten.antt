@@ -2,7 +2,6 @@
 use Rattle.std.proofs.Common.{◌≡◌, ◌++◌, ◌≤◌, ℕ, ℤ, List, refl, subst, sym}
 use Rattle.std.specs.Prelude.{Result, Ok, Err, IsErrAnd, length}
 use Rattle.pram_model.specs.Layout.{SharedEntry, total_size}
-use Rattle.pram_trees.specs.Program.{ProgramTree}
 use Rattle.text_out.specs.Out.{OutState, StopsIn, with_bytes}
 use Rattle.text_out.proofs.Writing.{stops_behind, writes_then}
 use Rattle.write_rules.specs.Verdict.{verdict_of}
@@ -178,13 +177,12 @@ flow_cut on s old new asked fits h =
     (flow_text (with_outcome s h.0) (entries_of s)) refl (refl, h.2)
 
 -- how statements are told
-pub telling_by : (on : Terminal) (s : FoundSteps) (text sized : List ℕ) (tree : ProgramTree) (telling : Telling) →
-    text ≡ s.loaded.source.bytes.items → sized ≡ text_in s.loaded.source → tree ≡ s.loaded.program.tree →
-    IsTelling on s.words.steps text sized tree telling → IsTellingOf on s telling
-telling_by on s text sized tree telling same_text same_sized same_tree is =
-    subst (λ (t : ProgramTree). IsTelling on s.words.steps s.loaded.source.bytes.items (text_in s.loaded.source) t telling) same_tree
-    (subst (λ (t : List ℕ). IsTelling on s.words.steps s.loaded.source.bytes.items t tree telling) same_sized
-    (subst (λ (t : List ℕ). IsTelling on s.words.steps t sized tree telling) same_text is))
+pub telling_by : (on : Terminal) (s : FoundSteps) (text sized : List ℕ) (telling : Telling) →
+    text ≡ s.loaded.source.bytes.items → sized ≡ text_in s.loaded.source →
+    IsTelling on s.words.steps text sized s.loaded.program telling → IsTellingOf on s telling
+telling_by on s text sized telling same_text same_sized is =
+    subst (λ (t : List ℕ). IsTelling on s.words.steps s.loaded.source.bytes.items t s.loaded.program telling) same_sized
+    (subst (λ (t : List ℕ). IsTelling on s.words.steps t sized s.loaded.program telling) same_text is)
 
 -- the outcome, by its declarations
 pub outcome_as : (s : FoundSteps) (o : Outcome) (layout : List SharedEntry) (ends : Status) (mid new : OutState) (r : Result Status Stop) →

@@ -27,7 +27,7 @@ IsToldText on s o text = AreStepsText s.words.form on (with_outcome s o) (entrie
 -- so its statements are told on these streams
 abbrev pub IsTellingOf : Terminal → FoundSteps → Telling → Type 0
 IsTellingOf on s telling =
-    IsTelling on s.words.steps s.loaded.source.bytes.items (text_in s.loaded.source) s.loaded.program.tree telling
+    IsTelling on s.words.steps s.loaded.source.bytes.items (text_in s.loaded.source) s.loaded.program telling
 
 -- of statements those between the numbers that are asked for, a line each
 abbrev pub lines_of : FoundSteps → Telling → List Entry → List ℕ

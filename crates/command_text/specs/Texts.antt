@@ -63,7 +63,7 @@ swept_text form.Page csv s = table_text csv s
 -- it stands in its file, and then its outcome
 abbrev pub IsInWords : Terminal → FoundRun → List Entry → List ℕ → Type 0
 IsInWords on r entries text = (telling : Telling)
-    × IsTelling on r.words.steps r.loaded.source.bytes.items (text_in r.loaded.source) r.loaded.program.tree telling
+    × IsTelling on r.words.steps r.loaded.source.bytes.items (text_in r.loaded.source) r.loaded.program telling
     × (text ≡ told_text r.loaded.program.layout telling r.outcome entries r.words.steps.from r.words.steps.to)
 
 -- drawn between the numbers that are asked for, beside the text as it stands in its file

@@ -5,13 +5,14 @@ ghost use Rattle.std.specs.String.{string_bytes};
 ghost use Rattle.pram_model.specs.Layout.{total_size};
 ghost use Rattle.command_facts.specs.Calls.{FitsIn, IsSettled};
 ghost use Rattle.command_text.specs.Left.{Leaves, LeavesFound};
+ghost use Rattle.command_text.specs.Stepped.{IsToldRun};
 
 use crate::explaining::{explain, explain_run, report};
 use crate::stepping::write_stepped;
 use crate::telling::write_found;
 use crate::terminal::Terminal;
-use call_progress::Watch;
-use command_facts::{Found, FoundSteps, Halted, find};
+use call_progress::{Nobody, Watch};
+use command_facts::{Found, FoundRun, FoundSteps, Halted, find};
 use command_requests::Request;
 use program_texts::{Status, Stop};
 use std::alloc::Global;
@@ -21,12 +22,33 @@ use system_files::Sources;
 use text_out::Out;
 use workers::Gate;
 
-// A run of a program is told as it runs.
-fn tell_steps<O: Out, E: Out>(
+// A run of a program is told as it runs. The watch is told how far it is, but where its lines come on a terminal.
+fn write_watched<'a, 'b, V: Watch, O: Out>(
+    alloc: Global,
+    on: Terminal,
+    steps: FoundSteps<'b>,
+    watch: &mut V,
+    out: &mut O,
+) -> Result<FoundRun<'b>, Stop<'a>>
+    requires fits { length steps.input.items ≤ total_size steps.loaded.program.layout }
+    requires out { (O.Out.state out.old).failures < 2 ^ 62 }
+    ensures told { IsToldRun on steps.entry (O.Out.state out.old) (O.Out.state out.new) result }
+{
+    if on.output {
+        return write_stepped(alloc, on, steps, &mut Nobody, out);
+    }
+    let told = write_stepped(alloc, on, steps, watch, out);
+    watch.close();
+    told
+}
+
+// What is said of it goes to the other stream.
+fn tell_steps<V: Watch, O: Out, E: Out>(
     alloc: Global,
     words: &[String],
     on: Terminal,
     steps: FoundSteps<'_>,
+    watch: &mut V,
     out: &mut O,
     err: &mut E,
 ) -> Status
@@ -36,9 +58,9 @@ fn tell_steps<O: Out, E: Out>(
     ensures leaves { LeavesFound on (map string_bytes words.now) (Found.Stepped steps.entry) (O.Out.state out.old) (O.Out.state out.new)
         (E.Out.state err.old) (E.Out.state err.new) result }
 {
-    match write_stepped(alloc, on, steps, out) {
+    match write_watched(alloc, on, steps, watch, out) {
         Ok(run) => {
-            explain_run(alloc, err, &run, on.errors);
+            explain_run(alloc, watch, err, &run, on.errors);
             Status::of(&run.outcome)
         }
         Err(stop) => {
@@ -49,11 +71,12 @@ fn tell_steps<O: Out, E: Out>(
 }
 
 // What was found is told.
-fn tell<O: Out, E: Out>(
+fn tell<V: Watch, O: Out, E: Out>(
     alloc: Global,
     words: &[String],
     on: Terminal,
     found: &Found<'_>,
+    watch: &mut V,
     out: &mut O,
     err: &mut E,
 ) -> Status
@@ -65,7 +88,7 @@ fn tell<O: Out, E: Out>(
 {
     match write_found(found, out) {
         Ok(status) => {
-            explain(alloc, err, found, on.errors);
+            explain(alloc, watch, err, found, on.errors);
             status
         }
         Err(stop) => {
@@ -77,11 +100,12 @@ fn tell<O: Out, E: Out>(
 
 // Either.
 #[tactic(auto, using(command_facts::proofs::Steps::settled))]
-fn tell_found<O: Out, E: Out>(
+fn tell_found<V: Watch, O: Out, E: Out>(
     alloc: Global,
     words: &[String],
     on: Terminal,
     found: Found<'_>,
+    watch: &mut V,
     out: &mut O,
     err: &mut E,
 ) -> Status
@@ -92,8 +116,8 @@ fn tell_found<O: Out, E: Out>(
         (E.Out.state err.old) (E.Out.state err.new) result }
 {
     match found {
-        Found::Stepped(steps) => tell_steps(alloc, words, on, steps, out, err),
-        settled => tell(alloc, words, on, &settled, out, err),
+        Found::Stepped(steps) => tell_steps(alloc, words, on, steps, watch, out, err),
+        settled => tell(alloc, words, on, &settled, watch, out, err),
     }
 }
 
@@ -116,7 +140,7 @@ fn answer_request<R: Threads + Wait + Sync, S: Sources, V: Watch + Gate + Sync, 
         (O.Out.state out.old) (O.Out.state out.new) (E.Out.state err.old) (E.Out.state err.new) result }
 {
     match find(rt, alloc, request, sources, watch) {
-        Ok(found) => tell_found(alloc, words, on, found, out, err),
+        Ok(found) => tell_found(alloc, words, on, found, watch, out, err),
         Err(halted) => {
             report(alloc, err, words, &halted, on);
             Status::Refused
@@ -139,7 +163,8 @@ fn answer_request<R: Threads + Wait + Sync, S: Sources, V: Watch + Gate + Sync, 
 /// then, and in another form than words nothing.
 ///
 /// Where the errors are to be explained, what a reader needs follows there: the place, its line and a caret, and a
-/// sentence, of a word the option that doesn't take it and what that wants; and so of a fault, of a program's run with its line. Where
+/// sentence, of a word the option that doesn't take it and what that wants; and so of a fault, of a program's run with its line. The watch
+/// is told how far long runs are, but not of one whose statements are told on a terminal as it goes. Where
 /// standard output is a terminal, statements stand beside their lines of the program's text, and what changes is coloured if that is
 /// wanted.
 pub fn answer<'a, R: Threads + Wait + Sync, S: Sources, V: Watch + Gate + Sync, O: Out, E: Out>(

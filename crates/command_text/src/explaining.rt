@@ -10,6 +10,7 @@ ghost use Rattle.command_facts.specs.Written.{IsReported};
 ghost use Rattle.command_text.specs.Explained as spec;
 
 use crate::terminal::Terminal;
+use call_progress::Watch;
 use command_facts::{Found, FoundCode, FoundRun, Halted};
 use command_messages::write_for_editors;
 use diagnoses::{
@@ -116,24 +117,38 @@ pub(crate) fn report<E: Out>(
 }
 
 // Why a run faults, for which the meaning is run again; unknown where memory for that was refused.
-fn find_reason(alloc: Global, program: &Program, input: &[i64], bound: u32) -> Reason
+fn find_reason<V: Watch>(
+    alloc: Global,
+    program: &Program,
+    input: &[i64],
+    bound: u32,
+    watch: &mut V,
+) -> Reason
     ensures { (reason_is result ≡ why program.now input.now bound) ⊎ (reason_is result ≡ unknown) }
 {
-    match run_reason(alloc, program, input, bound) {
+    let found = run_reason(alloc, program, input, bound, watch);
+    watch.close();
+    match found {
         Some(reason) => reason,
         None => Reason::unknown(alloc),
     }
 }
 
 // Writes what is said of a run's fault.
-fn say_run_fault<E: Out>(alloc: Global, err: &mut E, run: &FoundRun<'_>, fault: &Fault)
+fn say_run_fault<V: Watch, E: Out>(
+    alloc: Global,
+    watch: &mut V,
+    err: &mut E,
+    run: &FoundRun<'_>,
+    fault: &Fault,
+)
     requires err { (E.Out.state err.old).failures < 2 ^ 62 }
     ensures written { (why : Why) × spec.IsReasonOf run.now why × IsReported (E.Out.state err.old) (E.Out.state err.new)
         (fault_diagnosis run.now.loaded.source run.now.loaded.program.layout fault.now why) }
 {
     let program = &run.loaded.program;
     let bound = run.words.options.bound;
-    let reason = find_reason(alloc, program, &run.input, bound);
+    let reason = find_reason(alloc, program, &run.input, bound, watch);
     if write_run_fault(err, &run.loaded.source, program.layout(), fault, &reason).is_ok() {
         let _ = err.flush();
     }
@@ -165,14 +180,17 @@ fn write_cycle<E: Out>(err: &mut E, cycle: Cycle) -> Result<(), WriteFault>
 }
 
 // A loop by which a run never ends, where it has no more cells than these: it is run again for that, with some of its states kept.
-fn cycle_of(alloc: Global, run: &FoundRun<'_>) -> Option<Cycle>
+fn cycle_of<V: Watch>(alloc: Global, watch: &mut V, run: &FoundRun<'_>) -> Option<Cycle>
     ensures { (cycle : Cycle) → result ≡ Some cycle → NeverEnds run.now.loaded.program run.now.input.items }
 {
     let program = &run.loaded.program;
     if program.layout().cells() > MOST_SEARCHED {
         return None;
     }
-    find_cycle(alloc, program, &run.input, run.words.options.bound)
+    let bound = run.words.options.bound;
+    let found = find_cycle(alloc, program, &run.input, bound, watch);
+    watch.close();
+    found
 }
 
 fn write_bound_of<E: Out>(err: &mut E, bound: u32, cycle: Option<Cycle>) -> Result<(), WriteFault>
@@ -187,11 +205,11 @@ fn write_bound_of<E: Out>(err: &mut E, bound: u32, cycle: Option<Cycle>) -> Resu
 }
 
 // Writes that a run met its bound, and that it never ends where that is known.
-fn say_bound<E: Out>(alloc: Global, err: &mut E, run: &FoundRun<'_>)
+fn say_bound<V: Watch, E: Out>(alloc: Global, watch: &mut V, err: &mut E, run: &FoundRun<'_>)
     requires err { (E.Out.state err.old).failures < 2 ^ 62 }
     ensures written { spec.IsBoundSaid run.now (E.Out.state err.old) (E.Out.state err.new) }
 {
-    let cycle = cycle_of(alloc, run);
+    let cycle = cycle_of(alloc, watch, run);
     if write_bound_of(err, run.words.options.bound, cycle).is_ok() {
         let _ = err.flush();
     }
@@ -221,7 +239,13 @@ fn say_time<E: Out>(err: &mut E, seconds: u32, bound: u32)
 }
 
 // Writes why a run goes on: its time was over, or if that is asked for that its bound was met.
-fn say_limit<E: Out>(alloc: Global, err: &mut E, run: &FoundRun<'_>, explains: bool)
+fn say_limit<V: Watch, E: Out>(
+    alloc: Global,
+    watch: &mut V,
+    err: &mut E,
+    run: &FoundRun<'_>,
+    explains: bool,
+)
     requires err { (E.Out.state err.old).failures < 2 ^ 62 }
     ensures left { spec.IsLimitSaid explains run.now.words.seconds run.now (E.Out.state err.old) (E.Out.state err.new) }
 {
@@ -229,24 +253,30 @@ fn say_limit<E: Out>(alloc: Global, err: &mut E, run: &FoundRun<'_>, explains: b
         Some(seconds) => say_time(err, seconds, run.words.options.bound),
         None => {
             if explains {
-                say_bound(alloc, err, run)
+                say_bound(alloc, watch, err, run)
             }
         }
     }
 }
 
 /// Writes what is said of the fault of a program's run, or that its bound was met, where that is asked for; and always that its time was
-/// over.
-pub(crate) fn explain_run<E: Out>(alloc: Global, err: &mut E, run: &FoundRun<'_>, explains: bool)
+/// over. The watch is told how far a run is that is made again for that.
+pub(crate) fn explain_run<V: Watch, E: Out>(
+    alloc: Global,
+    watch: &mut V,
+    err: &mut E,
+    run: &FoundRun<'_>,
+    explains: bool,
+)
     requires err { (E.Out.state err.old).failures < 2 ^ 62 }
     ensures left { spec.IsRunExplained explains run.now run.now.outcome (E.Out.state err.old) (E.Out.state err.new) }
 {
     match &run.outcome {
         Outcome::Ended { .. } => {}
-        Outcome::GoesOn { .. } => say_limit(alloc, err, run, explains),
+        Outcome::GoesOn { .. } => say_limit(alloc, watch, err, run, explains),
         Outcome::Faulted { fault, .. } => {
             if explains {
-                say_run_fault(alloc, err, run, fault)
+                say_run_fault(alloc, watch, err, run, fault)
             }
         }
     }
@@ -278,12 +308,18 @@ fn explain_code<E: Out>(alloc: Global, err: &mut E, run: &FoundCode<'_>, explain
 }
 
 /// Writes what is said of the fault of what was found, where that is asked for, to standard error. That it fails changes no status.
-pub(crate) fn explain<E: Out>(alloc: Global, err: &mut E, found: &Found<'_>, explains: bool)
+pub(crate) fn explain<V: Watch, E: Out>(
+    alloc: Global,
+    watch: &mut V,
+    err: &mut E,
+    found: &Found<'_>,
+    explains: bool,
+)
     requires err { (E.Out.state err.old).failures < 2 ^ 62 }
     ensures left { spec.IsExplained explains found.now (E.Out.state err.old) (E.Out.state err.new) }
 {
     match found {
-        Found::Run(run) => explain_run(alloc, err, run, explains),
+        Found::Run(run) => explain_run(alloc, watch, err, run, explains),
         Found::Executed(run) => explain_code(alloc, err, run, explains),
         Found::Stepped(_) => {}
         Found::Version => {}

@@ -10,6 +10,7 @@ ghost use Rattle.command_text.specs.Texts as texts;
 
 use crate::choosing::chosen_spans;
 use crate::terminal::Terminal;
+use call_progress::Watch;
 use command_facts::FoundSteps;
 use command_requests::Form;
 use flow_pictures::CellSpan;
@@ -22,10 +23,11 @@ use write_rules::Outcome;
 
 // Runs the program and draws the flow in the statements that are asked for, between the cells that are. The input fits, so that a run is
 // refused for memory alone.
-fn write_flow_of<'a, O: Out>(
+fn write_flow_of<'a, V: Watch, O: Out>(
     alloc: Global,
     steps: &FoundSteps<'_>,
     only: &[CellSpan],
+    watch: &mut V,
     out: &mut O,
 ) -> Result<Outcome, Stop<'a>>
     requires form { steps.now.words.form ≡ Form.Flow }
@@ -38,8 +40,11 @@ fn write_flow_of<'a, O: Out>(
     ensures cut { IfErr result (λ why. (on : Terminal) → stepped.IsCutOff on steps.now (O.Out.state out.old) (O.Out.state out.new) why) }
 {
     let (text, program) = (steps.loaded.source.text(), &steps.loaded.program);
-    let (words, bound) = (steps.words.steps, steps.words.options.bound);
-    let (first, last) = (words.from as usize, words.to as usize);
+    let bound = steps.words.options.bound;
+    let (first, last) = (
+        steps.words.steps.from as usize,
+        steps.words.steps.to as usize,
+    );
     match stream_flow(
         alloc,
         text,
@@ -49,6 +54,7 @@ fn write_flow_of<'a, O: Out>(
         only,
         first,
         last,
+        watch,
         out,
     ) {
         Ok(outcome) => Ok(outcome),
@@ -59,9 +65,10 @@ fn write_flow_of<'a, O: Out>(
 }
 
 /// Runs a program and draws the flow of data in the statements that are asked for.
-pub(crate) fn write_as_flow<'a, O: Out>(
+pub(crate) fn write_as_flow<'a, V: Watch, O: Out>(
     alloc: Global,
     steps: &FoundSteps<'_>,
+    watch: &mut V,
     out: &mut O,
 ) -> Result<Outcome, Stop<'a>>
     requires form { steps.now.words.form ≡ Form.Flow }
@@ -73,7 +80,7 @@ pub(crate) fn write_as_flow<'a, O: Out>(
     let Ok(only) = chosen_spans(alloc, layout, steps.words.shown) else {
         return Err(Stop::Refused(Refusal::OutOfMemory));
     };
-    let outcome = write_flow_of(alloc, steps, &only, out)?;
+    let outcome = write_flow_of(alloc, steps, &only, watch, out)?;
     finish(out, Status::of(&outcome))?;
     Ok(outcome)
 }

@@ -6,6 +6,7 @@ ghost use Rattle.command_facts.specs.Found.{IsOutcomeOf};
 ghost use Rattle.command_text.specs.Stepped as stepped;
 
 use crate::terminal::Terminal;
+use call_progress::Watch;
 use command_facts::FoundSteps;
 use command_requests::Form;
 use page_streams::stream_page;
@@ -16,9 +17,10 @@ use text_out::Out;
 use write_rules::Outcome;
 
 // Runs the program and writes the page of the statements that are asked for. The input fits, so that a run is refused for memory alone.
-fn write_page_of<'a, O: Out>(
+fn write_page_of<'a, V: Watch, O: Out>(
     alloc: Global,
     steps: &FoundSteps<'_>,
+    watch: &mut V,
     out: &mut O,
 ) -> Result<Outcome, Stop<'a>>
     requires form { steps.now.words.form ≡ Form.Page }
@@ -29,8 +31,11 @@ fn write_page_of<'a, O: Out>(
     ensures cut { IfErr result (λ why. (on : Terminal) → stepped.IsCutOff on steps.now (O.Out.state out.old) (O.Out.state out.new) why) }
 {
     let (source, program) = (&steps.loaded.source, &steps.loaded.program);
-    let (words, bound) = (steps.words.steps, steps.words.options.bound);
-    let (first, last) = (words.from as usize, words.to as usize);
+    let bound = steps.words.options.bound;
+    let (first, last) = (
+        steps.words.steps.from as usize,
+        steps.words.steps.to as usize,
+    );
     match stream_page(
         alloc,
         source.name.as_bytes(),
@@ -40,6 +45,7 @@ fn write_page_of<'a, O: Out>(
         bound,
         first,
         last,
+        watch,
         out,
     ) {
         Ok(outcome) => Ok(outcome),
@@ -50,9 +56,10 @@ fn write_page_of<'a, O: Out>(
 }
 
 /// Runs a program and writes the run as a page, of the statements that are asked for.
-pub(crate) fn write_as_page<'a, O: Out>(
+pub(crate) fn write_as_page<'a, V: Watch, O: Out>(
     alloc: Global,
     steps: &FoundSteps<'_>,
+    watch: &mut V,
     out: &mut O,
 ) -> Result<Outcome, Stop<'a>>
     requires form { steps.now.words.form ≡ Form.Page }
@@ -60,7 +67,7 @@ pub(crate) fn write_as_page<'a, O: Out>(
     requires out { (O.Out.state out.old).failures < 2 ^ 62 }
     ensures told { (on : Terminal) → stepped.IsToldBy on steps.now (O.Out.state out.old) (O.Out.state out.new) result }
 {
-    let outcome = write_page_of(alloc, steps, out)?;
+    let outcome = write_page_of(alloc, steps, watch, out)?;
     finish(out, Status::of(&outcome))?;
     Ok(outcome)
 }

@@ -19,11 +19,15 @@ ghost use Rattle.command_text.specs.Steps as spec;
 use crate::flowing::write_as_flow;
 use crate::paging::write_as_page;
 use crate::terminal::Terminal;
+use call_progress::Watch;
 use command_facts::{FoundRun, FoundSteps};
 use command_requests::{Form, StepWords};
+use memory_texts::Choice;
+use pram_check::Program;
 use pram_trees::{Layout, Tree};
 use program_texts::{Refusal, Status, Stop, finish, show};
 use std::alloc::Global;
+use step_focus::Focus;
 use step_journal::{Excerpt, steps_between};
 use step_pictures::write_excerpt;
 use step_streams::{StreamFailure, stream_steps};
@@ -45,7 +49,14 @@ fn manner_of<'t>(on: Terminal, text: &'t [u8]) -> Manner<'t>
     }
 }
 
-// The tree by whose names locals are told, where these are asked for.
+// Whether variables and locals are told: where that is asked for, or names are that they may bear.
+fn tells_locals(words: StepWords<'_>) -> bool
+    ensures { result ≡ spec.tells_locals words.entry }
+{
+    words.locals || matches!(words.only, Choice::Named(_))
+}
+
+// The tree by whose names they are told.
 fn names_of<'t>(locals: bool, tree: &'t Tree) -> Option<&'t Tree>
     ensures { spec.AreNames locals tree.now result }
 {
@@ -60,37 +71,51 @@ fn columns_of<'t>(columns: bool, sized: &'t [u8]) -> Option<&'t [u8]>
 }
 
 // What is told of each entry.
-fn detail_of<'t>(words: StepWords, sized: &'t [u8], tree: &'t Tree) -> Detail<'t>
-    ensures { spec.IsDetail words sized.now tree.now result }
+fn detail_of<'t>(words: StepWords<'_>, sized: &'t [u8], tree: &'t Tree) -> Detail<'t>
+    ensures { spec.IsDetail words.entry sized.now tree.now result }
 {
     Detail {
-        locals: names_of(words.locals, tree),
+        locals: names_of(tells_locals(words), tree),
         columns: columns_of(words.columns, sized),
+    }
+}
+
+// What of each is looked at.
+fn focus_of<'t>(words: StepWords<'t>, program: &'t Program) -> Focus<'t>
+    ensures { spec.IsFocus words.entry program.now result }
+{
+    Focus {
+        names: words.only,
+        layout: program.layout(),
+        tree: program.tree(),
+        at_faults: words.locals,
     }
 }
 
 // How entries are written, beside this text, and what is told of each.
 fn telling_of<'t>(
     on: Terminal,
-    words: StepWords,
+    words: StepWords<'t>,
     text: &'t [u8],
     sized: &'t [u8],
-    tree: &'t Tree,
+    program: &'t Program,
 ) -> Telling<'t>
-    ensures { spec.IsTelling on words text.now sized.now tree.now result }
+    ensures { spec.IsTelling on words.entry text.now sized.now program.now result }
 {
     Telling {
         manner: manner_of(on, text),
-        detail: detail_of(words, sized, tree),
+        detail: detail_of(words, sized, program.tree()),
+        focus: focus_of(words, program),
     }
 }
 
 // Runs the program and writes each statement that is asked for as soon as it has run. The input fits, so that a run is refused for memory
 // alone.
-fn stream_lines<'a, O: Out>(
+fn stream_lines<'a, V: Watch, O: Out>(
     alloc: Global,
     steps: &FoundSteps<'_>,
     telling: &Telling<'_>,
+    watch: &mut V,
     out: &mut O,
 ) -> Result<Outcome, Stop<'a>>
     requires fits { length steps.now.input.items ≤ total_size steps.now.loaded.program.layout }
@@ -113,6 +138,7 @@ fn stream_lines<'a, O: Out>(
         telling,
         first,
         last,
+        watch,
         out,
     ) {
         Ok(outcome) => Ok(outcome),
@@ -137,10 +163,11 @@ fn write_ending<'a, O: Out>(
 }
 
 // In words, and behind them the outcome.
-fn write_in_words<'a, O: Out>(
+fn write_in_words<'a, V: Watch, O: Out>(
     alloc: Global,
     on: Terminal,
     steps: &FoundSteps<'_>,
+    watch: &mut V,
     out: &mut O,
 ) -> Result<Outcome, Stop<'a>>
     requires form { steps.now.words.form ≡ Form.Words }
@@ -150,15 +177,18 @@ fn write_in_words<'a, O: Out>(
 {
     let text = steps.loaded.source.bytes.as_slice();
     let sized = steps.loaded.source.text();
-    let tree = steps.loaded.program.tree();
-    let telling = telling_of(on, steps.words.steps, text, sized, tree);
-    let outcome = stream_lines(alloc, steps, &telling, out)?;
+    let telling = telling_of(on, steps.words.steps, text, sized, &steps.loaded.program);
+    let outcome = stream_lines(alloc, steps, &telling, watch, out)?;
     write_ending(steps.loaded.program.layout(), &outcome, out)?;
     Ok(outcome)
 }
 
 // The statements that are asked for, and how many there are in all. The input fits, so that a run is refused for memory alone.
-fn excerpt_of<'a>(alloc: Global, steps: &FoundSteps<'_>) -> Result<(Outcome, Excerpt), Stop<'a>>
+fn excerpt_of<'a, V: Watch>(
+    alloc: Global,
+    steps: &FoundSteps<'_>,
+    watch: &mut V,
+) -> Result<(Outcome, Excerpt), Stop<'a>>
     requires fits { length steps.now.input.items ≤ total_size steps.now.loaded.program.layout }
     ensures outcome { IfOk result (λ r. IsOutcomeOf steps.now r.0) }
     ensures entries { IfOk result (λ r. map entry_is r.1.entries.items
@@ -167,9 +197,11 @@ fn excerpt_of<'a>(alloc: Global, steps: &FoundSteps<'_>) -> Result<(Outcome, Exc
     ensures refused { IfErr result (λ stop. stop ≡ Refused OutOfMemory) }
 {
     let (program, bound) = (&steps.loaded.program, steps.words.options.bound);
-    let words = steps.words.steps;
-    let (first, last) = (words.from as usize, words.to as usize);
-    match steps_between(alloc, program, &steps.input, bound, first, last) {
+    let (first, last) = (
+        steps.words.steps.from as usize,
+        steps.words.steps.to as usize,
+    );
+    match steps_between(alloc, program, &steps.input, bound, first, last, watch) {
         Ok(told) => Ok(told),
         Err(_) => Err(Stop::Refused(Refusal::OutOfMemory)),
     }
@@ -194,9 +226,10 @@ fn write_pictured<'a, O: Out>(
 }
 
 // A picture of a run's statements.
-fn write_as_picture<'a, O: Out>(
+fn write_as_picture<'a, V: Watch, O: Out>(
     alloc: Global,
     steps: &FoundSteps<'_>,
+    watch: &mut V,
     out: &mut O,
 ) -> Result<Outcome, Stop<'a>>
     requires form { steps.now.words.form ≡ Form.Picture }
@@ -204,7 +237,7 @@ fn write_as_picture<'a, O: Out>(
     requires out { (O.Out.state out.old).failures < 2 ^ 62 }
     ensures told { (on : Terminal) → stepped.IsToldBy on steps.now (O.Out.state out.old) (O.Out.state out.new) result }
 {
-    let (outcome, excerpt) = excerpt_of(alloc, steps)?;
+    let (outcome, excerpt) = excerpt_of(alloc, steps, watch)?;
     let layout = steps.loaded.program.layout();
     let text = steps.loaded.source.bytes.as_slice();
     let from = steps.words.steps.from as usize;
@@ -213,9 +246,10 @@ fn write_as_picture<'a, O: Out>(
 }
 
 // The flow of data in a run, drawn, with what it came to.
-fn write_flow_behind<'a, 'b, O: Out>(
+fn write_flow_behind<'a, 'b, V: Watch, O: Out>(
     alloc: Global,
     steps: FoundSteps<'b>,
+    watch: &mut V,
     out: &mut O,
 ) -> Result<FoundRun<'b>, Stop<'a>>
     requires form { steps.words.form ≡ Form.Flow }
@@ -223,14 +257,15 @@ fn write_flow_behind<'a, 'b, O: Out>(
     requires out { (O.Out.state out.old).failures < 2 ^ 62 }
     ensures told { (on : Terminal) → stepped.IsToldRun on steps.entry (O.Out.state out.old) (O.Out.state out.new) result }
 {
-    let outcome = write_as_flow(alloc, &steps, out)?;
+    let outcome = write_as_flow(alloc, &steps, watch, out)?;
     Ok(steps.with_outcome(outcome))
 }
 
 // A run as a page, with what it came to.
-fn write_page_behind<'a, 'b, O: Out>(
+fn write_page_behind<'a, 'b, V: Watch, O: Out>(
     alloc: Global,
     steps: FoundSteps<'b>,
+    watch: &mut V,
     out: &mut O,
 ) -> Result<FoundRun<'b>, Stop<'a>>
     requires form { steps.words.form ≡ Form.Page }
@@ -238,15 +273,16 @@ fn write_page_behind<'a, 'b, O: Out>(
     requires out { (O.Out.state out.old).failures < 2 ^ 62 }
     ensures told { (on : Terminal) → stepped.IsToldRun on steps.entry (O.Out.state out.old) (O.Out.state out.new) result }
 {
-    let outcome = write_as_page(alloc, &steps, out)?;
+    let outcome = write_as_page(alloc, &steps, watch, out)?;
     Ok(steps.with_outcome(outcome))
 }
 
 // A run in words, with what it came to.
-fn write_words_behind<'a, 'b, O: Out>(
+fn write_words_behind<'a, 'b, V: Watch, O: Out>(
     alloc: Global,
     on: Terminal,
     steps: FoundSteps<'b>,
+    watch: &mut V,
     out: &mut O,
 ) -> Result<FoundRun<'b>, Stop<'a>>
     requires form { steps.words.form ≡ Form.Words }
@@ -254,14 +290,15 @@ fn write_words_behind<'a, 'b, O: Out>(
     requires out { (O.Out.state out.old).failures < 2 ^ 62 }
     ensures told { stepped.IsToldRun on steps.entry (O.Out.state out.old) (O.Out.state out.new) result }
 {
-    let outcome = write_in_words(alloc, on, &steps, out)?;
+    let outcome = write_in_words(alloc, on, &steps, watch, out)?;
     Ok(steps.with_outcome(outcome))
 }
 
 // A picture of a run, with what it came to.
-fn write_picture_behind<'a, 'b, O: Out>(
+fn write_picture_behind<'a, 'b, V: Watch, O: Out>(
     alloc: Global,
     steps: FoundSteps<'b>,
+    watch: &mut V,
     out: &mut O,
 ) -> Result<FoundRun<'b>, Stop<'a>>
     requires form { steps.words.form ≡ Form.Picture }
@@ -269,19 +306,21 @@ fn write_picture_behind<'a, 'b, O: Out>(
     requires out { (O.Out.state out.old).failures < 2 ^ 62 }
     ensures told { (on : Terminal) → stepped.IsToldRun on steps.entry (O.Out.state out.old) (O.Out.state out.new) result }
 {
-    let outcome = write_as_picture(alloc, &steps, out)?;
+    let outcome = write_as_picture(alloc, &steps, watch, out)?;
     Ok(steps.with_outcome(outcome))
 }
 
 /// Runs a program and tells it statement by statement, in words as it runs, drawn, or as a page; and answers the run with what it came to.
 ///
 /// In words a line is written as soon as its statement has run, and none is kept; of a picture those statements are kept that are asked
-/// for; of a page no more than the lines that could stand in it; of the flow of data the statements that are drawn. E17 where the writer
+/// for; of a page no more than the lines that could stand in it; of the flow of data the statements that are drawn. The watch is told how far the
+/// run is. E17 where the writer
 /// failed, E16 where memory was refused.
-pub(crate) fn write_stepped<'a, 'b, O: Out>(
+pub(crate) fn write_stepped<'a, 'b, V: Watch, O: Out>(
     alloc: Global,
     on: Terminal,
     steps: FoundSteps<'b>,
+    watch: &mut V,
     out: &mut O,
 ) -> Result<FoundRun<'b>, Stop<'a>>
     requires fits { length steps.input.items ≤ total_size steps.loaded.program.layout }
@@ -289,9 +328,9 @@ pub(crate) fn write_stepped<'a, 'b, O: Out>(
     ensures told { stepped.IsToldRun on steps.entry (O.Out.state out.old) (O.Out.state out.new) result }
 {
     match steps.words.form {
-        Form::Words => write_words_behind(alloc, on, steps, out),
-        Form::Picture => write_picture_behind(alloc, steps, out),
-        Form::Flow => write_flow_behind(alloc, steps, out),
-        Form::Page => write_page_behind(alloc, steps, out),
+        Form::Words => write_words_behind(alloc, on, steps, watch, out),
+        Form::Picture => write_picture_behind(alloc, steps, watch, out),
+        Form::Flow => write_flow_behind(alloc, steps, watch, out),
+        Form::Page => write_page_behind(alloc, steps, watch, out),
     }
 }

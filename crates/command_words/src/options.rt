@@ -269,7 +269,7 @@ const DRAWN: &[CommandOption] = &[
     CommandOption {
         name: ONLY,
         follows: Follows::Word("NAMES"),
-        help: "Draws the flow between these shared declarations alone, as a,b",
+        help: "Tells of these cells and variables alone, as a,m, or draws these cells",
     },
     CommandOption {
         name: HTML,

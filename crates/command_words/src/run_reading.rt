@@ -80,19 +80,38 @@ fn cost_words<'a>(words: &ArgMatches<'a>) -> Result<CostWords, Stop<'a>>
     })
 }
 
+// Whether a run is told in another way than words, or as a flow.
+fn is_told_whole(words: &ArgMatches<'_>) -> bool {
+    words.get_flag(SVG) || words.get_flag(HTML) || words.get_str(FORMAT) == Some("json")
+}
+
+// The names that alone are told of a run in words. Those of a flow are names of what is drawn.
+fn only_of<'a>(words: &ArgMatches<'a>) -> Result<Choice<'a>, Stop<'a>>
+    ensures { IfErr result IsOfWords }
+{
+    match words.get_str(ONLY) {
+        None => Ok(Choice::All),
+        Some(_) if words.get_flag(FLOW) => Ok(Choice::All),
+        Some(_) if is_told_whole(words) => Err(Stop::Number("--only")),
+        Some(names) => Ok(Choice::Named(names)),
+    }
+}
+
 // Both numbers are 0 where the command has no such options.
-fn step_words<'a>(words: &ArgMatches<'a>) -> Result<StepWords, Stop<'a>>
+fn step_words<'a>(words: &ArgMatches<'a>) -> Result<StepWords<'a>, Stop<'a>>
     ensures { IfErr result IsOfWords }
 {
     let from = number_of(words, FROM)?;
     let to = number_of(words, TO)?;
     let locals = words.get_flag(LOCALS);
     let columns = words.get_flag(COLUMNS);
+    let only = only_of(words)?;
     Ok(StepWords {
         from,
         to,
         locals,
         columns,
+        only,
     })
 }
 
@@ -147,11 +166,10 @@ fn opening_of<'a>(words: &ArgMatches<'a>) -> Result<Opening<'a>, Stop<'a>>
 fn choice_of<'a>(words: &ArgMatches<'a>) -> Result<Choice<'a>, Stop<'a>>
     ensures { IfErr result IsOfWords }
 {
-    if let Some(names) = words.get_str(ONLY) {
-        return if words.get_flag(FLOW) {
-            Ok(Choice::Named(names))
-        } else {
-            Err(Stop::Number("--only"))
+    if words.get_flag(FLOW) {
+        return match words.get_str(ONLY) {
+            None => Ok(Choice::All),
+            Some(names) => Ok(Choice::Named(names)),
         };
     }
     match (words.get_str(SHOW), words.get_flag(QUIET)) {

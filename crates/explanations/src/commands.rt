@@ -96,7 +96,7 @@ Exit status: 0 it ended, 1 it faulted, 2 it was refused, 3 it met the bound.
 Of a sweep 1 if a size faulted or was refused, or else 3 if one met the bound.
 ";
 
-pub(crate) const STEPS: [u8; 1461] = *b"pramc steps FILE: a run statement by statement.
+pub(crate) const STEPS: [u8; 1428] = *b"pramc steps FILE: a run statement by statement.
 
 It writes a line for each statement that ran: its number, its line in the text,
 how many processors ran it, and the cells that it changed. At a conflict it says
@@ -110,12 +110,11 @@ $ pramc steps examples/tree_sum.pram --input examples/tree_sum.in | sed -n 7p
 --columns           tells the column at which each statement begins too
 --html              makes a page that steps through the run, forward and back
 --flow              draws which cells the values of cells come from, as SVG
---only NAMES        draws the flow between these declarations alone, as a,b
+--only NAMES        tells of these cells and variables alone, as a,m
 --svg               draws the run, as SVG
 --bound N           the most statements that are run, else 1000000
 --seconds S         ends a long run in about S seconds, and says where
---input FILE        the values of the first cells
---memory FILE       values of cells by their names
+--input FILE        values of the first cells; --memory FILE of named ones
 --random LO..HI     draws the values of all cells, by --seed S
 --size NAME=VALUE   another number for a size of the text, as n=16
 --format json       tells it to programs, as JSON

@@ -51,7 +51,7 @@ Limits: numbers of 64 bits, 16384 processors, 1048576 cells, 16384 tokens,
 8 shared reads in a statement, 64 levels of blocks and of expressions.
 ";
 
-pub(crate) const OPTIONS: [u8; 3611] = *b"The options, and which commands take them.
+pub(crate) const OPTIONS: [u8; 3603] = *b"The options, and which commands take them.
 
 All but explain:
 
@@ -111,7 +111,7 @@ What is written:
 --columns           tells where each statement begins on its line: steps
 --html              a page that steps through the run: steps
 --flow              a picture of the flow of data between cells: steps
---only NAMES        a flow between these declarations alone, as a,b: steps;
+--only NAMES        these cells and variables alone, as a,m: steps;
                     or compares these alone, as a,output: compare
 --time-at-most E    tells where FILE2 takes more time: compare
 --work-at-most E    or more work: compare

@@ -1,10 +1,13 @@
 // What is written of runs for a reader on a terminal. Each line is worked by hand from the statements of the program.
 
+use call_progress::Nobody;
+use memory_texts::Choice;
 use pram_check::check;
 use pram_syntax::{Buffer, parse};
 use std::alloc::Global;
-use step_journal::steps_of;
-use step_texts::{Detail, Manner, Telling, write_steps};
+use step_focus::Focus;
+use step_streams::stream_steps;
+use step_texts::{Detail, Manner, Telling};
 
 // A program, its input and bound, the first and the last entry that are asked for, and what is written.
 #[derive(Clone, Copy)]
@@ -65,33 +68,39 @@ const COLOURED: [Row; 2] = [
     },
 ];
 
-// Whether that is written of a row's run, plainly or on a terminal.
-fn is_written(alloc: Global, row: &Row, telling: &Telling<'_>) -> Option<bool> {
-    let tree = parse(alloc, row.text.as_bytes()).ok()?;
+// Whether that is written of a row's run, on a terminal.
+fn is_told_on_terminal(alloc: Global, row: &Row, colours: bool) -> Option<bool> {
+    let text = row.text.as_bytes();
+    let tree = parse(alloc, text).ok()?;
     let program = check(alloc, tree).ok()?;
-    let (_outcome, entries) = steps_of(alloc, &program, row.input, row.bound).ok()?;
+    let telling = Telling {
+        manner: Manner::OnTerminal { text, colours },
+        detail: Detail {
+            locals: None,
+            columns: None,
+        },
+        focus: Focus {
+            names: Choice::All,
+            layout: program.layout(),
+            tree: program.tree(),
+            at_faults: false,
+        },
+    };
+    let (first, last) = (row.first, row.last);
     let mut out = Buffer::new(alloc);
-    write_steps(
+    stream_steps(
+        alloc,
+        &program,
+        row.input,
+        row.bound,
+        &telling,
+        first,
+        last,
+        &mut Nobody,
         &mut out,
-        program.layout(),
-        telling,
-        &entries,
-        row.first,
-        row.last,
     )
     .ok()?;
     Some(out.bytes() == row.told.as_bytes())
-}
-
-fn is_told_on_terminal(alloc: Global, row: &Row, colours: bool) -> Option<bool> {
-    let text = row.text.as_bytes();
-    let detail = Detail {
-        locals: None,
-        columns: None,
-    };
-    let manner = Manner::OnTerminal { text, colours };
-    let telling = Telling { manner, detail };
-    is_written(alloc, row, &telling)
 }
 
 #[test]

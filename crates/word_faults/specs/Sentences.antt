@@ -45,7 +45,7 @@ wanted given.Size = codes "NAME=VALUE, once for each size that the program decla
 wanted given.Sweep = codes "NAME=SIZES for a size that the program declares, 1 to 1000 of them, as n=4,8,16 or n=4..64*2 or n=10..50+10"
 wanted given.Format = codes "text or json, or csv with --sweep, or gnu with check"
 wanted given.Show = codes "names of shared declarations of the program, as a,b"
-wanted given.Only = codes "names of shared declarations of the program, as a,b, and with compare of both programs, or output"
+wanted given.Only = codes "names that the program declares, as a,b: of cells alone with --flow and compare, and with compare of both programs, or output"
 wanted given.Bsp = codes "G,L, two numbers from 0 to 4294967295"
 wanted given.Subject = codes "a refusal, as E6, a fault, as read-conflict, a command, language or options"
 
@@ -80,7 +80,7 @@ option_sentence word =
     else if same_text word (codes "--schedule") then codes "`--schedule` doesn't go with `--sweep`\n"
     else if same_text word (codes "--lines") then codes "`--lines` doesn't go with `--sweep`\n"
     else if same_text word (codes "--seconds") then codes "`--seconds` doesn't go with `--sweep`\n"
-    else if same_text word (codes "--only") then codes "`--only` goes with `--flow` alone\n"
+    else if same_text word (codes "--only") then codes "`--only` goes with neither `--svg` nor `--html` nor another `--format` than text\n"
     else command_sentence word
 
 -- what is said of a word, by the option that doesn't take it, if there is one

@@ -77,7 +77,7 @@ fn wanted(given: Given) -> &'static [u8]
         Given::Format => b"text or json, or csv with --sweep, or gnu with check",
         Given::Show => b"names of shared declarations of the program, as a,b",
         Given::Only => {
-            b"names of shared declarations of the program, as a,b, and with compare of both programs, or output"
+            b"names that the program declares, as a,b: of cells alone with --flow and compare, and with compare of both programs, or output"
         }
         Given::Bsp => b"G,L, two numbers from 0 to 4294967295",
         Given::Subject => {
@@ -154,7 +154,7 @@ fn option_sentence(word: &[u8]) -> &'static [u8]
     } else if is_same(word, b"--seconds") {
         b"`--seconds` doesn't go with `--sweep`\n"
     } else if is_same(word, b"--only") {
-        b"`--only` goes with `--flow` alone\n"
+        b"`--only` goes with neither `--svg` nor `--html` nor another `--format` than text\n"
     } else {
         command_sentence(word)
     }

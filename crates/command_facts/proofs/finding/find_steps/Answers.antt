@@ -21,6 +21,7 @@ returns-clause-found g c = record {
   given = c.in_ok-loaded.ensures.input;
   made = c.made-words.ensures;
   there = c.in_ok-loaded.ensures.there;
+  named = c.in_ok-loaded.ensures.named;
   fits = fits_by _ _ _ _ (c.len-values.ensures ∙ c.in_ok-loaded.input.ok.0) (c.cells-cells.ensures.total ∙ ap total_size c.layout.ensures)
       c.if-values-cells.false;
 }
