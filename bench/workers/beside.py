@@ -1,4 +1,5 @@
-"""Times runs by workers in threads beside the definition and the interpreter, and what a run, a reserve and an exchange cost."""
+"""Times runs by workers in threads beside the definition, the interpreter and loops written by hand, and what a run, a reserve and an
+exchange cost."""
 
 import os
 import platform
@@ -6,9 +7,11 @@ import subprocess
 import sys
 import time
 
-PRAMC, PEER, PROGRAMS, WORK = sys.argv[1:]
+PRAMC, PEER, PLAIN, CHECKED, PROGRAMS, WORK = sys.argv[1:]
 BOUND = ["--bound", "100000000"]
 REPEATS = 5
+# How often loops written by hand run in a call, of which one alone takes about as long as a process starts.
+TIMES = 20
 WORKERS = [1, 2, 4]
 TURNS = 20000
 
@@ -31,12 +34,25 @@ def seconds(words):
     return time.perf_counter() - start
 
 
+def times_of(calls, repeats=REPEATS):
+    """The times of each call, in order, where they are made by turns."""
+    rounds = [[seconds(words) for words in calls] for _ in range(repeats)]
+    return [sorted(times) for times in zip(*rounds)]
+
+
 def fastest(calls, repeats=REPEATS):
-    """The least time of each call, where they are made by turns."""
-    best = [float("inf")] * len(calls)
-    for _ in range(repeats):
-        best = [min(old, seconds(words)) for old, words in zip(best, calls)]
-    return best
+    """The least time of each call."""
+    return [times[0] for times in times_of(calls, repeats)]
+
+
+def threads(number, words):
+    return ["env", f"OMP_NUM_THREADS={number}", "TSAN_OPTIONS=report_bugs=0", *words]
+
+
+def by_hand(program, name, number):
+    """The time of the loops, by so many threads."""
+    many, one = fastest([threads(number, [program, name, str(times)]) for times in [TIMES + 1, 1]])
+    return (many - one) / TIMES
 
 
 def file_of(name, text):
@@ -78,21 +94,34 @@ def reserved(path):
     return fastest([[*run(path, 4), "--reserve", f"10,{exchanges}"], run(path, 4)])
 
 
+# What each ratio is to be at most: one worker and four to the interpreter, four to four threads that a sanitizer watches for conflicts,
+# and one to one thread.
+AIMS = {
+    "jump": [0.6, 0.33, 1, 20],
+    "sums": [0.25, 0.09, 1, 20],
+    "local": [0.3, 0.12, 1, 6],
+    "uniform": [0.6, 0.7, 1, 6],
+}
+
+
 def programs(crossing):
-    for name in ["jump", "sums", "local", "uniform"]:
+    for name, aims in AIMS.items():
         path = f"{PROGRAMS}/{name}.pram"
         calls = [run(path, p) for p in WORKERS]
-        *ours, meaning, peer = fastest([*calls, [PRAMC, "meaning", path, *BOUND], [PEER, "run", path, *BOUND]])
-        times = ", ".join(f"{p} {took:.3f}" for p, took in zip(WORKERS, ours))
-        print(f"{name}: workers {times} s, meaning {meaning:.3f}, interpreter {peer:.3f}")
-        # the aim of a uniform program is that of one worker, since nothing of it is done side by side
-        share = 1 if name == "uniform" else 3
-        print(f"  of the interpreter's time: 1 worker {ours[0] / peer:.2f} (aim 1), 4 workers {ours[2] / peer:.2f} (aim {1 / share:.2f})")
-        if ours[0] > peer or ours[2] * share > peer:
+        *ours, meaning, peer = times_of([*calls, [PRAMC, "meaning", path, *BOUND], [PEER, "run", path, *BOUND]])
+        spread = ", ".join(f"{p} {times[0]:.3f} to {times[-1]:.3f}" for p, times in zip(WORKERS, ours))
+        print(f"{name}: workers {spread} s, meaning {meaning[0]:.3f}, interpreter {peer[0]:.3f} to {peer[-1]:.3f}")
+        one, four = ours[0][0], ours[-1][0]
+        plain, checked = by_hand(PLAIN, name, 1), by_hand(CHECKED, name, 4)
+        print(f"  by hand: 1 thread {plain:.4f} s, 4 threads with a sanitizer {checked:.4f}")
+        ratios = [one / peer[0], four / peer[0], four / checked, one / plain]
+        words = ["1 worker / interpreter", "4 workers / interpreter", "4 workers / 4 threads, sanitized", "1 worker / 1 thread"]
+        print("  " + "; ".join(f"{it} {ratio:.2f} (aim {aim})" for it, ratio, aim in zip(words, ratios, aims)))
+        if any(ratio > aim for ratio, aim in zip(ratios, aims)):
             for p in WORKERS:
-                exchanges, words = traffic(path, p)
+                exchanges, sent = traffic(path, p)
                 waits = exchanges * crossing[p] / 1e6
-                print(f"  {p} workers: {exchanges} exchanges, {words} words; as many exchanges without words take {waits:.3f} s")
+                print(f"  {p} workers: {exchanges} exchanges, {sent} words; as many exchanges without words take {waits:.3f} s")
         first, on_the_way = reserved(path)
         print(f"  4 workers with a reserve {first:.3f} s, without {on_the_way:.3f}")
 

@@ -1,6 +1,7 @@
 #!/usr/bin/env bash
-# Prints how long four programs take by 1, 2 and 4 workers in threads, beside the definition and a plain interpreter; how long a run
-# takes to start, an exchange without words, and twice as many processors. Each is the fastest of five, by turns. It asserts nothing.
+# Prints how long four programs take by 1, 2 and 4 workers in threads, beside the definition, a plain interpreter, and loops written by
+# hand, which a sanitizer watches or not; how long a run takes to start, an exchange without words, and twice as many processors. Each is
+# the fastest of five, by turns, or all of them. It asserts nothing.
 set -eu -o pipefail
 top=$(cd "$(dirname "$0")/../.." && pwd)
 work=$(mktemp -d)
@@ -8,4 +9,8 @@ trap 'rm -rf "$work"' EXIT
 make -C "$top" bin/pramc > "$work/log" 2>&1 || { tail -n 40 "$work/log"; exit 1; }
 cp -r "$top/bench/yardstick" "$work/"
 cargo build --quiet --release --offline --manifest-path "$work/yardstick/Cargo.toml"
-python3 "$(dirname "$0")/beside.py" "$top/bin/pramc" "$work/yardstick/target/release/peer" "$top/bench/yardstick" "$work"
+plain=$top/bench/yardstick/plain.c
+gcc -O3 -fopenmp -o "$work/plain" "$plain"
+gcc -O2 -g -fopenmp -fsanitize=thread -o "$work/checked" "$plain"
+python3 "$(dirname "$0")/beside.py" "$top/bin/pramc" "$work/yardstick/target/release/peer" "$work/plain" "$work/checked" \
+    "$top/bench/yardstick" "$work"
