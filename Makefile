@@ -58,10 +58,11 @@ wrong-bodies:
 SEED ?= 1
 COUNT ?= 500
 
-# Compares the program with the interpreter of gate/oracle on COUNT drawn programs and some changed texts and listings; what differs is kept
-# in bin/differs.
+# Compares the program with the interpreter of gate/oracle on COUNT drawn programs and some changed texts and listings, and all that it says
+# of drawn programs with one another; what differs is kept in bin/differs.
 fuzz: bin/pramc
 	python3 gate/oracle/compare.py bin/pramc --seed $(SEED) --count $(COUNT)
+	python3 gate/drawn_outputs.py bin/pramc --seed $(SEED) --count $(COUNT)
 
 # Uses the program as nobody should.
 hostile:

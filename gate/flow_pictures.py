@@ -14,7 +14,7 @@ import xml.etree.ElementTree as tree
 from concurrent.futures import ThreadPoolExecutor
 from pathlib import Path
 
-from gallery import EXAMPLES, programs
+from gallery import EXAMPLES, files
 
 PROGRAM = Path(sys.argv[1]).resolve()
 SVG = "{http://www.w3.org/2000/svg}"
@@ -28,7 +28,7 @@ LINE = re.compile(r"M(\d+) (\d+)L(\d+) (\d+)")
 
 def written(words):
     done = subprocess.run([PROGRAM, *words], capture_output=True, text=True, timeout=60)
-    if done.returncode not in (0, 1) or done.stderr:
+    if done.returncode not in (0, 1, 3) or done.stderr:
         sys.exit(f"pramc {' '.join(map(str, words))}: {done.returncode} {done.stderr}")
     return done.stdout
 
@@ -99,10 +99,10 @@ def labels(root, count):
     return [it.text for it in root.iter(f"{SVG}text") if it.get("x") == "12" and it.get("y") in rows]
 
 
-def wrong(name, _text):
-    """What is wrong with the picture of an example, if anything is."""
-    file, values = EXAMPLES / f"{name}.pram", EXAMPLES / f"{name}.in"
-    words = ["steps", file, "--input", values]
+def wrong(file, *more):
+    """What is wrong with the picture of a program's run on the input beside it, if anything is."""
+    values = file.with_suffix(".in")
+    words = ["steps", file, "--input", values, *more]
     entries = [it for it in map(json.loads, written([*words, "--format", "json"]).splitlines()) if "step" in it]
     names, columns = expected(entries, numbers(file), values.read_text().split())
     text = written([*words, "--flow"])
@@ -112,10 +112,10 @@ def wrong(name, _text):
     kinds = {it.tag.removeprefix(SVG) for it in root.iter()}
     checks = [labels(root, len(names)) == names, shown(root, names) == columns, all(any(it.startswith(one) for it in texts) for one in met)]
     checks += [kinds <= {"svg", "rect", "text", "path", "circle"}, root.get("version") == "1.1"]
-    if name in SHOWN:
-        checks.append((EXAMPLES / "flows" / f"{name}.svg").read_text() == text)
+    if file.parent == EXAMPLES and file.stem in SHOWN:
+        checks.append((EXAMPLES / "flows" / f"{file.stem}.svg").read_text() == text)
     other = [pair for pair in zip(columns, shown(root, names)) if pair[0] != pair[1]][:1]
-    return [] if all(checks) else [f"{name}: {checks} {other}"]
+    return [] if all(checks) else [f"{file.name}: {checks} {other}"]
 
 
 def main():
@@ -125,11 +125,12 @@ def main():
             words = ["steps", EXAMPLES / f"{name}.pram", "--input", EXAMPLES / f"{name}.in", "--flow"]
             (EXAMPLES / "flows" / f"{name}.svg").write_text(written(words))
     with ThreadPoolExecutor(4) as pool:
-        found = list(pool.map(lambda it: wrong(*it), programs()))
+        found = list(pool.map(wrong, files()))
     for it in sum(found, []):
         print(it)
     print(f"flows: {found.count([])} of {len(found)} runs are drawn as they are told")
     sys.exit(1 if any(found) else 0)
 
 
-main()
+if __name__ == "__main__":
+    main()

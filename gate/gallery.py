@@ -22,9 +22,13 @@ TABLES = re.compile(r"(<!-- by gate/gallery.py -->\n).*?(<!-- end -->\n)", re.S)
 HEAD = "| Program | Algorithm | Source | Rule, and why | Sizes | T | W | A conflict |\n|---|---|---|---|---|---|---|---|"
 
 
+def files():
+    return sorted(EXAMPLES.glob("*.pram"))
+
+
 def programs():
     """The name and the text of each example."""
-    return [(it.stem, it.read_text()) for it in sorted(EXAMPLES.glob("*.pram"))]
+    return [(it.stem, it.read_text()) for it in files()]
 
 
 def foot(text):

@@ -13,7 +13,7 @@ import xml.etree.ElementTree as tree
 from concurrent.futures import ThreadPoolExecutor
 from pathlib import Path
 
-from gallery import EXAMPLES, programs
+from gallery import files
 
 PROGRAM = Path(sys.argv[1]).resolve()
 SVG = "{http://www.w3.org/2000/svg}"
@@ -23,7 +23,7 @@ MOST_DRAWN = 200
 
 def written(words):
     done = subprocess.run([PROGRAM, *words], capture_output=True, text=True, timeout=60)
-    if done.returncode not in (0, 1) or done.stderr:
+    if done.returncode not in (0, 1, 3) or done.stderr:
         sys.exit(f"pramc {' '.join(map(str, words))}: {done.returncode} {done.stderr}")
     return done.stdout
 
@@ -69,9 +69,9 @@ def column(k, kind, h, line, workers):
     return [str(k), kind, f"h {h}", *([f"line {line}"] if line else []), *map(str, range(workers))]
 
 
-def wrong(name, _text):
-    """What is wrong with the picture of an example, if anything is."""
-    words = [EXAMPLES / f"{name}.pram", "--input", EXAMPLES / f"{name}.in", "--workers", "3"]
+def wrong(file, *more):
+    """What is wrong with the picture of a program's run on the input beside it, if anything is."""
+    words = [file, "--input", file.with_suffix(".in"), "--workers", "3", *more]
     exchanges = traced(written(["trace", *words, "--lines"]))
     root = tree.fromstring(written(["trace", *words, "--svg"]))
     drawn = exchanges[:MOST_DRAWN]
@@ -86,16 +86,17 @@ def wrong(name, _text):
     known = {"svg", "rect", "line", "path", "g", "text", "title", "defs", "pattern"}
     checks = [texts[:-1] == said, list(bars(root)) == list(wanted(drawn, 168, 92)), kinds == known]
     checks += [int(root.get("width")) >= 180 + 92 * len(drawn), root.get("version") == "1.1"]
-    return [] if all(checks) else [f"{name}: {checks}"]
+    return [] if all(checks) else [f"{file.name}: {checks}"]
 
 
 def main():
     with ThreadPoolExecutor(4) as pool:
-        found = list(pool.map(lambda it: wrong(*it), programs()))
+        found = list(pool.map(wrong, files()))
     for it in sum(found, []):
         print(it)
     print(f"pictures: {found.count([])} of {len(found)} traces are drawn as they are written")
     sys.exit(1 if any(found) else 0)
 
 
-main()
+if __name__ == "__main__":
+    main()

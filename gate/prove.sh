@@ -15,6 +15,7 @@ rt ci | tee "$work/log"
 program=$top/crates/command_main/out/command_main
 bash gate/examples.sh "$program"
 python3 gate/oracle/compare.py "$program"
+python3 gate/drawn_outputs.py "$program"
 bash gate/dist_test.sh "$program"
 bash gate/hostile.sh "$program"
 python3 gate/memory_table.py "$program"

@@ -12,7 +12,7 @@ import xml.etree.ElementTree as tree
 from concurrent.futures import ThreadPoolExecutor
 from pathlib import Path
 
-from gallery import EXAMPLES, programs
+from gallery import files
 
 PROGRAM = Path(sys.argv[1]).resolve()
 SVG = "{http://www.w3.org/2000/svg}"
@@ -25,7 +25,7 @@ LEFT, WIDE, TALL, PAGE = 160, 64, 20, 1200
 
 def written(words):
     done = subprocess.run([PROGRAM, *words], capture_output=True, text=True, timeout=60)
-    if done.returncode not in (0, 1) or done.stderr:
+    if done.returncode not in (0, 1, 3) or done.stderr:
         sys.exit(f"pramc {' '.join(map(str, words))}: {done.returncode} {done.stderr}")
     return done.stdout
 
@@ -51,12 +51,12 @@ def code(line):
     return [line[:LETTERS], *([more if len(more) <= LETTERS else more[:LETTERS - 2] + ".."] if more else [])]
 
 
-def wrong(name, text):
-    """What is wrong with the picture of an example, if anything is."""
-    words = ["steps", EXAMPLES / f"{name}.pram", "--input", EXAMPLES / f"{name}.in"]
+def wrong(file, *more):
+    """What is wrong with the picture of a program's run on the input beside it, if anything is."""
+    words = ["steps", file, "--input", file.with_suffix(".in"), *more]
     entries = list(told(written(words)))
     root = tree.fromstring(written([*words, "--svg"]))
-    lines = (EXAMPLES / f"{name}.pram").read_text().split("\n")
+    lines = file.read_text().split("\n")
     cut = len(entries) > MOST_DRAWN
     drawn = entries[:FIRST] + entries[-LAST:] if cut else entries
     texts = [it for it in root.iter(f"{SVG}text") if not it.get("transform")]
@@ -87,16 +87,17 @@ def wrong(name, text):
     checks += [behind == [*([fault] if fault else []), *([f"met: processors {' '.join(met[:NAMED])}{rest}"] if met else [])]]
     kinds = {it.tag.removeprefix(SVG) for it in root.iter()}
     checks += [kinds <= {"svg", "rect", "text", "title"}, int(root.get("width")) <= PAGE, root.get("version") == "1.1"]
-    return [] if all(checks) else [f"{name}: {checks}"]
+    return [] if all(checks) else [f"{file.name}: {checks}"]
 
 
 def main():
     with ThreadPoolExecutor(4) as pool:
-        found = list(pool.map(lambda it: wrong(*it), programs()))
+        found = list(pool.map(wrong, files()))
     for it in sum(found, []):
         print(it)
     print(f"step pictures: {found.count([])} of {len(found)} runs are drawn as they are told")
     sys.exit(1 if any(found) else 0)
 
 
-main()
+if __name__ == "__main__":
+    main()

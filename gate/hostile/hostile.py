@@ -1,18 +1,24 @@
-"""Uses the program as nobody should, and looks at what it says: memory, threads and writes that are refused, broken texts, long runs.
+"""Uses the program as nobody should, and looks at what it says: memory, threads and writes that are refused, broken texts, blocks that end
+at pages which can't be touched, long runs, and runs that are stopped, crowded, or all on one core.
 
-hostile.py PROGRAM STUB INPUTS FOLDER: the stub is refuse.c as a library, the folder is for files in between.
+hostile.py PROGRAM STUB GUARD INPUTS FOLDER: the stub is refuse.c as a library, the guard is guard.c, the folder is for files in between.
 """
 
 import itertools
 import os
+import random
 import re
+import signal
 import subprocess
 import sys
 import threading
+import time
 from concurrent.futures import ThreadPoolExecutor
 from pathlib import Path
 
-PROGRAM, STUB, INPUTS, FOLDER = sys.argv[1], sys.argv[2], Path(sys.argv[3]), Path(sys.argv[4])
+PROGRAM, STUB, GUARD = sys.argv[1:4]
+INPUTS, FOLDER = map(Path, sys.argv[4:])
+EXAMPLES = Path(__file__).resolve().parent.parent.parent / "examples"
 LONGEST = 60  # seconds of one call, far more than it takes
 EVERY = 20  # of the changes of a text by one byte
 WORKERS = 3
@@ -59,16 +65,19 @@ def own_file(name):
     return own.folder / name
 
 
-def call(words, **refused):
+def run(words, env=None, before=()):
     """What a call gives: its exit status and what it wrote to both streams."""
-    env = {name: str(value) for name, value in refused.items()}
-    if refused:
-        env["LD_PRELOAD"] = STUB
     try:
-        ran = subprocess.run([PROGRAM, *map(str, words)], env=env, capture_output=True, timeout=LONGEST)
+        ran = subprocess.run([*before, PROGRAM, *map(str, words)], env=env or {}, capture_output=True, timeout=LONGEST)
     except subprocess.TimeoutExpired:
-        raise Wrong(f"{words} with {refused} doesn't end") from None
+        raise Wrong(f"{words} with {env} doesn't end") from None
     return ran.returncode, ran.stdout, ran.stderr
+
+
+def call(words, **refused):
+    """The same of a call of which one is refused."""
+    env = {name: str(value) for name, value in refused.items()}
+    return run(words, {**env, "LD_PRELOAD": STUB} if refused else {})
 
 
 def tallied(words, **refused):
@@ -218,18 +227,61 @@ def streams():
     return f"{count} writes fail in turn, just where they were refused"
 
 
+# ---- blocks behind which nothing can be touched
+
+
+def guard_one(words):
+    """A call does the same where each block has pages of its own."""
+    given, expected = run(words, {"LD_PRELOAD": GUARD}), run(words)
+    if given != expected:
+        raise Wrong(f"{words} with guards: {given[0]} {given[2]}, and else {expected[0]} {expected[2]}")
+
+
+def guarded_calls():
+    for program in [*sorted((INPUTS / "rows").glob("*.pram")), *sorted(EXAMPLES.glob("*.pram"))]:
+        given = [program, "--input", program.with_suffix(".in"), "--bound", "400"]
+        for verb in (["meaning"], ["cost", "--lines"], ["rules"], ["run", "--workers", WORKERS], ["trace", "--workers", 2, "--svg"]):
+            yield [*verb, *given]
+        for form in (["--locals"], ["--format", "json"], ["--svg"], ["--flow"], ["--html"], ["--explain"]):
+            yield ["steps", *given, *form]
+        yield from ([verb, program] for verb in ("plan", "export"))
+    changed = INPUTS / "changed.pram"
+    for number, text in enumerate(broken(changed.read_bytes())):
+        if number % EVERY == 0:
+            file = FOLDER / f"guarded_{number}"
+            file.write_bytes(text)
+            yield ["check", file, "--explain"]
+
+
+def guards():
+    count = all_of(guard_one, ([it] for it in guarded_calls()))
+    return f"{count} calls come to the same where nothing behind a block, or in one that was given back, can be touched"
+
+
 # ---- long runs
+
+
+def long_file(turns):
+    file = own_file(f"long_{turns}")
+    file.write_text(LONG.format(turns))
+    return file
+
+
+def long_outcome(turns):
+    return "ended\ns[1..32] = " + " ".join(str(turns * i) for i in range(1, 33)) + "\n"
+
+
+def come_through(workers, turns, before=()):
+    """So many workers exchange once a turn, and come to what the last turn writes."""
+    given = run(["run", long_file(turns), "--workers", workers], before=before)
+    if given != (0, long_outcome(turns).encode(), b""):
+        raise Wrong(f"{workers} workers {' '.join(before)}: {given}")
 
 
 def come_to_one(workers, turns, times):
     """So many workers exchange once a turn, so often, and always come to what the last turn writes."""
-    file = own_file("long")
-    file.write_text(LONG.format(turns))
-    expected = "ended\ns[1..32] = " + " ".join(str(turns * i) for i in range(1, 33)) + "\n"
     for _ in range(times):
-        given = call(["run", file, "--workers", workers])
-        if given != (0, expected.encode(), b""):
-            raise Wrong(f"{workers} workers: {given}")
+        come_through(workers, turns)
 
 
 def long_runs():
@@ -238,8 +290,51 @@ def long_runs():
     return "4 workers come through 10,000 exchanges to one answer, twenty times, and 32 through 20,000, ten times"
 
 
+# ---- runs that have to share, and runs that are stopped
+
+
+def crowds():
+    """All workers on one core, and more processes at once than there are cores."""
+    core = ["taskset", "-c", str(min(os.sched_getaffinity(0)))]
+    for workers in (2, 4, 32):
+        come_through(workers, 2000, core)
+    with ThreadPoolExecutor(32) as pool:
+        for _ in pool.map(lambda workers: come_through(workers, 2000), [4] * 24 + [32] * 8):
+            pass
+    return "2, 4 and 32 workers on one core come through 2,000 exchanges, and so do those of 32 processes at once"
+
+
+def stop_and_go(pick, turns):
+    """A run that is stopped and let go on again and again."""
+    output = own_file("stopped")
+    with output.open("wb") as out:
+        going = subprocess.Popen([PROGRAM, "run", str(long_file(turns)), "--workers", "4"], env={}, stdout=out)
+        stops = 0
+        until = time.monotonic() + LONGEST
+        while going.poll() is None and time.monotonic() < until:
+            time.sleep(pick.random() / 200)
+            going.send_signal(signal.SIGSTOP)
+            time.sleep(pick.random() / 500)
+            going.send_signal(signal.SIGCONT)
+            stops += 1
+        if going.poll() is None:
+            going.kill()
+            raise Wrong("a run that is stopped and let go on doesn't end")
+    if (going.returncode, output.read_text()) != (0, long_outcome(turns)):
+        raise Wrong(f"a run that is stopped and let go on: {going.returncode} {output.read_text()}")
+    return stops
+
+
+def stops():
+    pick = random.Random(1)
+    count = sum(stop_and_go(pick, 20000) for _ in range(10))
+    if count < 20:
+        raise Wrong(f"runs are over before they are stopped, but for {count} times")
+    return "ten runs by 4 workers come to one answer that are stopped and let go on all the time"
+
+
 def main():
-    for part in [memory, texts, streams, long_runs]:
+    for part in [memory, texts, streams, guards, long_runs, crowds, stops]:
         print(f"as it must be: {part()}", flush=True)
 
 
