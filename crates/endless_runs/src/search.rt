@@ -21,15 +21,6 @@ use pram_meaning::silent::Silent;
 use pram_tokens::Location;
 use pram_values::is_true;
 
-// A clock is looked at behind so many statements.
-const STRIDE: u32 = 16;
-
-fn look<V: Watch>(watch: &mut V, statements: u32) {
-    if statements % STRIDE == 0 {
-        watch.ran(statements);
-    }
-}
-
 /// Who searches a run.
 #[derive(Clone, Copy)]
 pub(crate) struct Search<'a> {
@@ -167,7 +158,7 @@ impl<'a> Search<'a> {
         ensures within { OnOk result (run.new.count ≤ self.now.interpreter.bound) }
     {
         for s in body {
-            look(watch, run.count);
+            watch.ran(run.count);
             if let Err(stop) = self.search_statement(run, watch, s) {
                 return Err(stop);
             }
