@@ -236,11 +236,11 @@ fn find_of<'a, R: Threads + Wait + Sync, S: Sources, V: Watch + Gate + Sync>(
 /// What a call finds, before anything is written of it.
 ///
 /// A refusal is judged in this order: of a program the words that give sizes (P1), its file and its text as it stands (P2, E2, E1), its
-/// sizes (E19, P1 for one that the text doesn't declare, E2), and what it comes to by them (E3 to E10); of a listing P2, E2, E15, E14; a name
-/// that is to be shown or told and isn't declared (P1); the input's file and its text (P2, E1 to E3), or a memory's, of which also a name that isn't
-/// declared (E6) and too many values (E11) are told; the number of workers (E13), the map (E12), and the number of the input's values (E11); and with
-/// a reserve whether the run comes past it (E18). E16 comes where memory was refused. A run that is told statement by statement is judged
-/// so and not yet run: who tells it runs it.
+/// sizes (E19, P1 for one that the text doesn't declare, E2), and what it comes to by them (E3 to E10); of a listing P2, E2, E15, E14; a
+/// name that is to be shown or told and isn't declared (P1); the input's file and its text (P2, E1 to E3), or a memory's, of which also a
+/// name that isn't declared (E6) and too many values (E11) are told; the number of workers (E13), the map (E12), and the number of the
+/// input's values (E11); and with a reserve whether the run comes past it (E18). E16 comes where memory was refused. A run that is told
+/// statement by statement is judged so and not yet run: who tells it runs it.
 pub fn find<'a, R: Threads + Wait + Sync, S: Sources, V: Watch + Gate + Sync>(
     rt: &R,
     alloc: Global,

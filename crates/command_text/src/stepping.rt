@@ -313,9 +313,8 @@ fn write_picture_behind<'a, 'b, V: Watch, O: Out>(
 /// Runs a program and tells it statement by statement, in words as it runs, drawn, or as a page; and answers the run with what it came to.
 ///
 /// In words a line is written as soon as its statement has run, and none is kept; of a picture those statements are kept that are asked
-/// for; of a page no more than the lines that could stand in it; of the flow of data the statements that are drawn. The watch is told how far the
-/// run is. E17 where the writer
-/// failed, E16 where memory was refused.
+/// for; of a page no more than the lines that could stand in it; of the flow of data the statements that are drawn. The watch is told how
+/// far the run is. E17 where the writer failed, E16 where memory was refused.
 pub(crate) fn write_stepped<'a, 'b, V: Watch, O: Out>(
     alloc: Global,
     on: Terminal,

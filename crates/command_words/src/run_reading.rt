@@ -80,19 +80,19 @@ fn cost_words<'a>(words: &ArgMatches<'a>) -> Result<CostWords, Stop<'a>>
     })
 }
 
-// Whether a run is told in another way than words, or as a flow.
-fn is_told_whole(words: &ArgMatches<'_>) -> bool {
+// Whether all of a run is told: as a picture, as a page or as JSON.
+fn tells_of_all(words: &ArgMatches<'_>) -> bool {
     words.get_flag(SVG) || words.get_flag(HTML) || words.get_str(FORMAT) == Some("json")
 }
 
-// The names that alone are told of a run in words. Those of a flow are names of what is drawn.
+// The names of which alone a run in words tells. Those of a flow say what is drawn (`choice_of`).
 fn only_of<'a>(words: &ArgMatches<'a>) -> Result<Choice<'a>, Stop<'a>>
     ensures { IfErr result IsOfWords }
 {
     match words.get_str(ONLY) {
         None => Ok(Choice::All),
         Some(_) if words.get_flag(FLOW) => Ok(Choice::All),
-        Some(_) if is_told_whole(words) => Err(Stop::Number("--only")),
+        Some(_) if tells_of_all(words) => Err(Stop::Number("--only")),
         Some(names) => Ok(Choice::Named(names)),
     }
 }

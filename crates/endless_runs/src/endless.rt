@@ -15,8 +15,9 @@ use std::alloc::Global;
 
 /// A loop outside pardo that comes back, on an input, to the state that it had: then the run never ends, and its outcome is within every
 /// bound that it goes on. `bound` statements are searched at most, by running them; two states of a loop are compared by its cells and its
-/// uniform variables, of which one is kept each time that the loop has run twice as many statements. The watch is told how far the search is. None where nothing is known: there is
-/// no such loop or it comes later, the run ends or faults, there are more values than cells, or memory was refused.
+/// uniform variables, of which one is kept each time that the loop has run twice as many statements. The watch is told how far the search
+/// is. None where nothing is known: there is no such loop or it comes later, the run ends or faults, there are more values than cells, or
+/// memory was refused.
 pub fn find_cycle<V: Watch>(
     alloc: Global,
     program: &Program,

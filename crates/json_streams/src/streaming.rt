@@ -50,9 +50,10 @@ fn run_into<'a, W: Out, V: Watch>(
 }
 
 /// Runs a program on an input, for at most `bound` statements, and writes each entry whose number, counted from 1, goes from `first` to
-/// `last` as soon as its statement has run, as a line of JSON, as [`json_texts::json_steps`] makes them of entries that are kept. No entry is
-/// kept, and a line no longer than it takes to write it: beside the run it takes the memory of one statement. Behind `last` no more entries
-/// are made, and the run goes on to its outcome; the watch is told how far it is. `source` is the text that was read as the program, in which statements have their columns.
+/// `last` as soon as its statement has run, as a line of JSON, as [`json_texts::json_steps`] makes them of entries that are kept. No entry
+/// is kept, and a line no longer than it takes to write it: beside the run it takes the memory of one statement. Behind `last` no more
+/// entries are made, and the run goes on to its outcome; the watch is told how far it is. `source` is the text that was read as the
+/// program, in which statements have their columns.
 ///
 /// E11 where there are more values than cells, and then nothing is written; E17 where the writer failed, which ends the run; E16 only where
 /// memory was refused, behind the lines of the statements before.

@@ -71,8 +71,9 @@ fn tell_fitting<T: Teller + Drop, V: Watch>(
 }
 
 /// Runs a program on an input, for at most `bound` statements, as [`pram_meaning::reference_run`] does, and tells each statement to the
-/// teller as the run goes; entry k, counted from 1, is the k-th statement that ran. The watch is told how far the run is, and the teller comes
-/// back with what it came to. E11 where there are more values than cells, and then nothing is told; E16 where memory was refused or the teller broke off.
+/// teller as the run goes; entry k, counted from 1, is the k-th statement that ran. The watch is told how far the run is, and the teller
+/// comes back with what it came to. E11 where there are more values than cells, and then nothing is told; E16 where memory was refused or
+/// the teller broke off.
 pub fn tell_run<T: Teller + Drop, V: Watch>(
     alloc: Global,
     program: &Program,

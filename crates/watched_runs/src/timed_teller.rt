@@ -7,7 +7,8 @@ use std::alloc::AllocError;
 use step_entries::Entry;
 use step_journal::Teller;
 
-/// Counts the entries of a run, tells a watch how many there are, and breaks off when time is over. None passes unmade, since making them takes most of a telling's time.
+/// Counts the entries of a run, tells a watch how many there are, and breaks off when time is over. None passes unmade, since making them
+/// takes most of a telling's time.
 #[derive(Drop)]
 pub(crate) struct TimedTeller<'w, V: Watch> {
     pub(crate) watch: &'w mut V,
