@@ -1,7 +1,10 @@
 //! The program `pramc`, over the system's files and streams.
 #![tactic(auto)]
 
-use pramc::{CommandLine, ErrorStream, ProgressLine, Terminal, command};
+use command_line::command;
+use command_text::Terminal;
+use command_words::CommandLine;
+use progress_lines::{ErrorStream, ProgressLine};
 use std::io::{IsTerminal, Print};
 use std::process::ExitCode;
 use std::{env, io};
