@@ -46,7 +46,6 @@ fn add_write(writes: &mut Vec<Access>, x: &Part) -> Result<(), AllocError>
 }
 
 /// The writes of a statement.
-#[tactic(auto, using(crate::proofs::Folds::build_starts, crate::proofs::Folds::build_goes, crate::proofs::Folds::build_ends))]
 pub fn collect_writes(alloc: Global, parts: &[Part]) -> Result<Vec<Access>, AllocError>
     ensures { IfOk result (λ writes. writes.items ≡ writes_made (map part_is parts.now)) }
 {
@@ -77,7 +76,6 @@ fn add_read(reads: &mut Vec<Access>, at: usize, x: &Part) -> Result<(), AllocErr
 }
 
 /// The reads of a statement at the position after `at`.
-#[tactic(auto, using(crate::proofs::Folds::build_starts, crate::proofs::Folds::build_goes, crate::proofs::Folds::build_ends, crate::proofs::Trails::trail_is))]
 pub fn collect_reads(alloc: Global, parts: &[Part], at: usize) -> Result<Vec<Access>, AllocError>
     ensures { IfOk result (λ reads. reads.items ≡ reads_at at (map part_is parts.now)) }
 {
@@ -89,7 +87,6 @@ pub fn collect_reads(alloc: Global, parts: &[Part], at: usize) -> Result<Vec<Acc
 }
 
 /// The last position that a processor has come to.
-#[tactic(auto, using(crate::proofs::Columns::longest_starts, crate::proofs::Columns::longest_goes, crate::proofs::Columns::longest_ends))]
 pub fn last_position(parts: &[Part]) -> usize
     ensures { result ≡ spec.last_position (map part_is parts.now) }
 {

@@ -144,7 +144,6 @@ impl<'a> Interpreter<'a> {
     }
 
     /// The value of an expression.
-    #[tactic(auto, using(crate::proofs::Telling::waits, crate::proofs::Halts::halts, crate::proofs::AloneMoments::value_goes, crate::proofs::AloneMoments::value_fails, crate::proofs::AloneMoments::told_goes, crate::proofs::AloneMoments::told_fails))]
     pub fn run_value<H: Listener>(
         &self,
         run: &mut Run,
@@ -177,7 +176,6 @@ impl<'a> Interpreter<'a> {
     }
 
     /// An assignment.
-    #[tactic(auto, using(crate::proofs::Telling::waits, crate::proofs::Halts::halts, crate::proofs::AloneMoments::value_goes, crate::proofs::AloneMoments::value_fails, crate::proofs::AloneMoments::told_goes, crate::proofs::AloneMoments::told_fails))]
     pub fn assign<H: Listener>(
         &self,
         run: &mut Run,
@@ -211,7 +209,6 @@ impl<'a> Interpreter<'a> {
     }
 
     /// The bounds of a `for`, the low one first.
-    #[tactic(auto, using(crate::proofs::Telling::waits, crate::proofs::Halts::halts, crate::proofs::AloneMoments::value_goes, crate::proofs::AloneMoments::value_fails, crate::proofs::AloneMoments::told_goes, crate::proofs::AloneMoments::told_fails))]
     pub fn run_bounds<H: Listener>(
         &self,
         run: &mut Run,
@@ -248,7 +245,6 @@ impl<'a> Interpreter<'a> {
     }
 
     /// The first index of a pardo, and how many there are.
-    #[tactic(auto, using(crate::proofs::Telling::waits, crate::proofs::Halts::halts, crate::proofs::AloneMoments::value_goes, crate::proofs::AloneMoments::value_fails, crate::proofs::AloneMoments::told_goes, crate::proofs::AloneMoments::told_fails))]
     pub fn run_range<H: Listener>(
         &self,
         run: &mut Run,

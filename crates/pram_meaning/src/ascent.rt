@@ -50,7 +50,6 @@ fn cell_written(x: &Part) -> Option<u32>
 }
 
 /// Whether the cells ascend that are read at the position after `at`.
-#[tactic(auto, using(crate::proofs::Ascents::ascent_starts, crate::proofs::Ascents::reads_go, crate::proofs::Ascents::reads_end))]
 pub fn reads_ascend(parts: &[Part], at: usize) -> bool
     ensures { IsTrue result → AscendFrom 0 (reads_at at (map part_is parts.now)) }
 {
@@ -65,7 +64,6 @@ pub fn reads_ascend(parts: &[Part], at: usize) -> bool
 }
 
 // Whether the cells ascend that are written.
-#[tactic(auto, using(crate::proofs::Ascents::ascent_starts, crate::proofs::Ascents::writes_go, crate::proofs::Ascents::writes_end))]
 fn writes_ascend(parts: &[Part]) -> bool
     ensures { IsTrue result → AscendFrom 0 (writes_made (map part_is parts.now)) }
 {

@@ -61,7 +61,6 @@ fn read_cell(view: &View, cell: Option<u32>, trail: &mut Vec<Option<u32>>) -> Re
 }
 
 /// The value of an expression, from the positions gone through on.
-#[tactic(auto, using(crate::proofs::Links::chain_starts, crate::proofs::Links::link_fails, crate::proofs::Links::link_done, crate::proofs::Links::link_stops, crate::proofs::Links::links_end))]
 pub fn value_of(view: &View, e: &Expression, trail: &mut Vec<Option<u32>>) -> Result<i64, Failure>
     ensures { IsAttempt result trail.new.items (attempt (view_is view.now) e.now trail.old.items) }
 {

@@ -55,7 +55,6 @@ fn add_fault(best: Option<Key>, x: &Part) -> Option<Key>
 }
 
 // The least key of the processors' own faults.
-#[tactic(auto, using(crate::proofs::Folds::fold_goes, crate::proofs::Folds::fold_ends, crate::proofs::Folds::fold_starts))]
 fn add_faults(best: Option<Key>, parts: &[Part]) -> Option<Key>
     ensures { result ≡ fold lesser best (flat_map (λ x. fault_of x.processor x.attempt) (map part_is parts.now)) }
 {
@@ -95,7 +94,6 @@ fn add_conflict(best: Option<Key>, said: &Judged) -> Option<Key>
 
 // The least key of the read conflicts at the position after `at`, as the slate has them. A cell's readers have their
 // index in common just where there is one of them.
-#[tactic(auto, using(crate::proofs::Folds::each_goes, crate::proofs::Folds::each_starts, crate::proofs::Folds::each_ends))]
 fn add_shared_at(
     alloc: Global,
     slate: &mut Slate,
@@ -169,7 +167,6 @@ fn add_verdict(best: Option<Key>, said: &Judged) -> Option<Key>
 }
 
 // The least key of what the rule says against the writes, as the slate has them.
-#[tactic(auto, using(crate::proofs::Folds::each_goes, crate::proofs::Folds::each_starts, crate::proofs::Written::verdicts_end))]
 fn add_verdicts(
     alloc: Global,
     slate: &mut Slate,
@@ -212,7 +209,6 @@ fn shares(rule: Rule) -> bool
 }
 
 /// The least fault of a statement, if it has one.
-#[tactic(auto, using(crate::proofs::Trails::keys_are, crate::proofs::Trails::keys_are_shared))]
 pub fn least_key(
     alloc: Global,
     slate: &mut Slate,

@@ -20,7 +20,6 @@ use pram_tokens::Location;
 impl<'a> Interpreter<'a> {
     /// A statement of a set, with all that it holds.
     #[cycle(inside)]
-    #[tactic(auto, using(crate::proofs::SetBlocks::assign_arm, crate::proofs::SetBlocks::while_arm, crate::proofs::SetBlocks::if_halts, crate::proofs::SetBlocks::if_then_halts, crate::proofs::SetBlocks::if_goes, crate::proofs::HeardSetBlocks::assign_heard, crate::proofs::HeardSetBlocks::while_heard, crate::proofs::HeardSetBlocks::if_halts_heard, crate::proofs::HeardSetBlocks::if_then_halts_heard, crate::proofs::HeardSetBlocks::if_goes_heard))]
     fn run_step<H: Listener>(
         &self,
         run: &mut Run,
@@ -62,7 +61,6 @@ impl<'a> Interpreter<'a> {
     }
 
     #[cycle(inside)]
-    #[tactic(auto, using(crate::proofs::SetLoops::turns_start, crate::proofs::SetLoops::test_halts, crate::proofs::SetLoops::turns_end, crate::proofs::SetLoops::turn_halts, crate::proofs::SetLoops::turn_goes, crate::proofs::HeardSetLoops::heard_start, crate::proofs::HeardSetLoops::test_halts_heard, crate::proofs::HeardSetLoops::turns_end_heard, crate::proofs::HeardSetLoops::turn_halts_heard, crate::proofs::HeardSetLoops::turn_goes_heard))]
     fn run_while_on<H: Listener>(
         &self,
         run: &mut Run,
@@ -98,7 +96,6 @@ impl<'a> Interpreter<'a> {
 
     /// The statements of a block, in order.
     #[cycle(inside)]
-    #[tactic(auto, using(crate::proofs::SetBlocks::block_starts, crate::proofs::SetBlocks::block_halts, crate::proofs::SetBlocks::block_goes, crate::proofs::SetBlocks::block_ends, crate::proofs::HeardSetBlocks::heard_starts, crate::proofs::HeardSetBlocks::heard_halts, crate::proofs::HeardSetBlocks::heard_goes, crate::proofs::HeardSetBlocks::heard_ends))]
     fn run_block_on<H: Listener>(
         &self,
         run: &mut Run,

@@ -51,7 +51,6 @@ fn tell_next<H: Listener>(
 
 impl<'a> Interpreter<'a> {
     // The test of a `while`.
-    #[tactic(auto, using(crate::proofs::Halts::halts, crate::proofs::Halts::then_is))]
     fn run_test<H: Listener>(
         &self,
         run: &mut Run,
@@ -71,7 +70,6 @@ impl<'a> Interpreter<'a> {
     }
 
     // The test of an `if`.
-    #[tactic(auto, using(crate::proofs::Halts::halts, crate::proofs::Halts::then_is))]
     fn run_choice<H: Listener>(
         &self,
         run: &mut Run,
@@ -89,7 +87,6 @@ impl<'a> Interpreter<'a> {
         Ok(is_true(value))
     }
 
-    #[tactic(auto, using(crate::proofs::Halts::halts, crate::proofs::Halts::then_is))]
     fn print<H: Listener>(
         &self,
         run: &mut Run,
@@ -110,7 +107,6 @@ impl<'a> Interpreter<'a> {
         Ok(())
     }
 
-    #[tactic(auto, using(crate::proofs::Halts::halts, crate::proofs::Halts::then_is, crate::proofs::Telling::first_halts, crate::proofs::Telling::first_goes))]
     fn run_pardo<H: Listener>(
         &self,
         run: &mut Run,
@@ -135,7 +131,6 @@ impl<'a> Interpreter<'a> {
 
     /// One statement outside pardo, with all that it holds.
     #[cycle(outside)]
-    #[tactic(auto, using(crate::proofs::Blocks::assign_arm, crate::proofs::Blocks::print_arm, crate::proofs::Blocks::while_arm, crate::proofs::Blocks::for_arm, crate::proofs::Blocks::pardo_arm, crate::proofs::Blocks::if_halts_arm, crate::proofs::Blocks::then_arm, crate::proofs::Blocks::else_arm, crate::proofs::HeardBlocks::assign_heard, crate::proofs::HeardBlocks::print_heard, crate::proofs::HeardBlocks::while_heard, crate::proofs::HeardBlocks::for_heard, crate::proofs::HeardBlocks::pardo_heard, crate::proofs::HeardBlocks::if_halts_heard, crate::proofs::HeardBlocks::then_heard, crate::proofs::HeardBlocks::else_heard))]
     pub fn run_statement<H: Listener>(
         &self,
         run: &mut Run,
@@ -190,7 +185,6 @@ impl<'a> Interpreter<'a> {
     }
 
     #[cycle(outside)]
-    #[tactic(auto, using(crate::proofs::Loops::turns_start, crate::proofs::Loops::test_halts, crate::proofs::Loops::turns_end, crate::proofs::Loops::turn_halts, crate::proofs::Loops::turn_goes, crate::proofs::HeardLoops::heard_start, crate::proofs::HeardLoops::test_halts_heard, crate::proofs::HeardLoops::turns_end_heard, crate::proofs::HeardLoops::turn_halts_heard, crate::proofs::HeardLoops::turn_goes_heard))]
     fn run_while<H: Listener>(
         &self,
         run: &mut Run,
@@ -216,7 +210,6 @@ impl<'a> Interpreter<'a> {
     }
 
     #[cycle(outside)]
-    #[tactic(auto, using(crate::proofs::Halts::halts, crate::proofs::Halts::then_is, crate::proofs::Telling::first_halts, crate::proofs::Telling::first_goes))]
     fn run_for<H: Listener>(
         &self,
         run: &mut Run,
@@ -243,7 +236,6 @@ impl<'a> Interpreter<'a> {
 
     // The turns of a `for`, one for each number.
     #[cycle(outside)]
-    #[tactic(auto, using(crate::proofs::ForLoops::turns_start, crate::proofs::ForLoops::no_turns, crate::proofs::ForLoops::setting_halts, crate::proofs::ForLoops::turn_halts, crate::proofs::ForLoops::turn_goes, crate::proofs::ForLoops::turns_end, crate::proofs::ForLoops::is_left, crate::proofs::HeardForLoops::heard_start, crate::proofs::HeardForLoops::heard_none, crate::proofs::HeardForLoops::setting_halts_heard, crate::proofs::HeardForLoops::turn_halts_heard, crate::proofs::HeardForLoops::turn_goes_heard, crate::proofs::HeardForLoops::turns_end_heard))]
     fn run_turns<H: Listener>(
         &self,
         run: &mut Run,
@@ -279,7 +271,6 @@ impl<'a> Interpreter<'a> {
 
     // A block that closes, however it came out. Who has given up is told no more.
     #[cycle(outside)]
-    #[tactic(auto, using(crate::proofs::Telling::closed_heard))]
     fn run_closed<H: Listener>(
         &self,
         run: &mut Run,
@@ -302,7 +293,6 @@ impl<'a> Interpreter<'a> {
 
     /// The statements of a block, in order.
     #[cycle(outside)]
-    #[tactic(auto, using(crate::proofs::Loops::block_starts, crate::proofs::Loops::block_halts, crate::proofs::Loops::block_goes, crate::proofs::Loops::block_ends, crate::proofs::HeardBlocks::heard_starts, crate::proofs::HeardBlocks::heard_halts, crate::proofs::HeardBlocks::heard_goes, crate::proofs::HeardBlocks::heard_ends))]
     fn run_block<H: Listener>(
         &self,
         run: &mut Run,
@@ -322,7 +312,6 @@ impl<'a> Interpreter<'a> {
     }
 
     /// The whole body of a program.
-    #[tactic(auto, using(crate::proofs::Loops::block_starts, crate::proofs::Loops::block_halts, crate::proofs::Loops::block_goes, crate::proofs::Loops::block_ends, crate::proofs::HeardBlocks::heard_starts, crate::proofs::HeardBlocks::heard_halts, crate::proofs::HeardBlocks::heard_goes, crate::proofs::HeardBlocks::heard_ends))]
     pub fn run_body<H: Listener>(&self, run: &mut Run, listener: &mut H) -> Result<(), Halt>
         ensures value { IsBehaviour result (state_of run.new) (perform_list self.now.program.now self.now.bound self.now.program.now.body
             (state_of run.old)) }

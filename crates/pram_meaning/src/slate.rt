@@ -40,7 +40,6 @@ fn index_of(cell: u32) -> usize
 impl Slate {
     /// A slate without writes, with a place for each of so many cells. A cell behind them gets its
     /// place when it is written first.
-    #[tactic(auto, using(crate::proofs::Gathers::new_slate))]
     pub fn new(alloc: Global, cells: u32) -> Result<Slate, AllocError>
         ensures { IfOk result (IsGathered []) }
     {
@@ -65,7 +64,6 @@ impl Slate {
     }
 
     // A cell gets the place behind all groups.
-    #[tactic(auto, using(crate::proofs::Marks::marked, crate::proofs::Marks::marked_behind))]
     fn mark(&mut self, cell: u32) -> Result<(), AllocError>
         ensures places { OnOk result (IsMarked cell (length self.old.groups.items) self.old.places.items self.new.places.items) }
         ensures groups { self.new.groups ≡ self.old.groups }
@@ -80,7 +78,6 @@ impl Slate {
     }
 
     // A group of one write.
-    #[tactic(auto, using(crate::proofs::Groups::group_opens))]
     fn open(&mut self, alloc: Global, access: &Access) -> Result<(), AllocError>
         requires { kept self.old access.now.cell ≡ [] }
         ensures { OnOk result (IsMore access.now.cell access.now.write self.old self.new) }
@@ -118,7 +115,6 @@ impl Slate {
     }
 
     // The writes of all accesses.
-    #[tactic(auto, using(crate::proofs::Gathers::gather_starts, crate::proofs::Gathers::gather_goes, crate::proofs::Gathers::gather_ends))]
     fn gather(&mut self, alloc: Global, all: &[Access]) -> Result<(), AllocError>
         ensures { OnOk result (IsGathered all.now self.new) }
     {
@@ -130,7 +126,6 @@ impl Slate {
     }
 
     // What the rule says to each group.
-    #[tactic(auto, using(crate::proofs::Gathers::settle_starts, crate::proofs::Gathers::settle_goes, crate::proofs::Gathers::settle_ends))]
     fn settle(&self, alloc: Global, rule: Rule) -> Result<Vec<Result<i64, Kind>>, AllocError>
         ensures { IfOk result (λ verdicts. verdicts.items ≡ map (λ g. written rule (pos 0) g.writes) (groups_of self.now)) }
     {
@@ -142,7 +137,6 @@ impl Slate {
     }
 
     // What the rule says to the writes to a cell.
-    #[tactic(auto, using(crate::proofs::Gathers::verdict_there, crate::proofs::Gathers::verdict_past, crate::proofs::Gathers::verdict_none))]
     fn verdict_on(&self, verdicts: &[Result<i64, Kind>], cell: u32) -> Result<i64, Kind>
         ensures { (rule : Rule) → verdicts.now ≡ map (λ g. written rule (pos 0) g.writes) (groups_of self.now) →
             result ≡ written rule (pos 0) (kept self.now cell) }
@@ -157,7 +151,6 @@ impl Slate {
     }
 
     /// What a rule says to each access, in their order. What the slate held doesn't matter.
-    #[tactic(auto, using(crate::proofs::Gathers::judge_starts, crate::proofs::Gathers::judge_goes, crate::proofs::Gathers::judge_ends))]
     pub fn judge(
         &mut self,
         alloc: Global,

@@ -80,7 +80,6 @@ fn set_local(team: &mut Vec<Member>, place: usize, x: &Part)
 }
 
 /// A local of each processor gets its value.
-#[tactic(auto, using(crate::proofs::Sets::locals_start, crate::proofs::Sets::locals_go, crate::proofs::Sets::locals_end))]
 pub fn set_locals(team: &mut Vec<Member>, place: usize, parts: &[Part])
     ensures { map member_is team.new.items ≡ spec.with_locals place (map part_is parts.now) (map member_is team.old.items) }
 {

@@ -88,7 +88,6 @@ impl<'a> Interpreter<'a> {
     }
 
     // The attempts of all processors of a set.
-    #[tactic(auto, using(crate::proofs::Sets::parts_start, crate::proofs::Sets::parts_go, crate::proofs::Sets::parts_end))]
     fn parts_in(
         &self,
         run: &Run,
@@ -148,7 +147,6 @@ impl<'a> Interpreter<'a> {
     }
 
     // A statement of a set: it counts, who listens is told of it, and then its least fault, or the parts.
-    #[tactic(auto, using(crate::proofs::Sets::set_halts, crate::proofs::Telling::waits, crate::proofs::SetMoments::set_goes, crate::proofs::SetMoments::set_fails, crate::proofs::SetMoments::told_goes, crate::proofs::SetMoments::told_fails))]
     fn attempt_on<H: Listener>(
         &self,
         run: &mut Run,
@@ -196,7 +194,6 @@ fn add_those(chosen: &mut Vec<u32>, wanted: bool, x: &Part) -> Result<(), AllocE
 }
 
 /// The members whose test comes out as wanted.
-#[tactic(auto, using(crate::proofs::Folds::build_starts, crate::proofs::Folds::build_goes, crate::proofs::Folds::build_ends))]
 pub fn select(alloc: Global, wanted: bool, parts: &Vec<Part>) -> Result<Vec<u32>, AllocError>
     ensures { IfOk result (λ chosen. chosen.items ≡ those wanted (map part_is parts.now.items)) }
 {
@@ -217,7 +214,6 @@ fn write_back(cells: &mut Vec<i64>, said: &Judged)
 }
 
 // The cells get what their writers leave, as the slate has it.
-#[tactic(auto, using(crate::proofs::Overwrites::over_starts, crate::proofs::Overwrites::over_goes, crate::proofs::Overwrites::over_ends))]
 fn overwrite_judged(
     alloc: Global,
     slate: &mut Slate,
@@ -278,7 +274,6 @@ impl<'a> Interpreter<'a> {
     }
 
     /// An assignment of a set.
-    #[tactic(auto, using(crate::proofs::SetBlocks::assign_halts, crate::proofs::SetBlocks::assign_goes))]
     pub fn assign_on<H: Listener>(
         &self,
         run: &mut Run,

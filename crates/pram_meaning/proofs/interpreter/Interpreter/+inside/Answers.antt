@@ -1,15 +1,16 @@
 use Rattle.std.proofs.lemmas.Result.{err_from_is_err_and}
-use Rattle.std.proofs.Common.{map, ◌≡◌, ◌+◌, ◌<◌, length, arith}
+use Rattle.std.proofs.Common.{map, ◌≡◌, ◌+◌, ◌<◌, ◌∙◌, length, arith, sym}
 use Rattle.std.proofs.lemmas.Grind.{common_steps}
 use Rattle.pram_meaning.specs.Judging.{part_is}
 use Rattle.pram_meaning.specs.Bounded.{perform_list_on, tested_on}
 use Rattle.pram_meaning.specs.Moments.{TurnsOn, inner_list_moments, set_test_moment, turns_on_moments}
 use Rattle.pram_meaning.specs.Sets.{state_in}
-use Rattle.pram_meaning.proofs.HeardSetBlocks.{if_goes_heard, if_halts_heard, if_refused_heard, if_then_halts_heard}
-use Rattle.pram_meaning.proofs.HeardSetLoops.{chosen_refused_heard, test_halts_heard, turn_goes_heard, turn_halts_heard}
+use Rattle.pram_meaning.proofs.HeardSetBlocks.{heard_goes, heard_halts, if_goes_heard, if_halts_heard, if_refused_heard}
+use Rattle.pram_meaning.proofs.HeardSetBlocks.{if_then_halts_heard, while_heard}
+use Rattle.pram_meaning.proofs.HeardSetLoops.{heard_start, chosen_refused_heard, test_halts_heard, turn_goes_heard, turn_halts_heard}
 use Rattle.pram_meaning.proofs.HeardSetLoops.{turns_end_heard}
-use Rattle.pram_meaning.proofs.SetBlocks.{assign_arm, if_then_halts, if_goes}
-use Rattle.pram_meaning.proofs.SetLoops.{test_halts, turn_goes, turn_halts, turns_end}
+use Rattle.pram_meaning.proofs.SetBlocks.{assign_arm, block_goes, if_then_halts, if_goes, while_arm}
+use Rattle.pram_meaning.proofs.SetLoops.{turns_start, test_halts, turn_goes, turn_halts, turns_end}
 use Rattle.pram_meaning.proofs.Telling.{part_none}
 use Rattle.pram_meaning.proofs.interpreter.Interpreter.+inside.Goals as goal
 
@@ -212,3 +213,49 @@ run_while_on-returns-then-is_empty-clause-value g t c =
     c.args.active.now.items c.turns.current.items c.in_ok-chosen.chosen.items (state_in c.args.run.now c.args.team.now.items)
     (state_in c.turns.run c.turns.team.items) (state_in c.test_on.new.run c.turns.team.items) (map part_is c.in_ok-all.all.items)
     c.turns.invariant.0 c.in_ok-all.ensures.value c.in_ok-chosen.ensures z
+
+pub run_block_on-returns-in_err-run_step-clause-heard : goal.run_block_on-returns-in_err-run_step-clause-heard
+run_block_on-returns-in_err-run_step-clause-heard g t c =
+    let r = c.from_residual in
+    let p = err_from_is_err_and r.result r.ensures.1 in
+    rw (p.1, p.2, sym c.deref-s-items.ensures.value)
+    (heard_halts g.H.Listener.hears g.H.Listener.gives_up c.args.self.now.program.now c.args.self.now.bound c.deref-s-items.result.now
+    c.args.active.now.items c.loop-s.s-index c.s-item.result (state_in c.args.run.now c.args.team.now.items)
+    (state_in c.loop-s.run c.loop-s.team.items) (state_in c.run_step.new.run c.run_step.new.team.items) c.args.listener.now
+    c.loop-s.listener c.run_step.new.listener _ c.loop-s.invariant.1 c.loop-s-test.true c.s-item.is c.in_err-run_step.ensures.value
+    c.in_err-run_step.ensures.heard)
+
+pub run_block_on-loop-s-preserved : goal.run_block_on-loop-s-preserved
+run_block_on-loop-s-preserved g t c = (
+  block_goes c.args.self.now.program.now c.args.self.now.bound c.deref-s-items.result.now c.args.active.now.items c.loop-s.s-index
+      c.s-item.result (state_in c.args.run.now c.args.team.now.items) (state_in c.loop-s.run c.loop-s.team.items)
+      (state_in c.run_step.new.run c.run_step.new.team.items) c.loop-s.invariant.0 c.loop-s-test.true c.s-item.is
+      c.in_ok-run_step.ensures.value c.in_ok-run_step.ensures.grows,
+  heard_goes g.H.Listener.hears g.H.Listener.gives_up g.met.H.Listener.hears_on c.args.self.now.program.now c.args.self.now.bound
+      c.deref-s-items.result.now c.args.active.now.items c.loop-s.s-index c.s-item.result (state_in c.args.run.now c.args.team.now.items)
+      (state_in c.loop-s.run c.loop-s.team.items) (state_in c.run_step.new.run c.run_step.new.team.items) c.args.listener.now
+      c.loop-s.listener c.run_step.new.listener c.loop-s.invariant.1 c.loop-s-test.true c.s-item.is c.in_ok-run_step.ensures.value
+      c.in_ok-run_step.ensures.heard,
+)
+
+pub run_step-returns-in-While-clause-value : goal.run_step-returns-in-While-clause-value
+run_step-returns-in-While-clause-value g t c =
+    while_arm c.args.self.now.program.now c.args.self.now.bound c.in-While.location c.args.s.now c.in-While.test c.in-While.body
+    c.args.active.now.items (state_in c.args.run.now c.args.team.now.items) (state_in c.run_while_on.new.run c.run_while_on.new.team.items)
+    c.run_while_on.result c.in-While.is c.run_while_on.ensures.value
+
+pub run_step-returns-in-While-clause-heard : goal.run_step-returns-in-While-clause-heard
+run_step-returns-in-While-clause-heard g t c =
+    while_heard g.H.Listener.hears g.H.Listener.gives_up c.args.listener.now c.run_while_on.new.listener c.args.self.now.program.now
+    c.args.self.now.bound c.in-While.location c.args.s.now c.in-While.test c.in-While.body c.args.active.now.items
+    (state_in c.args.run.now c.args.team.now.items) c.run_while_on.result c.in-While.is c.run_while_on.ensures.heard
+
+pub run_while_on-turns-init : goal.run_while_on-turns-init
+run_while_on-turns-init g t c =
+    let same = c.in_ok-current.ensures.items ∙ c.deref.ensures.value in (
+      turns_start c.args.self.now.program.now c.args.self.now.bound c.args.location.line c.args.test.now c.args.body.now.items
+          c.args.active.now.items c.in_ok-current.current.items (state_in c.args.run.now c.args.team.now.items) same,
+      heard_start g.H.Listener.hears g.H.Listener.gives_up c.args.self.now.program.now c.args.self.now.bound c.args.location
+          c.args.test.now c.args.body.now.items c.args.active.now.items c.in_ok-current.current.items
+          (state_in c.args.run.now c.args.team.now.items) c.args.listener.now same,
+    )

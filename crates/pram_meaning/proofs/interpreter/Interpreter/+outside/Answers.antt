@@ -1,10 +1,10 @@
-use Rattle.std.proofs.Common.{rules, ◌≡◌, ◌≢◌, ◌∙◌, Err, ap, arith, to_z, of_z, w64, ℤ}
+use Rattle.std.proofs.Common.{rules, ◌≡◌, ◌≢◌, ◌∙◌, Err, ap, arith, sym, to_z, of_z, w64, ℤ}
 use Rattle.std.proofs.lemmas.Result.{err_from_is_err_and}
-use Rattle.pram_meaning.proofs.Blocks.{then_arm, else_arm, for_arm, pardo_arm}
-use Rattle.pram_meaning.proofs.ForLoops.{turn_goes, turn_halts}
-use Rattle.pram_meaning.proofs.HeardBlocks.{else_heard, for_heard, if_halts_heard, then_heard}
+use Rattle.pram_meaning.proofs.Blocks.{then_arm, else_arm, for_arm, pardo_arm, while_arm}
+use Rattle.pram_meaning.proofs.ForLoops.{setting_halts, turn_goes, turn_halts, turns_start}
+use Rattle.pram_meaning.proofs.HeardBlocks.{else_heard, for_heard, heard_goes, heard_halts, if_halts_heard, then_heard, while_heard}
 use Rattle.pram_meaning.proofs.HeardForLoops.{for_goes_heard, setting_halts_heard, setting_refused_heard, turn_goes_heard}
-use Rattle.pram_meaning.proofs.HeardForLoops.{turn_halts_heard}
+use Rattle.pram_meaning.proofs.HeardForLoops.{heard_start, turn_halts_heard}
 use Rattle.pram_meaning.proofs.HeardLoops as loop
 use Rattle.pram_meaning.proofs.Loops as turns
 use Rattle.pram_meaning.proofs.Telling.{closing_left, closing_refused, first_halts}
@@ -234,3 +234,62 @@ run_turns-returns-in_err-tell_next-clause-heard g t c =
     c.turns.left.next c.turns.left.last (state_of c.args.run.now) (state_of c.turns.run) (state_of c.begin.new.run) c.args.listener.now
     c.turns.listener c.tell_next.new.listener c.turns.invariant.0 c.turns.invariant.1 c.in_ok-begin.ensures.counts
     c.in_err-tell_next.ensures.refused)
+
+pub run_block-returns-in_err-run_statement-clause-heard : goal.run_block-returns-in_err-run_statement-clause-heard
+run_block-returns-in_err-run_statement-clause-heard g t c =
+    let r = c.from_residual in
+    let p = err_from_is_err_and r.result r.ensures.1 in
+    rw (p.1, p.2, sym c.deref-s-items.ensures.value)
+    (heard_halts g.H.Listener.hears g.H.Listener.gives_up c.args.self.now.program.now c.args.self.now.bound c.deref-s-items.result.now
+    c.loop-s.s-index c.s-item.result (state_of c.args.run.now) (state_of c.loop-s.run) (state_of c.run_statement.new.run)
+    c.args.listener.now c.loop-s.listener c.run_statement.new.listener _ c.loop-s.invariant.1 c.loop-s-test.true c.s-item.is
+    c.in_err-run_statement.ensures.value c.in_err-run_statement.ensures.heard)
+
+pub run_block-loop-s-preserved : goal.run_block-loop-s-preserved
+run_block-loop-s-preserved g t c = (
+  turns.block_goes c.args.self.now.program.now c.args.self.now.bound c.deref-s-items.result.now c.loop-s.s-index c.s-item.result
+      (state_of c.args.run.now) (state_of c.loop-s.run) (state_of c.run_statement.new.run) c.loop-s.invariant.0 c.loop-s-test.true
+      c.s-item.is c.in_ok-run_statement.ensures.value c.in_ok-run_statement.ensures.grows,
+  heard_goes g.H.Listener.hears g.H.Listener.gives_up g.met.H.Listener.hears_on c.args.self.now.program.now c.args.self.now.bound
+      c.deref-s-items.result.now c.loop-s.s-index c.s-item.result (state_of c.args.run.now) (state_of c.loop-s.run)
+      (state_of c.run_statement.new.run) c.args.listener.now c.loop-s.listener c.run_statement.new.listener c.loop-s.invariant.1
+      c.loop-s-test.true c.s-item.is c.in_ok-run_statement.ensures.value c.in_ok-run_statement.ensures.heard,
+)
+
+pub run_statement-returns-in-While-clause-value : goal.run_statement-returns-in-While-clause-value
+run_statement-returns-in-While-clause-value g t c =
+    let p = c.in-While in
+    while_arm c.args.self.now.program.now c.args.self.now.bound p.location c.args.s.now p.test p.body (state_of c.args.run.now)
+    (state_of c.run_while.new.run) c.run_while.result p.is c.run_while.ensures.value
+
+pub run_statement-returns-in-While-clause-heard : goal.run_statement-returns-in-While-clause-heard
+run_statement-returns-in-While-clause-heard g t c =
+    let p = c.in-While in
+    while_heard g.H.Listener.hears g.H.Listener.gives_up c.args.listener.now c.run_while.new.listener c.args.self.now.program.now
+    c.args.self.now.bound p.location c.args.s.now p.test p.body (state_of c.args.run.now) c.run_while.result p.is
+    c.run_while.ensures.heard
+
+pub run_turns-turns-init : goal.run_turns-turns-init
+run_turns-turns-init g t c = (
+  turns_start c.args.self.now.program.now c.args.self.now.bound c.args.variable c.args.body.now.items c.args.numbers.now.next
+      c.args.numbers.now.last (state_of c.args.run.now) (c.is_empty.ensures.some c.if-is_empty.false),
+  heard_start g.H.Listener.hears g.H.Listener.gives_up c.args.self.now.program.now c.args.self.now.bound c.args.location c.args.variable
+      c.args.body.now.items c.args.numbers.now.next c.args.numbers.now.last (state_of c.args.run.now) c.args.listener.now,
+)
+
+pub run_turns-returns-in_err-begin-clause-value : goal.run_turns-returns-in_err-begin-clause-value
+run_turns-returns-in_err-begin-clause-value g t c =
+    let r = c.from_residual in
+    let p = err_from_is_err_and r.result r.ensures.1 in
+    rw (p.1, p.2)
+    (setting_halts c.args.self.now.program.now c.args.self.now.bound c.args.variable c.args.body.now.items c.args.numbers.now.next
+    c.args.numbers.now.last c.turns.left.next c.turns.left.last (state_of c.args.run.now) (state_of c.turns.run)
+    (state_of c.begin.new.run) _ c.turns.invariant.0 c.in_err-begin.ensures.counts)
+
+pub run_while-turns-init : goal.run_while-turns-init
+run_while-turns-init g t c = (
+  turns.turns_start c.args.self.now.program.now c.args.self.now.bound c.args.location.line c.args.test.now c.args.body.now.items
+      (state_of c.args.run.now),
+  loop.heard_start g.H.Listener.hears g.H.Listener.gives_up c.args.self.now.program.now c.args.self.now.bound c.args.location
+      c.args.test.now c.args.body.now.items (state_of c.args.run.now) c.args.listener.now,
+)
