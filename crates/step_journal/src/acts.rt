@@ -23,7 +23,6 @@ fn add_read(reads: &mut Vec<u32>, access: Option<u32>) -> Result<(), AllocError>
 }
 
 // The cells that are read along a trail, in order.
-#[tactic(auto, using(crate::proofs::ActLists::reads_start, crate::proofs::ActLists::reads_go, crate::proofs::ActLists::reads_end))]
 fn reads_of(alloc: Global, trail: &[Option<u32>]) -> Result<Vec<u32>, AllocError>
     ensures { IfOk result (λ reads. reads.items ≡ reads_in trail.now) }
 {
@@ -51,7 +50,6 @@ fn add_reading(
 }
 
 // The reads along a trail, in cells that hold this, each with its position and what it gave.
-#[tactic(auto, using(crate::proofs::ActLists::readings_start, crate::proofs::ActLists::readings_go, crate::proofs::ActLists::readings_end))]
 fn readings_of(
     alloc: Global,
     cells: &[i64],
@@ -91,7 +89,6 @@ fn act_along(
 }
 
 /// A trail's front: what comes before a position, counted from 1.
-#[tactic(auto, using(std::proofs::lemmas::List::take_min))]
 pub fn front(at: usize, trail: &[Option<u32>]) -> &[Option<u32>]
     ensures { result.now ≡ spec.front at trail.now }
 {
@@ -139,7 +136,6 @@ fn written_of(x: &Part) -> Option<i64>
 }
 
 // What a processor of a set does.
-#[tactic(auto, using(pram_meaning::proofs::Trails::trail_is))]
 fn act_in(alloc: Global, cells: &[i64], x: &Part) -> Result<Act, AllocError>
     ensures { IfOk result (λ act. act_is act ≡ act_of cells.now (part_is x.now)) }
 {
@@ -148,7 +144,6 @@ fn act_in(alloc: Global, cells: &[i64], x: &Part) -> Result<Act, AllocError>
 }
 
 /// What each processor of a set does, before which the cells hold this, in the order of the set.
-#[tactic(auto, using(crate::proofs::ActLists::acts_start, crate::proofs::ActLists::acts_go, crate::proofs::ActLists::acts_end))]
 pub fn acts_of(alloc: Global, cells: &[i64], parts: &[Part]) -> Result<Vec<Act>, AllocError>
     ensures { IfOk result (λ acts. map act_is acts.items ≡ map (act_of cells.now) (map part_is parts.now)) }
 {
@@ -160,7 +155,6 @@ pub fn acts_of(alloc: Global, cells: &[i64], parts: &[Part]) -> Result<Vec<Act>,
 }
 
 // What a processor of a set has done where the statement faults at this position.
-#[tactic(auto, using(pram_meaning::proofs::Trails::trail_is))]
 fn act_at(alloc: Global, cells: &[i64], at: usize, x: &Part) -> Result<Act, AllocError>
     ensures { IfOk result (λ act. act_is act ≡ act_before cells.now at (part_is x.now)) }
 {
@@ -170,7 +164,6 @@ fn act_at(alloc: Global, cells: &[i64], at: usize, x: &Part) -> Result<Act, Allo
 
 /// What each processor of a set has done where the statement faults at this position, in the order
 /// of the set: its reads before it, and no write.
-#[tactic(auto, using(crate::proofs::ActLists::acts_start, crate::proofs::ActLists::acts_go, crate::proofs::ActLists::acts_end))]
 pub fn acts_before(
     alloc: Global,
     cells: &[i64],

@@ -29,7 +29,6 @@ fn cell_written(alloc: Global, run: &Run, effect: &Effect) -> Result<Vec<Change>
 }
 
 // What a cell holds behind a write of a value to it.
-#[tactic(auto, using(crate::proofs::Differing::held_inside, crate::proofs::Differing::held_outside))]
 fn held_behind(cells: &[i64], cell: usize, value: i64) -> i64
     ensures { result ≡ holds (slice_set cells.now cell value) cell }
 {
@@ -126,7 +125,6 @@ fn item(alloc: Global, value: i64) -> Result<Vec<i64>, AllocError>
 }
 
 /// What a statement prints.
-#[tactic(auto, using(crate::proofs::Pushed::item_gained, crate::proofs::Pushed::nothing_gained))]
 pub fn items_printed(
     alloc: Global,
     run: &Run,

@@ -27,7 +27,6 @@ pub struct Excerpt {
 /// Runs a program on an input, for at most `bound` statements, as [`steps_of`](crate::steps_of) does, and keeps the entries alone whose
 /// numbers, counted from 1, go from `first` to `last`: beside the run it takes the memory of these, and of one statement. The watch is told
 /// how far the run is. E11 where there are more values than cells; E16 only where memory was refused.
-#[tactic(auto, using(crate::proofs::KeptBetween::all_between, crate::proofs::KeptBetween::all_counted))]
 pub fn steps_between<V: Watch>(
     alloc: Global,
     program: &Program,

@@ -16,7 +16,6 @@ use std::alloc::{AllocError, Global};
 use step_entries::OwnLocals;
 
 // Whether a processor is among those that met at a cell.
-#[tactic(auto, using(pram_meaning::proofs::Trails::trail_is))]
 fn meets(kind: Kind, at: usize, cell: u32, x: &Part) -> bool
     ensures { result ≡ spec.meets kind at cell (part_is x.now) }
 {
@@ -73,7 +72,6 @@ fn add_locals(
 }
 
 // What the locals of the processors hold that a fault is of.
-#[tactic(auto, using(pram_meaning::proofs::Folds::build_starts, pram_meaning::proofs::Folds::build_goes, pram_meaning::proofs::Folds::build_ends))]
 fn locals_in(
     alloc: Global,
     team: &[Member],

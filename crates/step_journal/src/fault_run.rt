@@ -17,7 +17,6 @@ use std::alloc::{AllocError, Global};
 use step_entries::Entry;
 
 // The fault of a run on an input that fits.
-#[tactic(auto, using(crate::proofs::FaultEntries::last_heard))]
 fn hear_fault<V: Watch>(
     alloc: Global,
     program: &Program,

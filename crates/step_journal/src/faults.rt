@@ -26,7 +26,6 @@ use step_entries::Entry;
 use write_rules::Fault;
 
 /// That of the one processor outside pardo, at the last position of the trail.
-#[tactic(auto, using(crate::proofs::FaultEntries::told_alone))]
 pub(crate) fn fault_alone(
     alloc: Global,
     program: &Program,
@@ -57,7 +56,6 @@ pub(crate) fn fault_alone(
 }
 
 /// That of a set, by its least fault.
-#[tactic(auto, using(crate::proofs::FaultEntries::told_together))]
 pub(crate) fn fault_together(
     alloc: Global,
     program: &Program,

@@ -19,12 +19,10 @@ impl Teller for Kept {
 
     ghost breaks_off = { λ a e b. ⊤ };
 
-    #[tactic(auto, using(crate::specs::KeptLaws::kept_nothing))]
     fn passes(&mut self) -> bool {
         false
     }
 
-    #[tactic(auto, using(crate::proofs::Pushed::pushed))]
     fn tell(&mut self, entry: Entry) -> Result<(), AllocError> {
         self.entries.push(entry)?;
         Ok(())

@@ -33,7 +33,6 @@ impl<'a> Listener for LastFault<'a> {
 
     ghost gives_up = { λ a m b. ⊤ };
 
-    #[tactic(auto, using(crate::proofs::FaultEntries::ran_alone))]
     fn acts(
         &mut self,
         _run: &Run,
@@ -46,7 +45,6 @@ impl<'a> Listener for LastFault<'a> {
         Ok(())
     }
 
-    #[tactic(auto, using(crate::proofs::FaultEntries::last_alone))]
     fn fails(
         &mut self,
         run: &Run,
@@ -61,7 +59,6 @@ impl<'a> Listener for LastFault<'a> {
         Ok(())
     }
 
-    #[tactic(auto, using(crate::proofs::FaultEntries::ran_together))]
     fn acts_on(
         &mut self,
         _program: &Program,
@@ -75,7 +72,6 @@ impl<'a> Listener for LastFault<'a> {
         Ok(())
     }
 
-    #[tactic(auto, using(crate::proofs::FaultEntries::last_together))]
     fn fails_on(
         &mut self,
         run: &Run,

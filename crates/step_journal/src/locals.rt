@@ -61,7 +61,6 @@ fn add_part(
 }
 
 // A local of each processor gets its value.
-#[tactic(auto, using(pram_meaning::proofs::Folds::build_starts, pram_meaning::proofs::Folds::build_goes, pram_meaning::proofs::Folds::build_ends))]
 fn locals_set(
     alloc: Global,
     team: &[Member],

@@ -42,7 +42,6 @@ pub(crate) fn writes(cell: u32, x: &Part) -> bool
 }
 
 // The index of a part that reads the cell at this position, put behind the others.
-#[tactic(auto, using(pram_meaning::proofs::Trails::trail_is))]
 fn add_reader(indices: &mut Vec<i64>, at: usize, cell: u32, x: &Part) -> Result<(), AllocError>
     ensures { OnOk result (indices.new.items ≡ indices.old.items ++ reader at cell (part_is x.now)) }
 {
@@ -63,7 +62,6 @@ fn add_writer(indices: &mut Vec<i64>, cell: u32, x: &Part) -> Result<(), AllocEr
 }
 
 // The indices of those that read the cell at this position.
-#[tactic(auto, using(pram_meaning::proofs::Folds::build_starts, pram_meaning::proofs::Folds::build_goes, pram_meaning::proofs::Folds::build_ends))]
 fn readers_of(alloc: Global, at: usize, cell: u32, parts: &[Part]) -> Result<Vec<i64>, AllocError>
     ensures { IfOk result (λ who. who.items ≡ readers at cell (map part_is parts.now)) }
 {
@@ -75,7 +73,6 @@ fn readers_of(alloc: Global, at: usize, cell: u32, parts: &[Part]) -> Result<Vec
 }
 
 // The indices of those that write the cell.
-#[tactic(auto, using(pram_meaning::proofs::Folds::build_starts, pram_meaning::proofs::Folds::build_goes, pram_meaning::proofs::Folds::build_ends))]
 fn writers_of(alloc: Global, cell: u32, parts: &[Part]) -> Result<Vec<i64>, AllocError>
     ensures { IfOk result (λ who. who.items ≡ writers cell (map part_is parts.now)) }
 {

@@ -20,7 +20,6 @@ use std::alloc::{AllocError, Global};
 use write_rules::Outcome;
 
 // That of a run on an input that fits. The only error is that it was cut off.
-#[tactic(auto, using(pram_meaning::proofs::References::ended, pram_meaning::proofs::References::stopped, pram_meaning::proofs::References::reached))]
 fn tell_fitting<T: Teller + Drop, V: Watch>(
     alloc: Global,
     program: &Program,

@@ -26,7 +26,6 @@ impl Teller for Window {
 
     ghost breaks_off = { λ a e b. ⊤ };
 
-    #[tactic(auto, using(crate::specs::BetweenLaws::between_nothing, crate::proofs::KeptBetween::passed_before, crate::proofs::KeptBetween::passed_past))]
     fn passes(&mut self) -> bool {
         let Some(number) = self.count.checked_add(1) else {
             return false;
@@ -38,7 +37,6 @@ impl Teller for Window {
         true
     }
 
-    #[tactic(auto, using(crate::proofs::KeptBetween::kept_within, crate::proofs::KeptBetween::passed_before, crate::proofs::KeptBetween::passed_past))]
     fn tell(&mut self, entry: Entry) -> Result<(), AllocError> {
         let Some(number) = self.count.checked_add(1) else {
             return Err(AllocError);

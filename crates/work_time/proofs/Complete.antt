@@ -59,7 +59,8 @@ pub heard_of_end : (r : Result (Unit {0}) Halt) (x : Unit {0}) (a b : Meter) (ms
     HasHeard r HasCounted (λ a m b. ⊤) a ms b → HasCounted a ms b
 heard_of_end r x a b ms e heard = subst (λ r. HasHeard r HasCounted (λ a m b. ⊤) a ms b) e heard
 
-pub end_of : (r : Result (Unit {0}) Halt) (x : Unit {0}) (m : State) (s : Behaviour (Unit {0})) → r ≡ Ok x → IsBehaviour r m s → s ≡ Goes x m
+pub end_of : (r : Result (Unit {0}) Halt) (x : Unit {0}) (m : State) (s : Behaviour (Unit {0})) → r ≡ Ok x → IsBehaviour r m s →
+    s ≡ Goes x m
 end_of r x m s e h = subst (λ r. IsBehaviour r m s) e h
 
 -- what was heard of a run that halts, but for want of memory
@@ -70,3 +71,12 @@ heard_of_fault r h k a b ms e f heard = subst (λ r. HasHeard r HasCounted (λ a
 pub heard_at_bound : (r : Result (Unit {0}) Halt) (h : Halt) (a b : Meter) (ms : List Moment) → r ≡ Err h → h ≡ halt.Bound →
     HasHeard r HasCounted (λ a m b. ⊤) a ms b → HasCounted a ms b
 heard_at_bound r h a b ms e f heard = subst (λ r. HasHeard r HasCounted (λ a m b. ⊤) a ms b) (e ∙ ap Err f) heard
+
+-- how a run halts, as the interpreter answers it
+pub fault_of : (r : Result (Unit {0}) Halt) (h : Halt) (k : Fault) (m : State) (b : Behaviour (Unit {0})) → r ≡ Err h → h ≡ halt.Fault k →
+    IsBehaviour r m b → b ≡ Stops k m.output
+fault_of r h k m b e f is = subst (λ r. IsBehaviour r m b) (e ∙ ap Err f) is
+
+pub bound_of : (r : Result (Unit {0}) Halt) (h : Halt) (m : State) (b : Behaviour (Unit {0})) → r ≡ Err h → h ≡ halt.Bound →
+    IsBehaviour r m b → b ≡ Reaches m.output
+bound_of r h m b e f is = subst (λ r. IsBehaviour r m b) (e ∙ ap Err f) is

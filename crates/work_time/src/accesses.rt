@@ -20,7 +20,6 @@ pub fn count_of(cell: Option<u32>) -> u32
 }
 
 /// The shared reads of a trail.
-#[tactic(auto, using(crate::proofs::TrailReads::reads_start, crate::proofs::TrailReads::reads_go, crate::proofs::TrailReads::reads_end))]
 pub fn reads_on(trail: &[Option<u32>]) -> u64
     ensures { result ≡ spec.reads_on trail.now }
 {
@@ -50,7 +49,6 @@ fn reads_of(x: &Part) -> u64
 }
 
 /// The shared reads of all parts.
-#[tactic(auto, using(crate::proofs::PartSums::reads_start, crate::proofs::PartSums::reads_go, crate::proofs::PartSums::reads_end))]
 pub fn all_reads(parts: &[Part]) -> u128
     requires few { length parts.now < 2 ^ 32 }
     ensures reads { result ≡ sum_by part_reads (map part_is parts.now) }
@@ -64,7 +62,6 @@ pub fn all_reads(parts: &[Part]) -> u128
 }
 
 /// The shared writes of all parts.
-#[tactic(auto, using(crate::proofs::PartSums::writes_start, crate::proofs::PartSums::writes_go, crate::proofs::PartSums::writes_end))]
 pub fn all_writes(parts: &[Part]) -> u32
     requires few { length parts.now < 2 ^ 32 }
     ensures { result ≡ sum_by part_writes (map part_is parts.now) }

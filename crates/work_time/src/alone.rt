@@ -15,10 +15,9 @@ use pram_meaning::{MeaningRefusal, open};
 use std::alloc::Global;
 use write_rules::Outcome;
 
-/// Runs a program on an input, for at most `bound` statements, as [`pram_meaning::reference_run`] does, and says beside the outcome its time
-/// and its work, and nothing else, so that it costs little more. A statement that faults counts. E11 where there are more values than cells; E16 only where memory was
-/// refused.
-#[tactic(auto, using(pram_meaning::proofs::References::opens, crate::proofs::Complete::stopped, crate::proofs::Complete::reached))]
+/// Runs a program on an input, for at most `bound` statements, as [`pram_meaning::reference_run`] does, and says beside the outcome its
+/// time and its work, and nothing else, so that it costs little more. A statement that faults counts. E11 where there are more values than
+/// cells; E16 only where memory was refused.
 pub fn time_and_work(
     alloc: Global,
     program: &Program,

@@ -23,7 +23,6 @@ impl Ledger {
     }
 
     // Makes rows up to that line.
-    #[tactic(auto, using(crate::proofs::Rows::rows_grown))]
     fn make_row(&mut self, line: u32) -> Result<(), AllocError>
         ensures same { OnOk result (ledger_is self.new ≡ ledger_is self.old) }
         ensures row { OnOk result (line < length self.new.lines.items) }
@@ -37,7 +36,6 @@ impl Ledger {
 
     /// One statement more, whose rounds are those on so many processors. The error is that memory was refused, or no number is left for
     /// its time.
-    #[tactic(auto, using(crate::proofs::Rows::row_entered))]
     pub fn enter(&mut self, schedule: u32, step: &TimeStep) -> Result<(), AllocError>
         requires some { 0 < schedule }
         requires few { step.now.reads ≤ 2 ^ 96 }

@@ -76,7 +76,6 @@ impl Listener for Meter {
 
     ghost gives_up = { λ a m b. ⊤ };
 
-    #[tactic(auto, using(crate::proofs::Heard::alone_counted))]
     fn acts(
         &mut self,
         _run: &Run,
@@ -94,7 +93,6 @@ impl Listener for Meter {
         self.count(action, &step)
     }
 
-    #[tactic(auto, using(crate::proofs::Heard::alone_counted))]
     fn fails(
         &mut self,
         _run: &Run,
@@ -106,7 +104,6 @@ impl Listener for Meter {
         self.count(action, &acting(location.line, 1))
     }
 
-    #[tactic(auto, using(crate::proofs::Heard::set_counted))]
     fn acts_on(
         &mut self,
         _program: &Program,
@@ -128,7 +125,6 @@ impl Listener for Meter {
         self.count_on(action, &step)
     }
 
-    #[tactic(auto, using(crate::proofs::Heard::set_counted))]
     fn fails_on(
         &mut self,
         _run: &Run,
@@ -144,7 +140,6 @@ impl Listener for Meter {
         self.count_on(action, &acting(location.line, processors))
     }
 
-    #[tactic(auto, using(crate::proofs::Heard::close_counted))]
     fn closes(&mut self) -> Result<(), AllocError> {
         if self.ledger.exchanges.cut().is_err() {
             return Err(AllocError);

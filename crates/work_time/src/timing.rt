@@ -22,7 +22,6 @@ impl Listener for TimeAndWork {
 
     ghost gives_up = { λ a m b. ⊤ };
 
-    #[tactic(auto, using(crate::proofs::TimedMoments::alone_timed))]
     fn acts(
         &mut self,
         _run: &Run,
@@ -34,7 +33,6 @@ impl Listener for TimeAndWork {
         self.add(1)
     }
 
-    #[tactic(auto, using(crate::proofs::TimedMoments::alone_timed))]
     fn fails(
         &mut self,
         _run: &Run,
@@ -46,7 +44,6 @@ impl Listener for TimeAndWork {
         self.add(1)
     }
 
-    #[tactic(auto, using(crate::proofs::TimedMoments::set_timed))]
     fn acts_on(
         &mut self,
         _program: &Program,
@@ -62,7 +59,6 @@ impl Listener for TimeAndWork {
         self.add(processors)
     }
 
-    #[tactic(auto, using(crate::proofs::TimedMoments::set_timed))]
     fn fails_on(
         &mut self,
         _run: &Run,

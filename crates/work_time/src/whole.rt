@@ -22,7 +22,6 @@ use write_rules::Outcome;
 
 /// The outcome of a program on an input, what was counted of its run, and how many of the reads were made outside pardo. The watch is told
 /// how far the run is.
-#[tactic(auto, using(pram_meaning::proofs::References::opens, crate::proofs::Complete::stopped, crate::proofs::Complete::reached))]
 pub fn run_whole<V: Watch>(
     alloc: Global,
     program: &Program,

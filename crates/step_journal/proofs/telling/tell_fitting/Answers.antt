@@ -1,8 +1,9 @@
-use Rattle.std.proofs.Common.{Result, subst}
+use Rattle.std.proofs.Common.{◌≡◌, ◌∙◌, Err, Result, ap, rules, subst}
 use Rattle.pram_meaning.specs.Bounded.{perform_list}
 use Rattle.pram_meaning.specs.Runs.{IsBehaviour, state_of}
 use Rattle.pram_meaning.specs.declared.run.Halt.{Halt}
-use Rattle.pram_meaning.proofs.References.{ended}
+use Rattle.pram_meaning.specs.declared.run.Halt.TheVariants as halt
+use Rattle.pram_meaning.proofs.References.{ended, reached, stopped}
 use Rattle.step_journal.specs.declared.journal.Journal.{Journal}
 use Rattle.step_journal.specs.Entries.{run_entries}
 use Rattle.step_journal.proofs.Complete.{none_told, part_told}
@@ -36,3 +37,23 @@ returns-in-Err-OutOfMemory-clause-part g c =
     (λ (j : Journal g.row.T.Denot). j.teller) c.run_watched-journal.result.1 c.in-Err-OutOfMemory.field-0 c.args.input.now
     c.args.bound c.in-Ok.run' _ c.run_watched-journal.result.0 c.in-Err-OutOfMemory.is refused e.count e.output
     e.uniforms e.cells c.run_watched-journal.ensures.heard
+
+pub returns-in-Err-Fault-clause-outcome : goal.returns-in-Err-Fault-clause-outcome
+returns-in-Err-Fault-clause-outcome g c =
+    let e = c.in-Ok.ensures in
+    let p = c.args.program.now in
+    let f : c.in-Err-Fault.field-0 ≡ halt.Fault c.in-Err-Fault.fault = search (rules, c.in-Err-Fault.field-0-is) in
+    let value = subst (λ (r : Result (Unit {0}) Halt). IsBehaviour r (state_of c.run_watched-journal.new.run)
+    (perform_list p c.args.bound p.body (state_of c.in-Ok.run'))) (c.in-Err-Fault.is ∙ ap Err f) c.run_watched-journal.ensures.value in
+    stopped p c.args.input.now c.args.bound c.in-Ok.run' c.in-Err-Fault.fault c.run_watched-journal.new.run.output.items e.count e.output
+    e.uniforms e.cells value
+
+pub returns-in-Err-Bound-clause-outcome : goal.returns-in-Err-Bound-clause-outcome
+returns-in-Err-Bound-clause-outcome g c =
+    let e = c.in-Ok.ensures in
+    let p = c.args.program.now in
+    let f : c.in-Err-Bound.field-0 ≡ halt.Bound = search (rules, c.in-Err-Bound.field-0-is) in
+    let value = subst (λ (r : Result (Unit {0}) Halt). IsBehaviour r (state_of c.run_watched-journal.new.run)
+    (perform_list p c.args.bound p.body (state_of c.in-Ok.run'))) (c.in-Err-Bound.is ∙ ap Err f) c.run_watched-journal.ensures.value in
+    reached p c.args.input.now c.args.bound c.in-Ok.run' c.run_watched-journal.new.run.output.items e.count e.output e.uniforms e.cells
+    value

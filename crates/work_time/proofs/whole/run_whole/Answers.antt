@@ -2,7 +2,8 @@ use Rattle.std.proofs.Common.{refl, rules, ◌≡◌}
 use Rattle.pram_meaning.specs.declared.run.Halt.TheVariants as halt
 use Rattle.pram_meaning.specs.Runs.{state_of}
 use Rattle.pram_meaning.proofs.References.{opens}
-use Rattle.work_time.proofs.Complete.{end_of, ended, heard_at_bound, heard_of_end, heard_of_fault, outer_reads_counted, run_counted}
+use Rattle.work_time.proofs.Complete.{bound_of, end_of, ended, fault_of, heard_at_bound, heard_of_end, heard_of_fault}
+use Rattle.work_time.proofs.Complete.{outer_reads_counted, reached, run_counted, stopped}
 use Rattle.work_time.proofs.whole.run_whole.Goals as goal
 
 pub returns-in-Ok-done-clause-outcome : goal.returns-in-Ok-done-clause-outcome
@@ -62,3 +63,21 @@ returns-in-Err-Bound-clause-outer_reads g c =
     outer_reads_counted c.args.program.now c.args.input.now c.args.bound c.in-Ok.run' _ c.run_watched-meter.result.0
     (opens c.args.program.now c.args.input.now c.in-Ok.run' e.count e.output e.uniforms e.cells) refl
     (heard_at_bound c.run_watched-meter.result.1 c.in-Err-Bound.field-0 _ _ _ c.in-Err-Bound.is f c.run_watched-meter.ensures.heard)
+
+pub returns-in-Err-Fault-clause-outcome : goal.returns-in-Err-Fault-clause-outcome
+returns-in-Err-Fault-clause-outcome g c =
+    let e = c.in-Ok.ensures in
+    let f : c.in-Err-Fault.field-0 ≡ halt.Fault c.in-Err-Fault.fault = search (rules, c.in-Err-Fault.field-0-is) in
+    stopped c.args.program.now c.args.input.now c.args.bound c.in-Ok.run' c.in-Err-Fault.fault c.run_watched-meter.new.run.output.items
+    (opens c.args.program.now c.args.input.now c.in-Ok.run' e.count e.output e.uniforms e.cells)
+    (fault_of c.run_watched-meter.result.1 c.in-Err-Fault.field-0 c.in-Err-Fault.fault (state_of c.run_watched-meter.new.run) _
+    c.in-Err-Fault.is f c.run_watched-meter.ensures.value)
+
+pub returns-in-Err-Bound-clause-outcome : goal.returns-in-Err-Bound-clause-outcome
+returns-in-Err-Bound-clause-outcome g c =
+    let e = c.in-Ok.ensures in
+    let f : c.in-Err-Bound.field-0 ≡ halt.Bound = search (rules, c.in-Err-Bound.field-0-is) in
+    reached c.args.program.now c.args.input.now c.args.bound c.in-Ok.run' c.run_watched-meter.new.run.output.items
+    (opens c.args.program.now c.args.input.now c.in-Ok.run' e.count e.output e.uniforms e.cells)
+    (bound_of c.run_watched-meter.result.1 c.in-Err-Bound.field-0 (state_of c.run_watched-meter.new.run) _ c.in-Err-Bound.is f
+    c.run_watched-meter.ensures.value)
