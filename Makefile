@@ -33,6 +33,7 @@ test:
 	python3 gate/scale.py
 	python3 gate/build_test.py
 	python3 gate/wrong_bodies.py
+	python3 crates/run_tests/unthreaded/change.py look .
 	bash gate/plans.sh
 	set -e; for check in crates/*/refusals/check.sh; do bash $$check; done
 	bash gate/prove.sh

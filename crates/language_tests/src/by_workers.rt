@@ -2,11 +2,14 @@
 
 use crate::narrow::Narrow;
 use pram_syntax::WriteFault;
-use pramc::{MapChoice, OpenGate, Options, Refusal, run_text};
+use program_runs::run_text;
+use program_texts::Refusal;
+use run_options::{MapChoice, Options};
 use std::alloc::Global;
 use std::sync::Wait;
 use std::thread::Threads;
 use tracer::write_trace;
+use workers::OpenGate;
 
 // Why a text is not run.
 fn refusal_of<R: Threads + Wait + Sync>(

@@ -4,10 +4,12 @@
 use crate::compiled::number;
 use flat_run::flat_exchanges;
 use pram_syntax::read_input;
-use pramc::{MapChoice, OpenGate, Options, compile, run_text};
+use program_runs::{compile, run_text};
+use run_options::{MapChoice, Options};
 use std::alloc::Global;
 use std::sync::Wait;
 use std::thread::Threads;
+use workers::OpenGate;
 
 // A text, its input and its bound, and how many exchanges its run has.
 type Count = (&'static str, &'static str, &'static str, usize);

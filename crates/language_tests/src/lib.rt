@@ -1,4 +1,4 @@
-//! Tests of the language: texts and their trees, and the program over writers that fail and on terminals.
+//! Tests of the language: texts with their trees and refusals, their runs, and what is written of them.
 #![tactic(auto)]
 
 #[cfg(test)]
@@ -8,18 +8,12 @@ mod compiled;
 #[cfg(test)]
 mod exchanges;
 #[cfg(test)]
-mod full_writers;
-#[cfg(test)]
 mod limits;
 #[cfg(test)]
 mod narrow;
 #[cfg(test)]
-mod rows;
-#[cfg(test)]
 mod rows_stop;
 #[cfg(test)]
 mod syntax;
-#[cfg(test)]
-mod terminals;
 #[cfg(test)]
 mod writers;

@@ -2,7 +2,7 @@
 
 use pram_check::{Breach, Cause, CheckFault, Limit, Spot};
 use pram_syntax::{Buffer, OutFailed, TextFault, WriteFault};
-use pramc::{Refusal, Stop, write_stop};
+use program_texts::{Refusal, Stop, write_stop};
 use sized_texts::Reason;
 use std::alloc::{AllocError, Global};
 use std::test::Fail;

@@ -2,7 +2,7 @@
 
 use crate::programs::{TREE_SUM, by};
 use crossbeam_utils::atomic::AtomicCell;
-use pramc::run_text;
+use program_runs::run_text;
 use std::alloc::Global;
 use std::sync::Wait;
 use std::thread::Threads;

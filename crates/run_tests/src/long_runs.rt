@@ -1,7 +1,7 @@
 //! Long runs come to one answer.
 
 use crate::programs::by;
-use pramc::run_text;
+use program_runs::run_text;
 use std::alloc::Global;
 use std::sync::Wait;
 use std::thread::Threads;

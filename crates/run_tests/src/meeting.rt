@@ -3,7 +3,7 @@
 use crate::programs::{PATH, POINTER_JUMPING, by, code_of};
 use address_map::Identity;
 use crossbeam_utils::atomic::AtomicCell;
-use pramc::run_text;
+use program_runs::run_text;
 use std::alloc::Global;
 use std::sync::Wait;
 use std::thread;

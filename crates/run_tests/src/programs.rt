@@ -1,7 +1,8 @@
 //! Programs that are run, and their code.
 
 use bsp_verify::Verified;
-use pramc::{MapChoice, Options, compile};
+use program_runs::compile;
+use run_options::{MapChoice, Options};
 use std::alloc::Global;
 
 pub(crate) const TREE_SUM: &[u8] =

@@ -1,10 +1,17 @@
 // Calls of the program over files in memory, in words and as JSON.
 
-use pram_syntax::Buffer;
-use pramc::{Beside, CommandLine, SourceFault, Sources, Status, Terminal, Unwatched, command};
+ghost use Rattle.std.specs.Prelude.{◌<◌, ◌^◌};
+
+use command_line::command;
+use command_text::Terminal;
+use command_words::CommandLine;
+use pram_syntax::{Buffer, Out};
+use program_texts::Status;
+use progress_lines::Unwatched;
 use std::alloc::{AllocError, Global};
 use std::sync::Wait;
 use std::thread::Threads;
+use system_files::{Beside, SourceFault, Sources};
 
 // Files in memory. For the file `large` there is no memory.
 #[derive(Drop)]
@@ -70,7 +77,7 @@ pub(crate) fn owned(
     Ok(all)
 }
 
-// Calls the program with these words over these files, as `pramc` does.
+// Calls the program with these words over these files, as `pramc` does, on no terminal.
 pub(crate) fn call<R: Threads + Wait + Sync>(
     rt: &R,
     alloc: Global,
@@ -79,23 +86,37 @@ pub(crate) fn call<R: Threads + Wait + Sync>(
     program: &[u8],
     input: &[u8],
 ) -> Result<Said, AllocError> {
-    let owned = owned(alloc, words, more)?;
-    let words = owned.as_slice();
+    let words = owned(alloc, words, more)?;
     let mut shelf = Shelf { program, input };
     let mut out = Buffer::new(alloc);
+    let (status, err) = call_into(rt, alloc, SILENT, words.as_slice(), &mut shelf, &mut out);
+    Ok(Said { status, out, err })
+}
+
+// Calls the program with these words over these files, into that standard output: the exit status, and standard error.
+pub(crate) fn call_into<R: Threads + Wait + Sync, W: Out>(
+    rt: &R,
+    alloc: Global,
+    terminal: Terminal,
+    words: &[String],
+    shelf: &mut Shelf<'_>,
+    out: &mut W,
+) -> (Status, Buffer)
+    requires { (W.Out.state out.old).failures < 2 ^ 62 }
+{
     let mut err = Buffer::new(alloc);
     let status = command(
         rt,
         alloc,
         &CommandLine {},
         words,
-        SILENT,
-        &mut shelf,
+        terminal,
+        shelf,
         &mut Unwatched,
-        &mut out,
+        out,
         &mut err,
     );
-    Ok(Said { status, out, err })
+    (status, err)
 }
 
 // Whether a call of the program prints just that.

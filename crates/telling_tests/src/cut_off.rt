@@ -1,71 +1,86 @@
-// Lines of JSON that a stream doesn't take whole.
+// Outputs that a stream doesn't take whole: they are written whole, or the failure is told, in words and as JSON.
 
-use crate::calls::{SILENT, Shelf, call, owned};
-use pram_syntax::{Buffer, Out, OutFailed};
-use pramc::{CommandLine, Status, Unwatched, command};
+use crate::calls::{call, owned};
+use crate::full::{call_with_room, says_what_is_cut_off};
+use program_texts::Status;
 use std::test::Fail;
 
 // What is told where a stream fails.
-const NOT_WRITTEN: &[u8] = b"\
+const LINE: &[u8] = b"refused E17 WriteFailed\n";
+
+const LINE_OF_JSON: &[u8] = b"\
 {\"message\":\"standard output failed: what stands there is a beginning of the text\",\
 \"name\":\"WriteFailed\",\"refused\":\"E17\"}\n";
 
+const VERSION: &[u8] = b"pramc 0.1.0\n";
+
 const SMALL: &[u8] = b"rule crew; procs 1;\nshared s;\nbegin\nprint s;\nend\n";
 
-// Takes some bytes, and then fails.
-#[derive(Drop)]
-struct Full {
-    room: usize,
-    failures: u64,
+const SUM: &[u8] =
+    b"rule crew; procs 1;\nvar i; var t;\nbegin\nfor i := 1 to 10 do\nt := t + i;\nend\nprint t;\nend\n";
+
+#[test]
+fn a_version_that_is_cut_off_is_told(rt: HostRuntime) -> Result<(), Fail> {
+    let words = owned(rt.alloc(), &["--version"], &[])?;
+    assert!(&rt; says_what_is_cut_off(&rt, rt.alloc(), words.as_slice(), SUM, VERSION, LINE));
+    Ok(())
 }
 
-impl Out for Full {
-    ghost use Rattle.std.specs.Prelude.{None};
-
-    ghost state = { λ f. record { taken = None; failures = f.failures } };
-
-    fn write(&mut self, bytes: &[u8]) -> Result<usize, OutFailed> {
-        if self.room == 0 && !bytes.is_empty() {
-            self.failures += 1;
-            return Err(OutFailed);
-        }
-        let count = bytes.len().min(self.room);
-        self.room -= count;
-        Ok(count)
+// 55 stands on a line, and `ended` on the next.
+#[test]
+fn a_full_output_is_told(rt: HostRuntime) -> Result<(), Fail> {
+    let words = owned(rt.alloc(), &["run", "program"], &[])?;
+    let rows = [
+        (0, Status::Refused, LINE),
+        (8, Status::Refused, LINE),
+        (9, Status::Done, b"".as_slice()),
+    ];
+    for (room, expected, line) in rows {
+        let (status, err) = call_with_room(&rt, rt.alloc(), words.as_slice(), SUM, room);
+        assert!(&rt; status == expected);
+        assert!(&rt; err.bytes() == line);
     }
+    Ok(())
 }
 
-// Facts are written whole, or the failure is told.
+// The listing of a plan, the lines of all rules, and what is told of a run.
+#[test]
+fn a_text_that_is_cut_off_is_told(rt: HostRuntime) -> Result<(), Fail> {
+    for verb in ["plan", "rules", "steps"] {
+        let whole = call(&rt, rt.alloc(), &[verb, "program"], &[], SUM, b"")?;
+        let words = owned(rt.alloc(), &[verb, "program"], &[])?;
+        assert!(&rt;
+            says_what_is_cut_off(
+                &rt,
+                rt.alloc(),
+                words.as_slice(),
+                SUM,
+                whole.out.bytes(),
+                LINE
+            )
+        );
+    }
+    Ok(())
+}
+
+// Facts as JSON.
 #[test]
 fn facts_that_are_cut_off_are_told(rt: HostRuntime) -> Result<(), Fail> {
     let more: &[&str] = &["--format", "json"];
     for verb in ["check", "meaning", "cost", "rules", "steps", "trace"] {
         let whole = call(&rt, rt.alloc(), &[verb, "program"], more, SMALL, b"")?;
-        let size = whole.out.bytes().len();
         let words = owned(rt.alloc(), &[verb, "program"], more)?;
-        for room in 0..size + 1 {
-            let mut shelf = Shelf {
-                program: SMALL,
-                input: b"",
-            };
-            let mut out = Full { room, failures: 0 };
-            let mut err = Buffer::new(rt.alloc());
-            let words = words.as_slice();
-            let status = command(
+        let printed = whole.out.bytes();
+        assert!(&rt;
+            says_what_is_cut_off(
                 &rt,
                 rt.alloc(),
-                &CommandLine {},
-                words,
-                SILENT,
-                &mut shelf,
-                &mut Unwatched,
-                &mut out,
-                &mut err,
-            );
-            let line: &[u8] = if room == size { b"" } else { NOT_WRITTEN };
-            assert!(&rt; (status == Status::Done) == (room == size));
-            assert!(&rt; err.bytes() == line);
-        }
+                words.as_slice(),
+                SMALL,
+                printed,
+                LINE_OF_JSON
+            )
+        );
     }
     Ok(())
 }

@@ -1,7 +1,8 @@
 // What is said on terminals beside what is said without one.
 
-use crate::rows::{SILENT, call_on};
-use pramc::Terminal;
+use crate::calls::{SILENT, Shelf, call_into, owned};
+use command_text::Terminal;
+use pram_syntax::Buffer;
 use std::test::Fail;
 
 // The bounds, which change nothing, and two products, of which one keeps its value.
@@ -40,11 +41,23 @@ fn on_a_terminal_statements_stand_beside_their_lines(rt: HostRuntime) -> Result<
         (output, beside),
         (coloured_output, coloured),
     ];
+    let words = owned(rt.alloc(), &["steps", "program", "--input", "input"], &[])?;
     for (terminal, expected) in rows {
-        let words = &["steps", "program", "--input", "input"];
-        let said = call_on(&rt, rt.alloc(), terminal, words, SMALL, b"3 7")?;
-        assert!(&rt; said.out.bytes() == expected);
-        assert!(&rt; said.err.bytes().is_empty());
+        let mut shelf = Shelf {
+            program: SMALL,
+            input: b"3 7",
+        };
+        let mut out = Buffer::new(rt.alloc());
+        let (_, err) = call_into(
+            &rt,
+            rt.alloc(),
+            terminal,
+            words.as_slice(),
+            &mut shelf,
+            &mut out,
+        );
+        assert!(&rt; out.bytes() == expected);
+        assert!(&rt; err.bytes().is_empty());
     }
     Ok(())
 }
@@ -64,17 +77,23 @@ fn a_terminal_is_told_more(rt: HostRuntime) -> Result<(), Fail> {
         output: true,
         ..SILENT
     };
+    let words = owned(rt.alloc(), &["check", "program"], &[])?;
     for (terminal, expected) in [(SILENT, line), (on_errors, more), (on_output, line)] {
-        let said = call_on(
+        let mut shelf = Shelf {
+            program,
+            input: b"",
+        };
+        let mut out = Buffer::new(rt.alloc());
+        let (_, err) = call_into(
             &rt,
             rt.alloc(),
             terminal,
-            &["check", "program"],
-            program,
-            b"",
-        )?;
-        assert!(&rt; said.err.bytes() == expected);
-        assert!(&rt; said.out.bytes().is_empty());
+            words.as_slice(),
+            &mut shelf,
+            &mut out,
+        );
+        assert!(&rt; err.bytes() == expected);
+        assert!(&rt; out.bytes().is_empty());
     }
     Ok(())
 }
