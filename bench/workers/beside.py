@@ -7,7 +7,7 @@ import subprocess
 import sys
 import time
 
-PRAMC, PEER, PLAIN, CHECKED, PROGRAMS, WORK = sys.argv[1:]
+PRAMC, PEER, PLAIN, CHECKED, MACHINE, PROGRAMS, WORK = sys.argv[1:]
 BOUND = ["--bound", "100000000"]
 REPEATS = 5
 # How often loops written by hand run in a call, of which one alone takes about as long as a process starts.
@@ -117,6 +117,8 @@ def programs(crossing):
         ratios = [one / peer[0], four / peer[0], four / checked, one / plain]
         words = ["1 worker / interpreter", "4 workers / interpreter", "4 workers / 4 threads, sanitized", "1 worker / 1 thread"]
         print("  " + "; ".join(f"{it} {ratio:.2f} (aim {aim})" for it, ratio, aim in zip(words, ratios, aims)))
+        alike = by_hand(MACHINE, name, 1)
+        print(f"  loops by hand that do what the code does: {alike:.3f} s, of which 1 worker takes {one / alike:.1f} times")
         if any(ratio > aim for ratio, aim in zip(ratios, aims)):
             for p in WORKERS:
                 exchanges, sent = traffic(path, p)

@@ -12,5 +12,6 @@ cargo build --quiet --release --offline --manifest-path "$work/yardstick/Cargo.t
 plain=$top/bench/yardstick/plain.c
 gcc -O3 -fopenmp -o "$work/plain" "$plain"
 gcc -O2 -g -fopenmp -fsanitize=thread -o "$work/checked" "$plain"
+gcc -O3 -o "$work/machine" "$top/bench/yardstick/machine.c"
 python3 "$(dirname "$0")/beside.py" "$top/bin/pramc" "$work/yardstick/target/release/peer" "$work/plain" "$work/checked" \
-    "$top/bench/yardstick" "$work"
+    "$work/machine" "$top/bench/yardstick" "$work"
