@@ -20,12 +20,14 @@ use std::sync::Wait;
 
 /// A barrier at which each worker hands each one a message, at every crossing.
 ///
-/// It may be lent to threads. `Turnstile::close` gives its memory back; where it is let go the memory is never freed.
+/// It may be lent to threads. `Turnstile::close` gives its memory back; where it is let go the memory is never freed. A worker that waits
+/// for another sleeps at once, unless `set_looks` says how often it looks before.
 #[derive(Drop)]
 pub struct Turnstile {
     table: Table<Option<Letter>, View, Blocks, Turns, Global>,
     blocks: ManuallyDrop<Blocks>,
     workers: usize,
+    looks: u32,
 }
 
 impl Model for Turnstile {
@@ -76,6 +78,7 @@ impl Turnstile {
                     table,
                     blocks: unsafe { ManuallyDrop::new_unchecked(blocks) },
                     workers,
+                    looks: 0,
                 };
                 Ok((turnstile, seats))
             }
@@ -84,6 +87,15 @@ impl Turnstile {
                 Err(AllocError)
             }
         }
+    }
+
+    /// How often a worker looks at another that it waits for before it sleeps. A sleep and the wake behind it take microseconds, which
+    /// looks save where the other comes within that time on a processor of its own; where it waits for this one's processor, they cost it
+    /// time.
+    pub fn set_looks(&mut self, looks: u32)
+        ensures { self.new ≡ self.old }
+    {
+        self.looks = looks;
     }
 
     /// Hands over the row, waits until every worker has handed over its row of the same phase, and lends the column that
@@ -97,7 +109,7 @@ impl Turnstile {
         ensures whole { length result.column ≡ seat.workers }
     {
         let mut work = seat.into_work();
-        pass(rt, &self.table.shared, &mut work);
+        pass(rt, &self.table.shared, &mut work, self.looks);
         ColumnSeat::of(work)
     }
 
@@ -124,6 +136,7 @@ impl Turnstile {
             table,
             blocks,
             workers,
+            looks: _,
         } = self;
         let (_, mut root) = table.shared.load_new_seat::<Collect>(0);
         take_all(&table.shared, &mut root, seats, workers);

@@ -16,6 +16,7 @@ use crate::plays::{Depart, Finish, Look, Turns};
 use crate::views::View;
 use crate::work::{Chair, Work};
 use atomic_table::Shared;
+use std::hint::spin_loop;
 use std::sync::Wait;
 
 pub(crate) type Board = Shared<Option<Letter>, View, Blocks, Turns>;
@@ -89,20 +90,26 @@ fn look(board: &Board, chair: &mut Chair, i: usize, round: u64) -> u64
     board.load::<Look>(chair, i)
 }
 
-// Looks at a worker until it has come as far.
-fn look_until<R: Wait>(rt: &R, board: &Board, chair: &mut Chair, i: usize, round: u64)
+// Looks at a worker until it has come as far: so often at once, and then after each sleep.
+fn look_until<R: Wait>(rt: &R, board: &Board, chair: &mut Chair, i: usize, round: u64, looks: u32)
     requires seat { (chair.old.table_id ≡ board.now.table_id) × (chair.old.me.0.kind ≡ Seated)
         × (round ≡ phase chair.old.me.0.mine) }
     requires unseen { (i < board.now.key.side) × (i < board.now.table_id.words) × (saw chair.old.me.0.mine i ≡ false) }
     ensures seat { (chair.new.table_id ≡ chair.old.table_id) × (chair.new.id ≡ chair.old.id) }
     ensures found { Got chair.old.me i chair.new.me }
 {
+    let mut left = looks;
     for _ in rt.forever() {
         let count = look(board, chair, i, round);
         if round <= count {
             return;
         }
-        board.park(rt, i, (count & LOW) as u32);
+        if left == 0 {
+            board.park(rt, i, (count & LOW) as u32);
+        } else {
+            left -= 1;
+            spin_loop();
+        }
     }
     unreachable!()
 }
@@ -154,7 +161,7 @@ fn take_two(board: &Board, work: &mut Work, i: usize) -> (Letter, Letter)
 }
 
 // Sees the worker i, and takes what it gave.
-fn see_until<R: Wait>(rt: &R, board: &Board, work: &mut Work, i: usize)
+fn see_until<R: Wait>(rt: &R, board: &Board, work: &mut Work, i: usize, looks: u32)
     requires seat { (work.old.chair.table_id ≡ board.now.table_id) × (board.now.key.side ≡ work.old.workers)
         × (i < work.old.workers) × (work.old.round ≤ 2 ^ 63) }
     requires seeing { Seeing i work.old }
@@ -162,7 +169,7 @@ fn see_until<R: Wait>(rt: &R, board: &Board, work: &mut Work, i: usize)
         × (rows_of work.new ≡ rows_of work.old) × ((done work.new).blocks ≡ (done work.old).blocks) }
     ensures seeing { Seeing (i + 1) work.new }
 {
-    look_until(rt, board, &mut work.chair, i, work.round);
+    look_until(rt, board, &mut work.chair, i, work.round, looks);
     let (x, y) = take_two(board, work, i);
     work.row.push_back_reserved(x);
     work.column.push_back_reserved(y);
@@ -226,7 +233,7 @@ pub(crate) fn lay_all(board: &Board, work: &mut Work)
 }
 
 // Sees every worker, and takes what each gave.
-fn see_all<R: Wait>(rt: &R, board: &Board, work: &mut Work)
+fn see_all<R: Wait>(rt: &R, board: &Board, work: &mut Work, looks: u32)
     requires seat { (work.old.chair.table_id ≡ board.now.table_id) × (board.now.key.side ≡ work.old.workers)
         × (work.old.round ≤ 2 ^ 63) }
     requires seeing { Seeing 0 work.old }
@@ -236,12 +243,12 @@ fn see_all<R: Wait>(rt: &R, board: &Board, work: &mut Work)
 {
     let workers = work.workers;
     for i in 0..workers {
-        see_until(rt, board, work, i);
+        see_until(rt, board, work, i, looks);
     }
 }
 
-/// One crossing: the row is handed over, and the column of the same phase is there.
-pub(crate) fn pass<R: Wait>(rt: &R, board: &Board, work: &mut Work)
+/// One crossing: the row is handed over, and the column of the same phase is there. A worker is looked at so often before a sleep.
+pub(crate) fn pass<R: Wait>(rt: &R, board: &Board, work: &mut Work, looks: u32)
     requires seat { (work.old.chair.table_id ≡ board.now.table_id) × (board.now.key.side ≡ work.old.workers) }
     requires few { work.old.round < 2 ^ 63 }
     requires rested { Rested work.old }
@@ -257,5 +264,5 @@ pub(crate) fn pass<R: Wait>(rt: &R, board: &Board, work: &mut Work)
     finish(board, &mut work.chair, work.worker);
     work.round += 1;
     board.wake_all(work.worker);
-    see_all(rt, board, work);
+    see_all(rt, board, work, looks);
 }

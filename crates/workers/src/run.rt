@@ -28,10 +28,21 @@ use exchange_counts::Counts;
 use run_options::{Reserve, Terms};
 use std::alloc::Global;
 use std::sync::Wait;
-use std::thread::Threads;
+use std::thread::{Threads, available_parallelism};
 use superstep_instructions::Code;
 use turnstile::{RowSeat, Turnstile};
 use write_rules::Outcome;
+
+// How often a worker looks at another before it sleeps.
+const LOOKS: u32 = 100;
+
+// It looks where each worker can have a processor of its own. Where they are fewer, it would take the time of the one that it waits for.
+fn looks_of<R: Threads>(rt: &R, workers: u32) -> u32 {
+    match available_parallelism(rt) {
+        Ok(processors) if workers as usize <= processors.get() => LOOKS,
+        _ => 0,
+    }
+}
 
 // All workers play their parts, a thread being started for each. All seats come back, and the workers if they began: where the start of a
 // thread is refused, none does.
@@ -97,9 +108,10 @@ fn run_code<R: Threads + Wait + Sync, M: AddressMap + Sync, G: Gate + Sync>(
         return Err(RunRefusal::OutOfMemory);
     };
     let most = opened[0].local.buffers.reply.len();
-    let Ok((turnstile, seats)) = Turnstile::new(alloc, terms.workers as usize, most) else {
+    let Ok((mut turnstile, seats)) = Turnstile::new(alloc, terms.workers as usize, most) else {
         return Err(RunRefusal::OutOfMemory);
     };
+    turnstile.set_looks(looks_of(rt, terms.workers));
     let Ok(room) = RunRoom::new(alloc, terms.workers as usize) else {
         turnstile.close(seats);
         return Err(RunRefusal::OutOfMemory);

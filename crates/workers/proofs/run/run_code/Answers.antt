@@ -11,6 +11,8 @@ use Rattle.bsp_machine.specs.Workers.{AreKept}
 use Rattle.bsp_machine.specs.Reserves.{HaveReserve, refusal_for}
 use Rattle.bsp_machine.specs.Opening.{AreFresh}
 use Rattle.std.proofs.lemmas.Option.{slice_get-get_or}
+use Rattle.turnstile.specs.Seats as seat
+use Rattle.turnstile.specs.Seats.{TurnstileShape}
 use Rattle.workers.specs.Gathered.{HaveEnded}
 use Rattle.workers.specs.Past.{ComesPast, IsRefusalWith, StaysWithin}
 use Rattle.worker_exchange.proofs.OpeningLemmas.{few_words}
@@ -70,12 +72,14 @@ play_all-seats-requires-clause-begin g c κs within =
     let goes = (c.in_ok-opened.ensures.opened 0 x here).going c.args.terms.bound in
     let most : c.len-most.result ≡ most_words code m = c.len-most.ensures ∙ x.local.buffers.reply.ok.0 ∙ goes.equipped.buffers.reply in
     let made = c.in-Ok-new.ensures in
+    let same = c.set_looks.ensures in
+    let seats = c.in-Ok-new.seats.items in
     record {
       runnable = goes.runnable;
-      parts = made.workers ∙ sym parts;
-      room = made.room ∙ most;
-      all = made.seats;
-      fresh = made.fresh;
+      parts = ap (λ (t : TurnstileShape). t.workers) same ∙ made.workers ∙ sym parts;
+      room = ap (λ (t : TurnstileShape). t.room) same ∙ made.room ∙ most;
+      all = subst (λ (t : TurnstileShape). seat.AreSeatsOf t seats) (sym same) made.seats;
+      fresh = subst (λ (t : TurnstileShape). seat.AreFresh t seats) (sym same) made.fresh;
       many = many ∙ sym parts;
       opened = record { input = c.args.input.now; fresh = c.in_ok-opened.ensures.opened };
     }
