@@ -17,7 +17,6 @@ TOP = Path(__file__).resolve().parent.parent
 PAGE = TOP / "bench" / "README.md"
 TIME = "/usr/bin/time"
 TABLE = re.compile(r"(<!-- memory, by gate/memory_table.py -->\n\n).*?(\n\n<!-- end -->)", re.S)
-WORKERS = ["--workers", "4"]
 COMMANDS = {
     "check": ["check"],
     "plan": ["plan"],
@@ -29,8 +28,10 @@ COMMANDS = {
     "of them 3": ["steps", "--from", "1", "--to", "3"],
     "page": ["steps", "--html"],
     "flow": ["steps", "--flow"],
-    "run": ["run", *WORKERS],
-    "trace": ["trace", *WORKERS],
+    "run by 1": ["run", "--workers", "1"],
+    "by 4": ["run", "--workers", "4"],
+    "by 32": ["run", "--workers", "32"],
+    "trace": ["trace", "--workers", "4"],
 }
 UNBOUNDED = {"check", "plan"}
 
@@ -112,7 +113,7 @@ def shown(size):
 
 def table(found):
     yield "| Program | Bound | " + " | ".join(f"`{it}`" if it in ("check", "plan", "cost", "rules", "run", "trace", "meaning", "steps")
-                                              else it for it in COMMANDS) + " |"
+                                              else it.replace("run ", "`run` ") for it in COMMANDS) + " |"
     yield "|---|---|" + "---|" * len(COMMANDS)
     for name, sizes in found.items():
         yield f"| {name} | {PROGRAMS[name][0]:,} | " + " | ".join(map(shown, sizes)) + " |"
