@@ -4,7 +4,7 @@ use Rattle.text_out.specs.Out.{OutState}
 use Rattle.program_texts.specs.declared.stop.Stop.{Stop}
 use Rattle.diagnoses.specs.declared.about.About.{About}
 use Rattle.diagnoses.specs.declared.about.About.TheVariants.{Nothing}
-use Rattle.command_facts.specs.declared.halted.Halted.{Halted}
+use Rattle.diagnoses.specs.declared.halted.Halted.{Halted}
 
 pub told_alone : (IsTold : Stop → About → OutState → OutState → Type 0) (h : Halted) (why : Stop) (old new : OutState) →
     (h.stop ≡ why) × (h.about ≡ Nothing) → IsTold h.stop h.about old new → IsTold why Nothing old new

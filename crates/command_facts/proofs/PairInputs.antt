@@ -11,7 +11,7 @@ use Rattle.comparisons.specs.Found.{values_of}
 use Rattle.command_requests.specs.declared.input_words.InputFile.{InputFile}
 use Rattle.command_requests.specs.declared.input_words.InputWords.{InputWords}
 use Rattle.command_requests.specs.declared.input_words.InputWords.TheVariants as inputs
-use Rattle.command_facts.specs.declared.halted.Halted.{Halted}
+use Rattle.diagnoses.specs.declared.halted.Halted.{Halted}
 use Rattle.command_facts.specs.Held.{IsOfInput, StopsAtInput}
 use Rattle.command_facts.specs.Pairs.{AreInputs, AreMost, IsInputOfFile, IsRefusedPair, StopsAtInputs, StopsAtWords}
 use Rattle.command_facts.proofs.Same.{at_file}

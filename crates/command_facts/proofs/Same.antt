@@ -8,7 +8,7 @@ use Rattle.program_texts.specs.declared.stop.Stop.{Stop}
 use Rattle.program_texts.specs.declared.stop.Stop.TheVariants as stop
 use Rattle.diagnoses.specs.declared.about.About.{About}
 use Rattle.diagnoses.specs.declared.about.About.TheVariants as about
-use Rattle.command_facts.specs.declared.halted.Halted.{Halted}
+use Rattle.diagnoses.specs.declared.halted.Halted.{Halted}
 use Rattle.command_requests.specs.declared.opening.Opening.{Opening}
 use Rattle.command_requests.specs.declared.opening.Opening.TheVariants as opening
 use Rattle.pram_check.specs.Checked.{Checked}

@@ -14,7 +14,7 @@ use Rattle.sweep_texts.specs.declared.size_row.Ending.{Ending}
 use Rattle.command_requests.specs.declared.request.Verb.TheVariants as verb
 use Rattle.command_facts.specs.declared.found.FoundRun.{FoundRun}
 use Rattle.command_facts.specs.Found.{IsRunFound}
-use Rattle.command_facts.specs.declared.halted.Halted.{Halted}
+use Rattle.diagnoses.specs.declared.halted.Halted.{Halted}
 use Rattle.command_facts.specs.Refused.{RefusesRun}
 use Rattle.command_facts.specs.Sweeps.{AreWordsAt, ComesOut, HasNoInput, IsEndingOf, IsOpeningAt, IsRefusedFor, RunsAs, with_opening}
 

@@ -22,7 +22,7 @@ use Rattle.command_requests.specs.declared.request.Verb.{Verb}
 use Rattle.command_requests.specs.declared.request.Verb.TheVariants as verb
 use Rattle.command_facts.specs.declared.found.Found.{Found}
 use Rattle.command_facts.specs.declared.found.Found.TheVariants as found
-use Rattle.command_facts.specs.declared.halted.Halted.{Halted}
+use Rattle.diagnoses.specs.declared.halted.Halted.{Halted}
 use Rattle.bsp_verify.specs.WellFormed.{IsWellFormed}
 use Rattle.command_facts.specs.Held.{IsExpansionIn, IsListingIn, IsTextIn, StopsAtListing, StopsAtProgram, StopsAtText}
 use Rattle.command_facts.specs.Found.{IsCodeFound, IsComparisonFound, IsLoaded, IsRunFound, IsStepsFound}

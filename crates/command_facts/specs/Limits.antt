@@ -11,7 +11,7 @@ use Rattle.diagnoses.specs.declared.about.About.TheVariants as about
 use Rattle.command_requests.specs.declared.pair_words.PairWords.{PairWords}
 use Rattle.command_requests.specs.declared.request.SizeWord.{SizeWord}
 use Rattle.command_sizes.specs.Given.{AreSizesOf, IsOfSizes}
-use Rattle.command_facts.specs.declared.halted.Halted.{Halted}
+use Rattle.diagnoses.specs.declared.halted.Halted.{Halted}
 
 -- An expression comes to that number by the sizes of a text and of the words of the call.
 abbrev pub IsNumberBy : List SizeWord → (text expression : List ℕ) → ℕ → Type 0

@@ -25,7 +25,7 @@ use Rattle.program_texts.specs.declared.from_text.Refusal.TheVariants as refusal
 use Rattle.program_texts.specs.declared.stop.Stop.{Stop}
 use Rattle.program_texts.specs.declared.stop.Stop.TheVariants as stop
 use Rattle.command_facts.specs.declared.found.FoundPair.{FoundPair}
-use Rattle.command_facts.specs.declared.halted.Halted.{Halted}
+use Rattle.diagnoses.specs.declared.halted.Halted.{Halted}
 use Rattle.command_facts.specs.Held.{IsInputIn, StopsAtInput, StopsAtProgram}
 use Rattle.command_facts.specs.Limits.{AreLimits, HaveNoLimits}
 use Rattle.command_facts.specs.Refused.{AreNumbers, IsProgramIn}

@@ -20,7 +20,7 @@ use Rattle.command_requests.specs.declared.opening.Opening.TheVariants as openin
 use Rattle.command_requests.specs.declared.request.RunWords.{RunWords}
 use Rattle.command_requests.specs.declared.request.Verb.{Verb}
 use Rattle.command_requests.specs.declared.request.Verb.TheVariants as verb
-use Rattle.command_facts.specs.declared.halted.Halted.{Halted}
+use Rattle.diagnoses.specs.declared.halted.Halted.{Halted}
 use Rattle.command_facts.specs.Found.{IsOpening}
 use Rattle.sized_texts.specs.Pieces.{Expansion}
 use Rattle.command_requests.specs.declared.request.ProgramFile.{ProgramFile}

@@ -14,7 +14,7 @@ use Rattle.program_texts.specs.declared.from_text.Refusal.TheVariants as refusal
 use Rattle.program_texts.specs.declared.stop.Stop.{Stop}
 use Rattle.program_texts.specs.declared.stop.Stop.TheVariants as stop
 use Rattle.command_facts.specs.declared.found.FoundScope.{FoundScope}
-use Rattle.command_facts.specs.declared.halted.Halted.{Halted}
+use Rattle.diagnoses.specs.declared.halted.Halted.{Halted}
 use Rattle.command_facts.specs.declared.loaded.Loaded.{Loaded}
 use Rattle.command_facts.specs.Found.{IsLoaded}
 use Rattle.command_facts.specs.Held.{StopsAtProgram}

@@ -36,7 +36,7 @@ use Rattle.command_facts.specs.declared.found.Facts.{Facts}
 use Rattle.command_facts.specs.declared.found.Facts.TheVariants as facts
 use Rattle.command_facts.specs.declared.found.FoundRun.{FoundRun}
 use Rattle.command_facts.specs.declared.found.FoundSweep.{FoundSweep}
-use Rattle.command_facts.specs.declared.halted.Halted.{Halted}
+use Rattle.diagnoses.specs.declared.halted.Halted.{Halted}
 use Rattle.command_facts.specs.Held.{StopsAtProgram}
 use Rattle.command_facts.specs.Found.{IsRunFound}
 use Rattle.command_facts.specs.Refused.{RefusesRun}

@@ -4,11 +4,10 @@ ghost use Rattle.std.specs.Prelude.{◌≡◌, ◌<◌, ◌≤◌, IfOk, IfErr, 
 ghost use Rattle.command_facts.specs.Scopes as spec;
 
 use crate::found::FoundScope;
-use crate::halted::Halted;
 use crate::loading::load_program;
 use call_progress::Watch;
 use command_requests::{ProgramFile, ScopeWords};
-use diagnoses::About;
+use diagnoses::{About, Halted};
 use explorers::explore_by;
 use pram_check::Program;
 use pram_meaning::MeaningRefusal;

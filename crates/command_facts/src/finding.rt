@@ -9,7 +9,7 @@ ghost use Rattle.command_facts.specs.Held.{StopsAtProgram};
 
 use crate::exploring::find_scope;
 use crate::found::{Found, FoundCode, FoundRun, FoundSteps};
-use crate::halted::{Halted, halted_run};
+use crate::halted::halted_run;
 use crate::loaded::Loaded;
 use crate::loading::{load_listing, load_program, load_text};
 use crate::opening::load_opening;
@@ -20,6 +20,7 @@ use crate::timed::made;
 use bsp_verify::Verified;
 use call_progress::Watch;
 use command_requests::{ProgramFile, Request, RunWords, Verb};
+use diagnoses::Halted;
 use memory_texts::unknown_name;
 use pram_trees::{Layout, Tree};
 use program_runs::{compile_program, outcome_of_code};

@@ -1,30 +1,11 @@
-//! Why a call ends without an outcome, and what is known besides.
+//! Why a run is not made, and what is known besides.
 
 ghost use Rattle.std.specs.Prelude.{◌≡◌};
-ghost use Rattle.diagnoses.specs.declared.about.About.TheVariants.{Nothing};
 ghost use Rattle.program_texts.specs.declared.stop.Stop.TheVariants.{Refused};
 ghost use Rattle.command_facts.specs.Refused as spec;
 
-use diagnoses::About;
+use diagnoses::{About, Halted};
 use program_texts::{Refusal, Stop};
-
-/// Why a call ends without an outcome, and what is known besides.
-#[derive(Drop)]
-pub struct Halted<'a> {
-    pub stop: Stop<'a>,
-    pub about: About<'a>,
-}
-
-impl<'a> From<Stop<'a>> for Halted<'a> {
-    ghost from_gives = { λ stop h. (h.stop ≡ stop) × (h.about ≡ Nothing) };
-
-    fn from(stop: Stop<'a>) -> Halted<'a> {
-        Halted {
-            stop,
-            about: About::Nothing,
-        }
-    }
-}
 
 fn about_run<'a>(refusal: Refusal, values: usize, cells: u32) -> About<'a>
     ensures { spec.IsToldWith refusal values cells result }

@@ -23,6 +23,5 @@ pub use finding::find;
 pub use found::{
     Facts, Found, FoundCode, FoundPair, FoundRun, FoundScope, FoundSteps, FoundSweep, FoundTrace,
 };
-pub use halted::Halted;
 pub use loaded::Loaded;
 pub use status::status_of;

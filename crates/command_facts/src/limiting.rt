@@ -10,10 +10,10 @@ ghost use Rattle.command_sizes.specs.Given.{AreSizesOf};
 ghost use Rattle.command_requests.specs.declared.request.SizeWord.{SizeWord as SizeWordOf};
 ghost use Rattle.command_facts.specs.Limits as spec;
 
-use crate::halted::Halted;
 use command_requests::{PairWords, SizeWord};
 use command_sizes::sizes_of;
 use comparisons::Limits;
+use diagnoses::Halted;
 use program_texts::{Refusal, Stop};
 use sized_texts::{SizeFault, number_by};
 use std::alloc::Global;

@@ -14,12 +14,11 @@ ghost use Rattle.command_facts.specs.Held.{IsOfMissing, IsListingIn, IsOfCodeIn,
 ghost use Rattle.command_facts.specs.Listings.{IsOfListing, line_of_instruction};
 ghost use Rattle.command_facts.specs.Listings.{reason_word as spec_reason_word};
 
-use crate::halted::Halted;
 use crate::loaded::Loaded;
 use bsp_verify::{Reason, Verified, VerifyFault, verify};
 use command_requests::ProgramFile;
 use command_sizes::{expanded, sizes_of};
-use diagnoses::{About, Kind, Source, Unread};
+use diagnoses::{About, Halted, Kind, Source, Unread};
 use near_names::nearest_name;
 use pram_tokens::LONGEST;
 use pram_trees::TextFault;

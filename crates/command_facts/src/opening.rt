@@ -12,10 +12,9 @@ ghost use Rattle.command_facts.specs.Found.{IsOpening};
 ghost use Rattle.command_facts.specs.Held.{IsInputIn, IsOfMemoryIn, IsMemoryIn, StopsAtInput, StopsAtMemory};
 ghost use Rattle.command_facts.specs.Refused.{StopsAtOpening};
 
-use crate::halted::Halted;
 use crate::loading::{load, source_of};
 use command_requests::Opening;
-use diagnoses::{About, Kind};
+use diagnoses::{About, Halted, Kind};
 use drawn_inputs::{Drawing, draw};
 use memory_texts::{MemoryFault, read_memory};
 use pram_check::{Breach, Cause, Spot};

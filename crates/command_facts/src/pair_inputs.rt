@@ -6,9 +6,9 @@ ghost use Rattle.system_files.specs.Files.{IsSame};
 ghost use Rattle.comparisons.specs.Found.{values_of};
 ghost use Rattle.command_facts.specs.Pairs as spec;
 
-use crate::halted::Halted;
 use crate::opening::load_input;
 use command_requests::InputFile;
+use diagnoses::Halted;
 use program_texts::{Refusal, Stop};
 use std::alloc::Global;
 use system_files::Sources;

@@ -18,7 +18,6 @@ ghost use Rattle.command_facts.specs.Pairs as spec;
 ghost use Rattle.command_facts.specs.Refused.{IsProgramIn};
 
 use crate::found::FoundPair;
-use crate::halted::Halted;
 use crate::limiting::limits_of;
 use crate::loading::load_program;
 use crate::pair_inputs::load_inputs;
@@ -27,7 +26,7 @@ use comparisons::{
     CommonRange, Compared, Comparison, ComparisonRefusal, Side, common_ranges, compare_drawn,
     compare_inputs, compare_scope, longest, named_range,
 };
-use diagnoses::About;
+use diagnoses::{About, Halted};
 use memory_texts::{Choice, is_chosen};
 use pram_check::Program;
 use pram_trees::Layout;

@@ -11,10 +11,10 @@ ghost use Rattle.diagnoses.specs.Stops.{bytes_in as bytes_of, name_in as name_of
 ghost use Rattle.command_facts.specs.Written.{IsReported};
 ghost use Rattle.command_json.specs.Left as spec;
 
-use command_facts::{Found, Halted};
+use command_facts::Found;
 use command_messages::message_for;
 use command_requests::RunWords;
-use diagnoses::{bytes_in, name_in, refusal_as_it_stands};
+use diagnoses::{Halted, bytes_in, name_in, refusal_as_it_stands};
 use itoa::Buffer;
 use json_texts::{json_refusal, out_of_memory_line};
 use program_texts::Stop;

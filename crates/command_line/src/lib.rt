@@ -3,4 +3,5 @@
 
 mod commanding;
 
+pub use command_text::Terminal;
 pub use commanding::command;

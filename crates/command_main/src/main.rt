@@ -1,8 +1,7 @@
 //! The program `pramc`, over the system's files and streams.
 #![tactic(auto)]
 
-use command_line::command;
-use command_text::Terminal;
+use command_line::{Terminal, command};
 use command_words::CommandLine;
 use progress_lines::{ErrorStream, ProgressLine};
 use std::io::{IsTerminal, Print};

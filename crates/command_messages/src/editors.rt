@@ -7,8 +7,7 @@ ghost use Rattle.refusal_messages.specs.Messages.{message_is};
 ghost use Rattle.command_messages.specs.Editors as spec;
 
 use crate::messages::message_for;
-use command_facts::Halted;
-use diagnoses::{write_gnu_about, write_refused_line};
+use diagnoses::{Halted, write_gnu_about, write_refused_line};
 use refusal_messages::Message;
 use std::alloc::{AllocError, Global};
 use text_out::{Out, WriteFault};

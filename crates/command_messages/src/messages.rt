@@ -7,8 +7,7 @@ ghost use Rattle.word_faults.specs.Sentences.{word_fault};
 ghost use Rattle.refusal_messages.specs.Messages.{message_is};
 ghost use Rattle.command_messages.specs.Messages as spec;
 
-use command_facts::Halted;
-use diagnoses::message_of;
+use diagnoses::{Halted, message_of};
 use program_texts::Stop;
 use refusal_messages::Message;
 use std::alloc::{AllocError, Global};

@@ -11,10 +11,10 @@ ghost use Rattle.command_text.specs.Explained as spec;
 
 use crate::terminal::Terminal;
 use call_progress::Watch;
-use command_facts::{Found, FoundCode, FoundRun, Halted};
+use command_facts::{Found, FoundCode, FoundRun};
 use command_messages::write_for_editors;
 use diagnoses::{
-    Reason, run_reason, write_fault_sentence, write_refused_line, write_run_fault,
+    Halted, Reason, run_reason, write_fault_sentence, write_refused_line, write_run_fault,
     write_stop_diagnosis,
 };
 use endless_runs::{Cycle, find_cycle};

@@ -8,6 +8,7 @@ mod event_text;
 mod fault_text;
 mod files;
 mod fitting;
+mod halted;
 mod laws;
 mod numbers;
 mod parts;
@@ -26,6 +27,7 @@ mod wrong_element;
 pub use about::{About, Unread};
 pub use fault_text::{write_fault_sentence, write_run_fault};
 pub use fitting::Role;
+pub use halted::Halted;
 pub use laws::{
     a_meant_name_may_stand_there, a_name_is_meant_where_one_is_near, what_may_stand_is_not_refused,
 };

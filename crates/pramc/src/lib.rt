@@ -2,8 +2,7 @@
 #![tactic(auto)]
 
 pub use call_progress::Watch;
-pub use command_line::command;
-pub use command_text::Terminal;
+pub use command_line::{Terminal, command};
 pub use command_words::CommandLine;
 pub use exchange_counts::{Count, Counts};
 pub use program_runs::{
