@@ -1,4 +1,4 @@
-// What is written where the program stops without an outcome: each reason with its line.
+//! What is written where the program stops without an outcome: each reason with its line, which is its own text too.
 
 use pram_check::{Breach, Cause, CheckFault, Limit, Spot};
 use pram_syntax::{Buffer, OutFailed, TextFault, WriteFault};
