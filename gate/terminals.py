@@ -9,6 +9,7 @@ import pty
 import subprocess
 import sys
 import tempfile
+import threading
 import tty
 from pathlib import Path
 
@@ -103,8 +104,11 @@ def said(words, terminals, env, folder):
     going = subprocess.Popen([PROGRAM, *words.split()], cwd=folder, env=env, **streams)
     for _, theirs in pairs:
         os.close(theirs)
+    late = threading.Timer(60, going.kill)
+    late.start()
     output, errors = (read(ours) for ours, _ in pairs)
-    return output, errors, going.wait(60)
+    late.cancel()
+    return output, errors, going.wait()
 
 
 def main():
