@@ -43,74 +43,91 @@ fn is_written(alloc: Global, stop: &Stop<'_>, line: &str) -> Result<bool, AllocE
     Ok(is_whole && written.bytes() == line.as_bytes() && told.as_bytes() == line.as_bytes())
 }
 
+// Whether that line is written of a fault of a text, and is its own text.
+fn is_of_text(alloc: Global, fault: TextFault, line: &str) -> Result<bool, AllocError> {
+    let told = format!(in alloc; "refused {fault}\n")?;
+    let stop = Stop::Refused(Refusal::Text(fault));
+    Ok(is_written(alloc, &stop, line)? && told.as_bytes() == line.as_bytes())
+}
+
+// The same of what is wrong with a program.
+fn is_of_program(alloc: Global, cause: Cause, line: &str) -> Result<bool, AllocError> {
+    let spot = Spot::Offset(57);
+    let breach = Breach { spot, cause };
+    let fault = CheckFault::Refused(breach);
+    let told = format!(in alloc; "refused {fault}\n")?;
+    let stop = Stop::Refused(Refusal::Program(breach));
+    Ok(is_written(alloc, &stop, line)? && told.as_bytes() == line.as_bytes())
+}
+
 #[test]
 fn a_refusal_is_written_by_its_text(rt: HostRuntime) -> Result<(), Fail> {
-    let alloc = rt.alloc();
     for (fault, line) in &TEXTS {
-        let stop = Stop::Refused(Refusal::Text(*fault));
-        assert!(&rt; is_written(alloc, &stop, line)?);
-        let told = format!(in alloc; "refused {fault}\n")?;
-        assert!(&rt; told.as_bytes() == line.as_bytes());
+        assert!(&rt; is_of_text(rt.alloc(), *fault, line)?);
     }
     for (cause, line) in &CAUSES {
-        let spot = Spot::Offset(57);
-        let breach = Breach {
-            spot,
-            cause: *cause,
-        };
-        let stop = Stop::Refused(Refusal::Program(breach));
-        assert!(&rt; is_written(alloc, &stop, line)?);
-        let fault = CheckFault::Refused(breach);
-        let told = format!(in alloc; "refused {fault}\n")?;
-        assert!(&rt; told.as_bytes() == line.as_bytes());
+        assert!(&rt; is_of_program(rt.alloc(), *cause, line)?);
     }
     Ok(())
 }
 
-#[test]
-fn any_other_stop_is_written_by_its_text(rt: HostRuntime) -> Result<(), Fail> {
-    let alloc = rt.alloc();
-    let rows = [
-        (
-            Stop::Refused(Refusal::InputTooLong),
-            "refused E11 InputTooLong\n",
-        ),
-        (Stop::Refused(Refusal::BadMap), "refused E12 BadMap\n"),
-        (
-            Stop::Refused(Refusal::BadWorkers),
-            "refused E13 BadWorkers\n",
-        ),
-        (
-            Stop::NotVerified(0, "exchange"),
-            "refused E14 NotVerified at 0 exchange\n",
-        ),
-        (Stop::BadListing(24), "refused E15 BadListing at 24\n"),
-        (
-            Stop::Refused(Refusal::OutOfMemory),
-            "refused E16 OutOfMemory\n",
-        ),
-        (
-            Stop::Refused(Refusal::OutOfReserve),
-            "refused E18 OutOfReserve\n",
-        ),
-        (
-            Stop::BadSize(48, Reason::UnknownName),
-            "refused E19 BadSize at 48 unknown\n",
-        ),
-        (Stop::Number("1x"), "refused P1 1x\n"),
-        (Stop::Unreadable("nowhere"), "refused P2 nowhere\n"),
-        (Stop::WriteFailed, "refused E17 WriteFailed\n"),
-    ];
-    for (stop, line) in &rows {
-        assert!(&rt; is_written(alloc, stop, line)?);
-    }
+// Whether the line of each refusal of a run is written.
+fn runs_are_refused(alloc: Global) -> Result<bool, AllocError> {
+    let long = Stop::Refused(Refusal::InputTooLong);
+    let map = Stop::Refused(Refusal::BadMap);
+    let workers = Stop::Refused(Refusal::BadWorkers);
+    let memory = Stop::Refused(Refusal::OutOfMemory);
+    let reserve = Stop::Refused(Refusal::OutOfReserve);
+    Ok(
+        is_written(alloc, &long, "refused E11 InputTooLong\n")?
+            && is_written(alloc, &map, "refused E12 BadMap\n")?
+            && is_written(alloc, &workers, "refused E13 BadWorkers\n")?
+            && is_written(alloc, &memory, "refused E16 OutOfMemory\n")?
+            && is_written(alloc, &reserve, "refused E18 OutOfReserve\n")?,
+    )
+}
+
+// Whether the line of each other refusal of a file is.
+fn files_are_refused(alloc: Global) -> Result<bool, AllocError> {
+    let code = Stop::NotVerified(0, "exchange");
+    let listing = Stop::BadListing(24);
+    let size = Stop::BadSize(48, Reason::UnknownName);
+    Ok(
+        is_written(alloc, &code, "refused E14 NotVerified at 0 exchange\n")?
+            && is_written(alloc, &listing, "refused E15 BadListing at 24\n")?
+            && is_written(alloc, &size, "refused E19 BadSize at 48 unknown\n")?,
+    )
+}
+
+// Whether that of each word of a call is, and of a writer.
+fn words_are_refused(alloc: Global) -> Result<bool, AllocError> {
+    let number = Stop::Number("1x");
+    let file = Stop::Unreadable("nowhere");
+    let full = Stop::WriteFailed;
     let failed = format!(in alloc; "{} {}", WriteFault, OutFailed)?;
-    assert!(&rt; failed.as_bytes() == b"E17 WriteFailed E17 WriteFailed".as_slice());
+    Ok(
+        is_written(alloc, &number, "refused P1 1x\n")?
+            && is_written(alloc, &file, "refused P2 nowhere\n")?
+            && is_written(alloc, &full, "refused E17 WriteFailed\n")?
+            && failed.as_bytes() == b"E17 WriteFailed E17 WriteFailed".as_slice(),
+    )
+}
+
+// Whether the words of the command line's parser are written as they are.
+fn words_are_written(alloc: Global) -> Result<bool, AllocError> {
+    let line = b"error: a word\n";
     let words = Stop::Words(String::from_str(alloc, "error: a word\n")?);
     let mut written = Buffer::new(alloc);
-    assert!(&rt; write_stop(&mut written, &words).is_ok());
-    assert!(&rt; written.bytes() == b"error: a word\n".as_slice());
+    let is_whole = write_stop(&mut written, &words).is_ok();
     let told = format!(in alloc; "{words}")?;
-    assert!(&rt; told.as_bytes() == b"error: a word\n".as_slice());
+    Ok(is_whole && written.bytes() == line.as_slice() && told.as_bytes() == line.as_slice())
+}
+
+#[test]
+fn any_other_stop_is_written_by_its_text(rt: HostRuntime) -> Result<(), Fail> {
+    assert!(&rt; runs_are_refused(rt.alloc())?);
+    assert!(&rt; files_are_refused(rt.alloc())?);
+    assert!(&rt; words_are_refused(rt.alloc())?);
+    assert!(&rt; words_are_written(rt.alloc())?);
     Ok(())
 }
