@@ -48,7 +48,7 @@ def cost(body, times, procs=MOST, turns=400, before=(), behind=()):
 
 HALF = (["pset 4 2", "pmod 5 0 4 1", "mask 5"], ["unmask"])
 SINGLE = [
-    ("a sum", "padd 2 0 1 1", 0.6, 1.5),
+    ("a sum", "padd 2 0 1 1", 0.6, 1.2),
     ("a sum onto an operand", "padd 2 2 1 1", 0.6, 2.3),
     ("a comparison", "plt 2 0 1", 0.6, 1.5),
     ("a connective", "pand 2 0 1", 0.6, 1.5),
@@ -62,9 +62,9 @@ def main():
         path = f"{PROGRAMS}/{name}.pram"
         ours, theirs = fastest([[PRAMC, "run", path, "--workers", "1", *BOUND], [PEER, "run", path, *BOUND]])
         print(f"{name}: {ours:.3f} s, interpreter {theirs:.3f} s, ratio {ours / theirs:.2f}")
-    print(f"a read, from ask to register: {cost(['pask 2 0 0 1', 'send', 'reply'], 1):.2f} ns (aim 10)")
-    print(f"a put, to its cell: {cost(['pput 0 0 1 1', 'send'], 1):.2f} ns (aim 16)")
-    print(f"a uniform instruction: {cost(['uadd 4 4 3 1'], 1000, procs=1, turns=10000):.2f} ns (aim 3)")
+    print(f"a read, from ask to register: {cost(['pask 2 0 0 1', 'send', 'reply'], 1):.2f} ns (aim 8)")
+    print(f"a put, to its cell: {cost(['pput 0 0 1 1', 'send'], 1):.2f} ns (aim 10)")
+    print(f"a uniform instruction: {cost(['uadd 4 4 3 1'], 1000, procs=1, turns=10000):.2f} ns (aim 2)")
     for name, instr, aim, listed_aim in SINGLE:
         all_active = cost([instr], 10)
         # half of the processors are active

@@ -74,7 +74,7 @@ def traffic(path, workers):
     return len(lines), sum(int(word) for words in sent for word in words)
 
 
-def empty_exchange(workers):
+def empty_exchange(workers, prefix=()):
     """How long an exchange without words takes, in microseconds."""
 
     def listing(name, body):
@@ -82,7 +82,7 @@ def empty_exchange(workers):
         code = [*start, "mark 2", f"jzero 0 {7 + len(body)}", "usub 0 0 1 1", *body, "jump 3", "halt"]
         head = ["bsp 1", "rule crew", "procs 1", "uniform 2", "private 0", f"code {len(code)}"]
         text = "".join(f"{line}\n" for line in [*head, *(f"{place} {it}" for place, it in enumerate(code))])
-        return [PRAMC, "exec", file_of(name, text), "--workers", str(workers), *BOUND]
+        return [*prefix, PRAMC, "exec", file_of(name, text), "--workers", str(workers), *BOUND]
 
     more, less = fastest([listing("with", ["send"]), listing("without", [])])
     return (more - less) * 1e6 / TURNS
@@ -133,9 +133,12 @@ def main():
     small = file_of("small", SMALL)
     *starts, meaning = fastest([*(run(small, p) for p in [1, 2, 4, 32]), [PRAMC, "meaning", small, *BOUND]], 50)
     more = ", ".join(f"{p} {(took - meaning) * 1e3:.2f}" for p, took in zip([1, 2, 4, 32], starts))
-    print(f"start of a run: meaning {meaning * 1e3:.2f} ms, workers {more} ms more (aim 2)")
-    crossing = {p: empty_exchange(p) for p in WORKERS}
-    print("an exchange without words: " + ", ".join(f"{p} workers {took:.2f} us" for p, took in crossing.items()))
+    print(f"start of a run: meaning {meaning * 1e3:.2f} ms, workers {more} ms more (aim 0.4 by 4)")
+    crossing = {p: empty_exchange(p) for p in [*WORKERS, 8, 32]}
+    print("an exchange without words: " + ", ".join(f"{p} workers {took:.2f} us" for p, took in crossing.items())
+          + " (aims 3 by 2, 5 by 4)")
+    alone = {p: empty_exchange(p, ["taskset", "-c", "0"]) for p in crossing}
+    print("  on one core: " + ", ".join(f"{p} workers {took:.2f} us" for p, took in alone.items()))
     programs(crossing)
     whole, half = file_of("whole", SWAPS.format(16384)), file_of("half", SWAPS.format(8192))
     for p in WORKERS:
