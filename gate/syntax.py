@@ -106,6 +106,8 @@ def main():
     for row, right in rows:
         if not right:
             print(f"told otherwise: {row}")
+    if not all(found):
+        print("syntax.md: a block has no rows")
     right = sum(bool(it) for _, it in rows)
     print(f"syntax: {right} of {len(rows)} texts and inputs are read, or refused at their byte")
     sys.exit(right != len(rows) or not all(found))
