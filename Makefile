@@ -10,7 +10,8 @@ all: bin/pramc
 bin/pramc: $(sources)
 	bash gate/build.sh
 
-# Runs every example and every command of the documents and compares what they print, and what the examples' code comes to.
+# Runs every example, every command of the documents and every row of gate/rows, and compares what they print, and what the examples' code
+# comes to.
 examples:
 	bash gate/examples.sh
 	bash gate/plans.sh

@@ -1,7 +1,8 @@
 #!/usr/bin/env bash
-# Every proof from nothing, every wrong body, every test and program; then the examples, the documents, drawn programs, the packages,
-# hostile use, the table of memory and plans under MPI, of the program that was proved and built so. The last line is that of the proofs;
-# before it stands what the gate spent on each crate, which nothing here depends on.
+# Every proof from nothing, every wrong body, every test and program; then the examples, the documents, texts that are refused, terminals,
+# outputs that are cut off, drawn programs, the packages, hostile use, the table of memory and plans under MPI, of the program that was
+# proved and built so. The last line is that of the proofs; before it stands what the gate spent on each crate, which nothing here depends
+# on.
 set -eu -o pipefail
 top=$(cd "$(dirname "$0")/.." && pwd)
 work=$(mktemp -d)

@@ -141,11 +141,26 @@ def refusals_of(program, more):
         yield words, expected, {"REFUSE_START": number}
 
 
+def files_refused(words):
+    """Each allocation of a call that starts no thread, those for the files that it names among them."""
+    expected = call(words)
+    given, left, _, _, allocations = tallied(words)
+    if given != expected or left or expected[::2] != (0, b"") or len(allocations) != 1 or not allocations[0]:
+        raise Wrong(f"{words}: {given}, {left} blocks are left, allocations {allocations}, and else {expected}")
+    for number in range(1, allocations[0] + 1):
+        yield words, expected, {"REFUSE": f"0:{number}"}
+
+
 def memory():
     rows = sorted((INPUTS / "rows").glob("*.pram"))
     cases = itertools.product(rows, [[], ["--reserve", "100,100"], ["--format", "json"]])
     count = all_of(refuse_one, itertools.chain.from_iterable(itertools.starmap(refusals_of, cases)))
-    return f"{count} allocations and starts of {len(rows)} programs, with a reserve, without, and as JSON, are refused in turn"
+    program = INPUTS / "changed.pram"
+    calls = [["check", program], ["meaning", program, "--input", program.with_suffix(".in")]]
+    calls += [[*words, "--format", "json"] for words in calls]
+    files = all_of(refuse_one, itertools.chain.from_iterable(map(files_refused, calls)))
+    programs = f"{count} allocations and starts of {len(rows)} programs, with a reserve, without, and as JSON"
+    return f"{programs}, and {files} of calls that read files, are refused in turn"
 
 
 # ---- texts

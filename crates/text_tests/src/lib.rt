@@ -1,4 +1,4 @@
-//! Tests of small texts, those that are read beside a program and those that are written of many runs, and of flows.
+//! Tests of small texts: those that are read beside a program, those that are written of many runs, of flows, of trees and of refusals.
 #![tactic(auto)]
 
 #[cfg(test)]
@@ -10,10 +10,16 @@ mod growth;
 #[cfg(test)]
 mod memories;
 #[cfg(test)]
+mod narrow;
+#[cfg(test)]
 mod sizes;
+#[cfg(test)]
+mod stops;
 #[cfg(test)]
 mod sweep_drawings;
 #[cfg(test)]
 mod sweeps;
+#[cfg(test)]
+mod trees;
 #[cfg(test)]
 mod words;
