@@ -6,6 +6,7 @@ use Rattle.std.specs.Int.{cast_signed, w64}
 use Rattle.std.proofs.Common.{eqb}
 use Rattle.superstep_machine.specs.Words.{CellAsk}
 use Rattle.combining.specs.declared.asks.Asked.{Asked}
+use Rattle.combining.specs.Places.{place_of}
 use Rattle.combining.specs.Held.{hold}
 
 -- an ask, and the value that came for it: 0 where none came
@@ -68,6 +69,10 @@ place_held read cell (x ∷ rest) = if eqb (key_of x.ask) (ask_key read cell) th
 -- the value of the ask at a place
 abbrev pub value_there : List Asked → ℕ → ℤ
 value_there asked i = slice_index_or (map (λ (x : Asked). x.value) asked) i (pos 0)
+
+-- the value by a read for a cell, of asks that stand at the places of their keys
+abbrev pub value_by : List ℕ → List Asked → ℕ → ℕ → ℤ
+value_by keys asked read cell = value_there asked (place_of (ask_key read cell) keys)
 
 -- the value at a place
 abbrev pub value_held : List HeldAsk → ℕ → ℤ

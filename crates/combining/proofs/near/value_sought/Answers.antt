@@ -1,10 +1,8 @@
 use Rattle.std.proofs.Common.{rules, ◌≡◌, ◌<◌, ℤ, FitsSigned, w64, to_z, of_z, length, ap, ◌∙◌, arith}
 use Rattle.std.proofs.lemmas.Int.{to_z-of_z}
 use Rattle.combining.specs.Places.{place_of}
-use Rattle.combining.specs.Held.{paired}
-use Rattle.combining.specs.Asked.{ask_at, value_for, value_there}
+use Rattle.combining.specs.Asked.{value_by, value_there}
 use Rattle.combining.proofs.Pairs.{place_bound}
-use Rattle.combining.proofs.AskPlaces.{value_is_there}
 use Rattle.combining.proofs.ColumnValues.{come_more}
 use Rattle.combining.proofs.near.value_sought.Goals as goal
 
@@ -22,10 +20,9 @@ returns-clause-each c known =
     let cell = c.in-Some.cell in
     let fits : FitsSigned w64 c.value_of.result = search rules in
     let v : ℤ = to_z w64 (of_z w64 c.value_of.result) in
-    let here : v ≡ value_for c.args.ordinal cell (paired ask_at ks xs) =
+    let here : v ≡ value_by ks xs c.args.ordinal cell =
     to_z-of_z w64 c.value_of.result fits ∙ c.value_of.ensures
-    ∙ ap (value_there xs) (c.find-place.ensures.place ∙ ap (λ k. place_of k ks) c.ask_key.ensures)
-    ∙ value_is_there c.args.ordinal cell ks xs c.requires.long in
+    ∙ ap (value_there xs) (c.find-place.ensures.place ∙ ap (λ k. place_of k ks) c.ask_key.ensures) in
     let room : c.args.at < length c.args.values.now = (let a = c.requires.at in let r = c.requires.values in omega (arith, a, r)) in
-    come_more (λ d. value_for c.args.ordinal d (paired ask_at ks xs)) c.args.cells.now c.args.values.now c.args.at known cell v c.in-Some.is
+    come_more (λ d. value_by ks xs c.args.ordinal d) c.args.cells.now c.args.values.now c.args.at known cell v c.in-Some.is
     here room
