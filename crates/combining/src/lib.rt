@@ -18,6 +18,7 @@ mod readers;
 mod runs;
 mod single;
 mod slots;
+mod states;
 mod words;
 mod writes;
 

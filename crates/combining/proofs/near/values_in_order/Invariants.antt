@@ -5,7 +5,7 @@ use Rattle.combining.proofs.near.values_in_order.Given as goal
 
 abbrev pub invariant-processors : goal.invariant-processors
 invariant-processors l =
-    let value : ℕ → ℤ = λ cell. value_by l.keys l.asked l.ordinal cell in
+    let value : ℕ → ℤ = λ cell. value_by l.keys l.came l.ordinal cell in
     record {
       each : HaveComeTo l.from value l.cells l.fn.values → HaveComeTo l.j value l.cells l.values;
       count : length l.values ≡ length l.fn.values;

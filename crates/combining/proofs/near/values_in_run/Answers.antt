@@ -1,7 +1,6 @@
-use Rattle.std.proofs.Common.{rules, ◌≡◌, ◌<◌, ◌+◌, ℕ, ℤ, FitsSigned, w64, to_z, of_z, Some, None, get_or, length, length-set, sym, ap, ◌∙◌, arith}
+use Rattle.std.proofs.Common.{rules, ◌≡◌, ◌<◌, ◌+◌, ℕ, ℤ, FitsSigned, w64, to_z, of_z, Some, None, get_or, pos, length, length-set, ap, ◌∙◌, arith}
 use Rattle.std.proofs.lemmas.Int.{to_z-of_z}
-use Rattle.combining.specs.Places.{place_of}
-use Rattle.combining.specs.Asked.{ask_key, value_by, value_there}
+use Rattle.combining.specs.Asked.{ask_key, value_by}
 use Rattle.combining.proofs.Chains.{place_found}
 use Rattle.combining.proofs.ColumnValues.{come_set}
 use Rattle.combining.proofs.near.values_in_run.Goals as goal
@@ -15,7 +14,7 @@ run-preserved c =
     let place = c.args.likely + k in
     let cells = c.args.cells.now in
     let ks = c.args.keys.now in
-    let xs = c.args.asked.now in
+    let xs = c.args.came.now in
     let value : ℕ → ℤ = λ cell. value_by ks xs c.args.ordinal cell in
     let fits : FitsSigned w64 c.value_here.result = search rules in
     let v : ℤ = to_z w64 (of_z w64 c.value_here.result) in
@@ -23,7 +22,7 @@ run-preserved c =
     let here : (cell : ℕ) → get_or cells at None ≡ Some cell → v ≡ value cell =
     (λ cell e.
     to_z-of_z w64 c.value_here.result fits ∙ c.value_here.ensures
-    ∙ ap (value_there xs) (place_found (ask_key c.args.ordinal cell) ks place lk
+    ∙ ap (λ p. get_or xs p (pos 0)) (place_found (ask_key c.args.ordinal cell) ks place lk
     (c.are_asked.ensures c.if-not-are_asked.false k cell c.run-test.true e) c.requires.apart)) in
     let room : at < length values = omega arith in
     record {

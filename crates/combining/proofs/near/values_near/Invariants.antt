@@ -5,7 +5,7 @@ use Rattle.combining.proofs.near.values_near.Given as goal
 
 abbrev pub invariant-processors : goal.invariant-processors
 invariant-processors l = record {
-  each : HaveComeTo l.j (λ cell. value_by l.keys l.asked l.ordinal cell) l.cells l.values;
+  each : HaveComeTo l.j (λ cell. value_by l.keys l.came l.ordinal cell) l.cells l.values;
   within : l.j ≤ length l.cells;
   count : length l.values ≡ length l.fn.values;
 }
