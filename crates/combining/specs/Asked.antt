@@ -1,6 +1,6 @@
 -- The asks that are held, by read and cell in the order first held, and the values that came for them.
-use Rattle.std.specs.Prelude.{◌≡◌, ℕ, suc, length, slice_index_or, ℤ, pos, ◌+◌, ◌*◌, ◌/◌, ◌%◌, ◌^◌, ◌<◌, Bool, List, [], ◌∷◌, map, true, false}
-use Rattle.std.specs.Prelude.{if◌then◌else◌}
+use Rattle.std.specs.Prelude.{◌≡◌, ℕ, suc, length, slice_index_or, ℤ, pos, ◌+◌, ◌*◌, ◌/◌, ◌%◌, ◌^◌, ◌<◌, List, [], ◌∷◌, map}
+use Rattle.std.specs.Prelude.{Bool, true, false, if◌then◌else◌}
 use Rattle.std.specs.List.{filter}
 use Rattle.std.specs.Int.{cast_signed, w64}
 use Rattle.std.proofs.Common.{eqb}

@@ -37,7 +37,8 @@ fn is_due<M: AddressMap>(map: &M, part: u32, key: u32, words: &[u64], n: usize) 
 fn keep<M: AddressMap>(map: &M, part: u32, words: &[u64], keys: &[u32], asked: &mut AskStates)
     requires cells { AllByRecursion (IsAskBelow (M.shape map.now).count) (paired ask_at keys.now asked.old.items) }
     requires long { length asked.old.items ≡ length keys.now }
-    ensures held { paired ask_at keys.now asked.new.items ≡ replied (M.shape map.now).part part words.now (paired ask_at keys.now asked.old.items) }
+    ensures held { paired ask_at keys.now asked.new.items ≡ replied (M.shape map.now).part part words.now
+        (paired ask_at keys.now asked.old.items) }
     ensures length { length asked.new.items ≡ length asked.old.items }
     ensures room { asked.new.room ≡ asked.old.room }
 {

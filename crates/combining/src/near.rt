@@ -83,9 +83,9 @@ fn are_asked(
     true
 }
 
-// Puts the values that came for a run of cells from one on at their places, where the asks for them stand one behind the other from the likely
-// place on; else for none. All of the run is looked at first, so that its values are copied by a loop that does nothing else. Says up to
-// where, and what is likely next.
+// Puts the values that came for a run of cells from one on at their places, where the asks for them stand one behind the other from the
+// likely place on; else for none. All of the run is looked at first, so that its values are copied by a loop that does nothing else. Says
+// up to where, and what is likely next.
 #[inline(never)]
 fn values_in_run(
     keys: &[u32],
@@ -121,8 +121,8 @@ fn values_in_run(
     (from + count, likely + count)
 }
 
-// Puts the values that came for the cells from one up to another at their places, as long as each ask stands behind the last that was found,
-// or is that one. Nothing is sought, so what the loop needs stays in registers. Says up to where, and what is likely next.
+// Puts the values that came for the cells from one up to another at their places, as long as each ask stands behind the last that was
+// found, or is that one. Nothing is sought, so what the loop needs stays in registers. Says up to where, and what is likely next.
 #[inline(never)]
 fn values_in_order(
     keys: &[u32],

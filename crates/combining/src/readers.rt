@@ -160,8 +160,8 @@ fn find_shared<M: AddressMap>(
     cell_of(note_all(map, part, k, columns, askers))
 }
 
-/// Whether no cell is asked for twice by any read, told by words that ascend, in one pass over them for all reads. It may miss some where none
-/// is; then `read_conflict` tells.
+/// Whether no cell is asked for twice by any read, told by words that ascend, in one pass over them for all reads. Where it doesn't say so,
+/// `read_conflict` tells.
 pub fn asks_are_apart(columns: &[&[u64]]) -> bool
     ensures { result ≡ true → (m : Shape) (part k : ℕ) → IsLeastShared m part (each (λ x. x.now) columns.now) k None }
 {

@@ -72,10 +72,11 @@ fn append_ask_run<M: AddressMap>(
     requires cells { (i : ℕ) → i < length keys.now → get_or keys.now i 0 % 2 ^ 20 < (M.shape map.now).count }
     requires long { length asked.now.items ≡ length keys.now }
     requires from { from ≤ length asked.now.items }
-    requires room { length list.items + length (ask_words (asks_for (M.shape map.now).part home (drop from (paired ask_at keys.now asked.now.items))))
-        ≤ vec_capacity list }
+    requires room { length list.items
+        + length (ask_words (asks_for (M.shape map.now).part home (drop from (paired ask_at keys.now asked.now.items)))) ≤ vec_capacity list }
     ensures got { GetsFirst home (λ j. ask_words (asks_for (M.shape map.now).part j (drop from (paired ask_at keys.now asked.now.items))))
-        (λ j. ask_words (asks_for (M.shape map.now).part j (drop result.1 (paired ask_at keys.now asked.now.items)))) list.items result.0.items }
+        (λ j. ask_words (asks_for (M.shape map.now).part j (drop result.1 (paired ask_at keys.now asked.now.items)))) list.items
+        result.0.items }
     ensures room { vec_capacity result.0 ≡ vec_capacity list }
     ensures within { result.1 ≤ length asked.now.items }
     ensures on { from ≤ result.1 }
@@ -105,7 +106,8 @@ pub(crate) fn add_ask_run<M: AddressMap>(
     requires long { length asked.now.items ≡ length keys.now }
     requires from { from ≤ length asked.now.items }
     requires room { length column.old.items
-        + length (ask_words (asks_for (M.shape map.now).part home (drop from (paired ask_at keys.now asked.now.items)))) ≤ vec_capacity column.old }
+        + length (ask_words (asks_for (M.shape map.now).part home (drop from (paired ask_at keys.now asked.now.items))))
+        ≤ vec_capacity column.old }
     ensures got { GetsFirst home (λ j. ask_words (asks_for (M.shape map.now).part j (drop from (paired ask_at keys.now asked.now.items))))
         (λ j. ask_words (asks_for (M.shape map.now).part j (drop result (paired ask_at keys.now asked.now.items)))) column.old.items
         column.new.items }

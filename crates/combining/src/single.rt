@@ -119,7 +119,8 @@ pub(crate) fn keep_in_order<M: AddressMap>(
     requires one { (M.shape map.now).parts ≡ 1 }
     requires cells { AllByRecursion (IsAskBelow (M.shape map.now).count) (paired ask_at keys.now asked.old.items) }
     requires long { length asked.old.items ≡ length keys.now }
-    ensures held { paired ask_at keys.now asked.new.items ≡ replied (M.shape map.now).part 0 words.now (paired ask_at keys.now asked.old.items) }
+    ensures held { paired ask_at keys.now asked.new.items ≡ replied (M.shape map.now).part 0 words.now
+        (paired ask_at keys.now asked.old.items) }
     ensures length { length asked.new.items ≡ length asked.old.items }
     ensures room { asked.new.room ≡ asked.old.room }
 {

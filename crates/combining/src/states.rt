@@ -1,6 +1,7 @@
 //! What is known of asks: whether each was made more than once, and the value that came for it.
 
-ghost use Rattle.std.specs.Prelude.{◌≡◌, ◌≤◌, ◌<◌, ◌++◌, ◌∷◌, [], ℕ, List, Bool, true, false, pos, length, get_or, set, map, take, IfOk, vec_capacity};
+ghost use Rattle.std.specs.Prelude.{◌≡◌, ◌≤◌, ◌<◌, ◌++◌, ◌∷◌, [], ℕ, List, Bool, true, false, pos, length, get_or, set, map, take};
+ghost use Rattle.std.specs.Prelude.{IfOk, vec_capacity};
 ghost use Rattle.std.specs.Int.{cast_signed, w64};
 ghost use Rattle.combining.specs.Asked.{unasked, both, worded, value_there};
 
@@ -8,8 +9,8 @@ use std::alloc::{AllocError, Global};
 use std::marker::Model;
 use std::mem;
 
-/// What is known of asks, in their order. Marks and values stand in lists of their own, and a value is only written once it came: so to hold an
-/// ask is to write one mark, and where all replies are one, its words are copied one behind the other.
+/// What is known of asks, in their order. Marks and values stand in lists of their own, and a value is only written once it came: so to hold
+/// an ask is to write one mark, and where there is one module, the words of its reply are copied one behind the other.
 #[derive(Drop)]
 pub(crate) struct AskStates {
     marks: Vec<bool>,
@@ -135,12 +136,14 @@ impl AskStates {
             (record { again = (get_or self.old.items place unasked).again; value = value }) }
         ensures room { self.new.room ≡ self.old.room }
     {
-        if place < self.came.len() {
+        if place == self.came.len() {
+            self.came.push_reserved(value);
+        } else if place < self.came.len() {
             self.came[place] = value;
-            return;
+        } else {
+            fill_up(&mut self.came, place);
+            self.came.push_reserved(value);
         }
-        fill_up(&mut self.came, place);
-        self.came.push_reserved(value);
     }
 
     /// The values of the first asks came, as words.
