@@ -5,7 +5,7 @@ use Rattle.std.proofs.lemmas.List.{get_or-take, length-take, take_more, map-appe
 use Rattle.std.proofs.Math.ListN.{get_or-eq_default}
 use Rattle.std.proofs.lemmas.Bool.{cases_lt}
 use Rattle.superstep_machine.specs.Sending.{present}
-use Rattle.combining.specs.declared.asks.Asked.{Asked}
+use Rattle.combining.specs.Asked.{Asked}
 use Rattle.combining.specs.Places.{place_of, AscendFrom, IsAbove}
 use Rattle.combining.specs.Columns.{AreBelow}
 use Rattle.combining.specs.Held.{hold, paired}

@@ -1,7 +1,7 @@
 -- Where asks stand, and their values.
 use Rattle.std.proofs.Common.{◌≡◌, ℕ, zero, suc, ◌<◌, List, [], ◌∷◌, length, map, pos, get_or, Bool, true, false, refl, sym, ap, ◌∙◌, arith, eqb}
 use Rattle.std.specs.Prelude.{if◌then◌else◌}
-use Rattle.combining.specs.declared.asks.Asked.{Asked}
+use Rattle.combining.specs.Asked.{Asked}
 use Rattle.combining.specs.Places.{place_of}
 use Rattle.combining.specs.Held.{paired}
 use Rattle.combining.specs.Asked.{HeldAsk, value_there, ask_at, ask_key, key_of, marked_twice, ask, answered, replied, value_for, place_held, value_held}
@@ -32,7 +32,7 @@ value_stands read cell (x ∷ rest) = go (eqb (key_of x.ask) (ask_key read cell)
     go true e = refl
     go false e = e
 
-values_paired : (ks : List ℕ) (xs : List Asked) → length xs ≡ length ks →
+pub values_paired : (ks : List ℕ) (xs : List Asked) → length xs ≡ length ks →
     map (λ (x : HeldAsk). x.value) (paired ask_at ks xs) ≡ map (λ (x : Asked). x.value) xs
 values_paired [] [] n = refl
 values_paired [] (x ∷ xs) n = absurd (omega (arith, n))

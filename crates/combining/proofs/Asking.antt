@@ -6,7 +6,7 @@ use Rattle.std.specs.List.{flat_map, filter}
 use Rattle.std.proofs.lemmas.List.{drop_more, drop_all}
 use Rattle.std.proofs.lemmas.Bool.{cases_lt, lt-ltb}
 use Rattle.superstep_machine.specs.Words.{bit, ask_word, ask_words}
-use Rattle.combining.specs.declared.asks.Asked.{Asked}
+use Rattle.combining.specs.Asked.{Asked}
 use Rattle.combining.specs.Places.{place_of}
 use Rattle.combining.specs.Held.{paired}
 use Rattle.combining.specs.Asked.{HeldAsk, ask_at, ask_key, key_of, asks_for, value_for, answered, replied}

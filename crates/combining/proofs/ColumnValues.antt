@@ -20,6 +20,17 @@ module _ (value : ℕ → ℤ) (cells : List (Option ℕ)) (values : List ℤ) (
       ap (λ i. get_or (set values n v) i (pos 0)) q ∙ get_or-set_same values n v (pos 0) room ∙ here ∙ ap value same)
       (cases_lt k n)
 
+  pub come_set : (v : ℤ) → ((cell : ℕ) → get_or cells n None ≡ Some cell → v ≡ value cell) → n < length values →
+      HaveComeTo (n + 1) value cells (set values n v)
+  come_set v here room k other l e =
+      ⊎_elim
+      (λ lt. get_or-set_other values n k v (pos 0) (λ q. omega (arith, q, lt)) ∙ known k other lt e)
+      (λ ge.
+      let q : k ≡ n = omega (arith, l, ge) in
+      ap (λ i. get_or (set values n v) i (pos 0)) q ∙ get_or-set_same values n v (pos 0) room
+      ∙ here other (ap (λ i. get_or cells i None) (sym q) ∙ e))
+      (cases_lt k n)
+
   pub come_none : ((cell : ℕ) → get_or cells n None ≡ Some cell → ⊥) → HaveComeTo (n + 1) value cells values
   come_none none k other l e =
       ⊎_elim

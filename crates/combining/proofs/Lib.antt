@@ -25,3 +25,4 @@ pub mod AllColumns
 pub mod AllReplies
 pub mod CompactLemmas
 pub mod OneModule
+pub mod Marks

@@ -1,12 +1,40 @@
 -- The asks that are held, by read and cell in the order first held, and the values that came for them.
-use Rattle.std.specs.Prelude.{◌≡◌, ℕ, suc, length, slice_index_or, ℤ, pos, ◌+◌, ◌*◌, ◌/◌, ◌%◌, ◌^◌, ◌<◌, List, [], ◌∷◌, map, true, false}
-use Rattle.std.specs.Prelude.{if◌then◌else◌}
+use Rattle.std.specs.Prelude.{◌≡◌, ℕ, suc, length, slice_index_or, ℤ, pos, ◌+◌, ◌*◌, ◌/◌, ◌%◌, ◌^◌, ◌<◌, List, [], ◌∷◌, map}
+use Rattle.std.specs.Prelude.{Bool, true, false, if◌then◌else◌}
 use Rattle.std.specs.List.{filter}
 use Rattle.std.specs.Int.{cast_signed, w64}
 use Rattle.std.proofs.Common.{eqb}
 use Rattle.superstep_machine.specs.Words.{CellAsk}
-use Rattle.combining.specs.declared.asks.Asked.{Asked}
+use Rattle.combining.specs.Places.{place_of}
 use Rattle.combining.specs.Held.{hold}
+
+-- what is known of an ask beside its key: whether it was made more than once, and the value that came
+pub record Asked : Type 0 where
+  pub again : Bool
+  pub value : ℤ
+
+abbrev pub unasked : Asked
+unasked = record { again = false; value = pos 0 }
+
+-- what is known of all asks, and for how many there is room
+pub record AllAsked : Type 0 where
+  pub items : List Asked
+  pub room : ℕ
+
+-- marks beside values, of which the last may be missing
+abbrev pub both : List Bool → List ℤ → List Asked
+both [] vs = []
+both (b ∷ bs) [] = record { again = b; value = pos 0 } ∷ both bs []
+both (b ∷ bs) (v ∷ vs) = record { again = b; value = v } ∷ both bs vs
+
+-- the first get the values that some words are
+abbrev pub valued : (ℕ → ℤ) → List ℕ → List Asked → List Asked
+valued f [] xs = xs
+valued f (w ∷ ws) [] = []
+valued f (w ∷ ws) (x ∷ xs) = record { again = x.again; value = f w } ∷ valued f ws xs
+
+abbrev pub worded : List ℕ → List Asked → List Asked
+worded = valued (cast_signed w64)
 
 -- an ask, and the value that came for it: 0 where none came
 pub record HeldAsk : Type 0 where
@@ -68,6 +96,10 @@ place_held read cell (x ∷ rest) = if eqb (key_of x.ask) (ask_key read cell) th
 -- the value of the ask at a place
 abbrev pub value_there : List Asked → ℕ → ℤ
 value_there asked i = slice_index_or (map (λ (x : Asked). x.value) asked) i (pos 0)
+
+-- the value by a read for a cell, where values stand at the places of their asks' keys
+abbrev pub value_by : List ℕ → List ℤ → ℕ → ℕ → ℤ
+value_by keys came read cell = slice_index_or came (place_of (ask_key read cell) keys) (pos 0)
 
 -- the value at a place
 abbrev pub value_held : List HeldAsk → ℕ → ℤ

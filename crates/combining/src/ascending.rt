@@ -7,7 +7,7 @@ ghost use Rattle.combining.specs.Held.{paired};
 ghost use Rattle.combining.specs.Asked.{ask_at};
 ghost use Rattle.combining.specs.Adding.{by_read, asked_after};
 
-use crate::asks::Asked;
+use crate::states::AskStates;
 use crate::words::ask_key;
 
 /// The least key that is greater than some keys which ascend.
@@ -28,14 +28,14 @@ pub(crate) fn least_above(keys: &[u32]) -> u64
 #[inline(never)]
 pub(crate) fn append_ascending(
     mut keys: Vec<u32>,
-    mut asked: Vec<Asked>,
+    mut asked: AskStates,
     ordinal: u32,
     cells: &[Option<u32>],
-) -> (Vec<u32>, Vec<Asked>, usize)
+) -> (Vec<u32>, AskStates, usize)
     requires ascend { AscendFrom 0 keys.items }
     requires long { length asked.items ≡ length keys.items }
     requires room { length keys.items + length cells.now ≤ vec_capacity keys }
-    requires rooms { vec_capacity asked ≡ vec_capacity keys }
+    requires rooms { asked.room ≡ vec_capacity keys }
     requires ordinal { ordinal < 8 }
     requires below { AreBelow (2 ^ 20) cells.now }
     ensures held { paired ask_at result.0.items result.1.items
@@ -45,7 +45,7 @@ pub(crate) fn append_ascending(
     ensures few { result.2 ≤ length cells.now }
     ensures most { length result.0.items ≤ length keys.items + result.2 }
     ensures keys { vec_capacity result.0 ≡ vec_capacity keys }
-    ensures asked { vec_capacity result.1 ≡ vec_capacity asked }
+    ensures asked { result.1.room ≡ asked.room }
 {
     let mut least = least_above(keys.as_slice());
     'processors: for j in 0..cells.len() {
@@ -54,17 +54,10 @@ pub(crate) fn append_ascending(
             let next = u64::from(key) + 1;
             if least < next {
                 keys.push_reserved(key);
-                asked.push_reserved(Asked {
-                    again: false,
-                    value: 0,
-                });
+                asked.push();
                 least = next;
             } else if least == next {
-                let last = asked.len() - 1;
-                asked[last] = Asked {
-                    again: true,
-                    value: asked[last].value,
-                };
+                asked.mark(keys.len() - 1);
             } else {
                 return (keys, asked, j);
             }

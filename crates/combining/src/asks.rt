@@ -18,18 +18,11 @@ use crate::index::Index;
 use crate::near::values_near;
 use crate::runs::{add_ask_run, keep_run};
 use crate::single::{append_asks, keep_in_order, taken_out};
+use crate::states::AskStates;
 use crate::words::{ask_key, cell_of, write_ask};
 use address_map::AddressMap;
 use std::alloc::{AllocError, Global};
 use std::marker::Model;
-use std::mem;
-
-// One ask: whether it was made more than once, and the value that came.
-#[derive(Clone, Copy, Debug)]
-pub(crate) struct Asked {
-    pub(crate) again: bool,
-    pub(crate) value: i64,
-}
 
 // Whether the next word of a reply is for this ask.
 #[inline(always)]
@@ -41,33 +34,36 @@ fn is_due<M: AddressMap>(map: &M, part: u32, key: u32, words: &[u64], n: usize) 
 }
 
 // Keeps a reply's words at the asks that they are for.
-fn keep<M: AddressMap>(map: &M, part: u32, words: &[u64], keys: &[u32], asked: &mut [Asked])
-    requires cells { AllByRecursion (IsAskBelow (M.shape map.now).count) (paired ask_at keys.now asked.old) }
-    requires long { length asked.old ≡ length keys.now }
-    ensures held { paired ask_at keys.now asked.new ≡ replied (M.shape map.now).part part words.now (paired ask_at keys.now asked.old) }
-    ensures length { length asked.new ≡ length asked.old }
+fn keep<M: AddressMap>(map: &M, part: u32, words: &[u64], keys: &[u32], asked: &mut AskStates)
+    requires cells { AllByRecursion (IsAskBelow (M.shape map.now).count) (paired ask_at keys.now asked.old.items) }
+    requires long { length asked.old.items ≡ length keys.now }
+    ensures held { paired ask_at keys.now asked.new.items ≡ replied (M.shape map.now).part part words.now
+        (paired ask_at keys.now asked.old.items) }
+    ensures length { length asked.new.items ≡ length asked.old.items }
+    ensures room { asked.new.room ≡ asked.old.room }
 {
     let mut n = 0;
-    for i in 0..asked.len() {
+    for i in 0..keys.len() {
         if is_due(map, part, keys[i], words, n) {
-            asked[i].value = words[n].cast_signed();
+            asked.put(i, words[n].cast_signed());
             n += 1;
         }
     }
 }
 
 // Keeps the words of all modules' replies at the asks that they are for.
-fn keep_all<M: AddressMap>(map: &M, replies: &[&[u64]], keys: &[u32], asked: &mut [Asked])
-    requires cells { AllByRecursion (IsAskBelow (M.shape map.now).count) (paired ask_at keys.now asked.old) }
-    requires long { length asked.old ≡ length keys.now }
+fn keep_all<M: AddressMap>(map: &M, replies: &[&[u64]], keys: &[u32], asked: &mut AskStates)
+    requires cells { AllByRecursion (IsAskBelow (M.shape map.now).count) (paired ask_at keys.now asked.old.items) }
+    requires long { length asked.old.items ≡ length keys.now }
     requires modules { length replies.now ≡ (M.shape map.now).parts }
-    ensures held { paired ask_at keys.now asked.new ≡ all_replied (M.shape map.now).part 0 (each (λ x. x.now) replies.now)
-        (paired ask_at keys.now asked.old) }
-    ensures length { length asked.new ≡ length asked.old }
+    ensures held { paired ask_at keys.now asked.new.items ≡ all_replied (M.shape map.now).part 0 (each (λ x. x.now) replies.now)
+        (paired ask_at keys.now asked.old.items) }
+    ensures length { length asked.new.items ≡ length asked.old.items }
+    ensures room { asked.new.room ≡ asked.old.room }
 {
     let mut taken = [0; 32];
     let mut i = 0;
-    'asks: while i < asked.len() {
+    'asks: while i < keys.len() {
         let (home, _offset) = map.place(cell_of(keys[i]));
         let at = home as usize;
         let (next, n) = keep_run(map, home, replies[at], taken[at], keys, i, asked);
@@ -80,11 +76,11 @@ fn keep_all<M: AddressMap>(map: &M, replies: &[&[u64]], keys: &[u32], asked: &mu
 #[derive(Drop)]
 pub struct Asks {
     index: Index,
-    asked: Vec<Asked>,
+    asked: AskStates,
 }
 
 impl Model for Asks {
-    ghost use Rattle.std.specs.Prelude.{◌≡◌, vec_capacity, length};
+    ghost use Rattle.std.specs.Prelude.{◌≡◌, length};
     ghost use Rattle.combining.specs.Held.{paired};
     ghost use Rattle.combining.specs.Asked.{HeldAsks, ask_at};
 
@@ -92,7 +88,7 @@ impl Model for Asks {
 
     ghost view = { λ x. record { held = paired ask_at x.index.keys x.asked.items; room = x.index.room } };
 
-    ghost invariant = { λ x. (vec_capacity x.asked ≡ x.index.room) × (length x.asked.items ≡ length x.index.keys) };
+    ghost invariant = { λ x. (x.asked.room ≡ x.index.room) × (length x.asked.items ≡ length x.index.keys) };
 }
 
 impl Asks {
@@ -102,7 +98,7 @@ impl Asks {
         ensures ok { IfOk result (λ x. (x.held ≡ []) × (x.room ≡ room)) }
     {
         let index = Index::with_room(alloc, room)?;
-        let asked = Vec::with_capacity(alloc, room)?;
+        let asked = AskStates::with_room(alloc, room)?;
         Ok(Asks { index, asked })
     }
 
@@ -132,17 +128,12 @@ impl Asks {
         ensures room { self.new.room ≡ self.old.room }
     {
         let key = ask_key(ordinal, cell);
+        let held = self.index.len();
         let i = self.index.hold(key);
-        if i < self.asked.len() {
-            self.asked[i] = Asked {
-                again: true,
-                value: self.asked[i].value,
-            };
+        if i < held {
+            self.asked.mark(i);
         } else {
-            self.asked.push_reserved(Asked {
-                again: false,
-                value: 0,
-            });
+            self.asked.push();
         }
         i
     }
@@ -158,8 +149,7 @@ impl Asks {
         ensures most { length self.new.held ≤ length self.old.held + result }
         ensures room { self.new.room ≡ self.old.room }
     {
-        let empty = Vec::new(*self.asked.allocator());
-        let asked = mem::replace(&mut self.asked, empty);
+        let asked = self.asked.taken_out();
         let (asked, n) = self.index.hold_ascending(ordinal, cells, asked);
         self.asked = asked;
         n
@@ -183,7 +173,7 @@ impl Asks {
         values_near(
             &self.index,
             self.index.keys(),
-            &self.asked,
+            self.asked.came(),
             likely,
             ordinal,
             cells,
@@ -202,10 +192,11 @@ impl Asks {
     {
         let keys = self.index.keys();
         let mut n = 0;
-        for i in 0..self.asked.len() {
+        let marks = self.asked.marks();
+        for i in 0..keys.len() {
             let key = keys[i];
             if map.place(cell_of(key)).0 == part {
-                n = write_ask(out, n, key, self.asked[i]);
+                n = write_ask(out, n, key, marks[i]);
             }
         }
         n
@@ -229,7 +220,7 @@ impl Asks {
             return;
         }
         let mut i = 0;
-        'asks: while i < self.asked.len() {
+        'asks: while i < keys.len() {
             let (home, _offset) = map.place(cell_of(keys[i]));
             let at = home as usize;
             i = add_ask_run(map, home, keys, &self.asked, i, &mut columns[at]);
@@ -266,12 +257,7 @@ impl Asks {
         requires cell { cell < 2 ^ 20 }
         ensures value { result ≡ value_for ordinal cell self.now.held }
     {
-        let i = self.index.find(ask_key(ordinal, cell));
-        if i < self.asked.len() {
-            self.asked[i].value
-        } else {
-            0
-        }
+        self.asked.value(self.index.find(ask_key(ordinal, cell)))
     }
 
     /// The value that came for the ask that is held at a place, and 0 where none came.
@@ -280,7 +266,7 @@ impl Asks {
         requires { place < length self.now.held }
         ensures value { result ≡ value_held self.now.held place }
     {
-        self.asked[place].value
+        self.asked.value(place)
     }
 
     /// Holds nothing any more.

@@ -10,9 +10,9 @@ ghost use Rattle.combining.specs.Adding.{by_read, asked_after};
 ghost use Rattle.combining.specs.Writing.{first_writes};
 
 use crate::ascending::append_ascending;
-use crate::asks::Asked;
 use crate::compact::Compact;
 use crate::linking::{link, link_all, linked_place, place_from};
+use crate::states::AskStates;
 use crate::writes::{Writes, append_writes};
 use std::alloc::{AllocError, Global};
 use std::marker::Model;
@@ -163,11 +163,11 @@ impl Index {
         &mut self,
         ordinal: u32,
         cells: &[Option<u32>],
-        asked: Vec<Asked>,
-    ) -> (Vec<Asked>, usize)
+        asked: AskStates,
+    ) -> (AskStates, usize)
         requires long { length asked.items ≡ length self.old.keys }
         requires room { length self.old.keys + length cells.now ≤ self.old.room }
-        requires rooms { vec_capacity asked ≡ self.old.room }
+        requires rooms { asked.room ≡ self.old.room }
         requires ordinal { ordinal < 8 }
         requires below { AreBelow (2 ^ 20) cells.now }
         ensures held { paired ask_at self.new.keys result.0.items
@@ -176,7 +176,7 @@ impl Index {
         ensures few { result.1 ≤ length cells.now }
         ensures most { length self.new.keys ≤ length self.old.keys + result.1 }
         ensures room { self.new.room ≡ self.old.room }
-        ensures asked { vec_capacity result.0 ≡ vec_capacity asked }
+        ensures asked { result.0.room ≡ asked.room }
     {
         if !self.links.is_empty() {
             return (asked, 0);

@@ -18,6 +18,7 @@ mod readers;
 mod runs;
 mod single;
 mod slots;
+mod states;
 mod words;
 mod writes;
 
@@ -27,5 +28,5 @@ pub use cells::Cells;
 pub use index::Index;
 pub use merge::merge_at_module;
 pub use puts::Puts;
-pub use readers::read_conflict;
+pub use readers::{asks_are_apart, read_conflict};
 pub use writes::Writes;

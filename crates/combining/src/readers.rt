@@ -1,6 +1,7 @@
 //! Which cell of a module two or more processors ask for.
 
-ghost use Rattle.std.specs.Prelude.{◌≡◌, ◌<◌, length, ℕ, Some, None, map as each, set};
+ghost use Rattle.std.specs.Prelude.{◌≡◌, ◌<◌, length, ℕ, Some, None, true, map as each, set};
+ghost use Rattle.address_map.specs.Lawful.{Shape};
 ghost use Rattle.superstep_machine.specs.Sending.{several};
 ghost use Rattle.superstep_machine.specs.WordReading.{askers_of_column, askers_read};
 ghost use Rattle.combining.specs.Gathering.{slot, note, Collects, CollectsAll, TakesOut, TakesAllOut};
@@ -157,6 +158,14 @@ fn find_shared<M: AddressMap>(
 {
     count_all(map, part, k, columns, askers);
     cell_of(note_all(map, part, k, columns, askers))
+}
+
+/// Whether no cell is asked for twice by any read, told by words that ascend, in one pass over them for all reads. Where it doesn't say so,
+/// `read_conflict` tells.
+pub fn asks_are_apart(columns: &[&[u64]]) -> bool
+    ensures { result ≡ true → (m : Shape) (part k : ℕ) → IsLeastShared m part (each (λ x. x.now) columns.now) k None }
+{
+    ascend_words_all(columns)
 }
 
 /// The least cell of a module that two or more processors ask for by read k, whatever words the columns hold: words that no worker

@@ -1,7 +1,7 @@
 //! The words of puts and asks: how they are written, and how any words are read.
 
 ghost use Rattle.std.specs.Prelude.{◌≡◌, ◌≤◌, ◌<◌, ◌+◌, ◌*◌, ◌%◌, ◌++◌, ◌^◌, [], ◌∷◌, length, take, drop, FitsSigned, IfSome, None, Some};
-ghost use Rattle.std.specs.Prelude.{vec_capacity};
+ghost use Rattle.std.specs.Prelude.{pos, vec_capacity};
 ghost use Rattle.std.specs.Int.{w64};
 ghost use Rattle.superstep_machine.specs.Words.{put_words, ask_word, bit, word_of, low_word, high_word};
 ghost use Rattle.superstep_machine.specs.WordReading.{put_length as length_of_put, read_value as value_of_words};
@@ -9,7 +9,6 @@ ghost use Rattle.superstep_machine.specs.Fitting.{FitsValue};
 ghost use Rattle.combining.specs.Held.{put_at};
 ghost use Rattle.combining.specs.Asked.{ask_key as key_for, ask_at};
 
-use crate::asks::Asked;
 use address_map::AddressMap;
 use write_rules::{Entry, WriteRule};
 
@@ -167,26 +166,26 @@ pub(crate) fn cell_of(key: u32) -> u32
 
 /// Writes the word of an ask at n, and says where it ends.
 #[inline(always)]
-pub(crate) fn write_ask(out: &mut [u64], n: usize, key: u32, asked: Asked) -> usize
+pub(crate) fn write_ask(out: &mut [u64], n: usize, key: u32, again: bool) -> usize
     requires { n + 1 ≤ length out.old }
-    ensures done { take result out.new ≡ take n out.old ++ ask_word (ask_at key asked).ask ∷ [] }
+    ensures done { take result out.new ≡ take n out.old ++ ask_word (ask_at key (record { again = again; value = pos 0 })).ask ∷ [] }
     ensures rest { drop result out.new ≡ drop result out.old }
     ensures length { length out.new ≡ length out.old }
     ensures count { result ≡ n + 1 }
 {
-    let mark = if asked.again { TWICE } else { 0 };
+    let mark = if again { TWICE } else { 0 };
     out[n] = u64::from(key) + mark;
     n + 1
 }
 
 /// Adds the word of an ask behind others, where there is room.
 #[inline(always)]
-pub(crate) fn push_ask(out: &mut Vec<u64>, key: u32, asked: Asked)
+pub(crate) fn push_ask(out: &mut Vec<u64>, key: u32, again: bool)
     requires { length out.old.items + 1 ≤ vec_capacity out.old }
-    ensures word { out.new.items ≡ out.old.items ++ ask_word (ask_at key asked).ask ∷ [] }
+    ensures word { out.new.items ≡ out.old.items ++ ask_word (ask_at key (record { again = again; value = pos 0 })).ask ∷ [] }
     ensures room { vec_capacity out.new ≡ vec_capacity out.old }
 {
-    let mark = if asked.again { TWICE } else { 0 };
+    let mark = if again { TWICE } else { 0 };
     out.push_reserved(u64::from(key) + mark);
 }
 

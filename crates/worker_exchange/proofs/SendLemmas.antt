@@ -1,15 +1,14 @@
 -- Lists of words, one for each worker, and the puts that are counted in them.
-use Rattle.std.proofs.Common.{◌≡◌, ℕ, ◌+◌, ◌*◌, ◌/◌, ◌^◌, ◌<◌, ◌≤◌, List, [], ◌∷◌, ◌++◌, length, map, get_or, set, sym, ap, ◌∙◌, arith, zero-mul}
+use Rattle.std.proofs.Common.{◌≡◌, ℕ, ◌+◌, ◌/◌, ◌^◌, ◌<◌, ◌≤◌, List, [], ◌++◌, length, map, get_or, set, sym, ap, ◌∙◌, arith}
 use Rattle.std.proofs.Common.{⊎_elim, Vec, vec_capacity, length-append}
 use Rattle.std.specs.Global.{Global}
-use Rattle.std.specs.List.{flat_map}
 use Rattle.std.proofs.lemmas.List.{length-map}
 use Rattle.std.proofs.lemmas.Bool.{cases_eq}
 use Rattle.std.proofs.Math.Nat.{mul-div_cancel}
 use Rattle.pram_model.specs.declared.rule.Rule.{Rule}
 use Rattle.pram_model.specs.declared.rule.Rule.TheVariants.{Sum}
 use Rattle.address_map.specs.Lawful.{Shape}
-use Rattle.superstep_machine.specs.Words.{CellPut, put_words, ask_words}
+use Rattle.superstep_machine.specs.Words.{CellPut, ask_words}
 use Rattle.superstep_machine.specs.WordReading.{put_length}
 use Rattle.superstep_machine.proofs.ReadBack.{puts_long}
 use Rattle.combining.specs.AllModules.{column, room_at, HasGot}

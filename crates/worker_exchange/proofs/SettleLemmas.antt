@@ -96,6 +96,13 @@ module _ (t : Setting) (w : ℕ) (lawful : IsLawful t.map) (below : w < workers 
         ∙ ap (least (key_of_put u.put found)) (sym e);
   }
 
+-- where no read is in conflict, none is noted
+pub none_noted : (column : List Message) (cells : List ℕ) (k : ℕ) (reads : List Read) →
+    ((j : ℕ) (read : Read) → read_conflict column cells j read ≡ None) → None ≡ read_conflicts column cells k reads
+none_noted column cells k [] none = refl
+none_noted column cells k (read ∷ rest) none =
+    none_noted column cells (k + 1) rest none ∙ sym (ap (λ q. least q (read_conflicts column cells (k + 1) rest)) (none k read))
+
 -- one read more is noted
 pub more_noted : (column : List Message) (cells : List ℕ) (reads : List HeldRead) (k above : ℕ) (d : HeldRead) (key noted result : Option Key) →
     above ≡ k + 1 → k < length reads → result ≡ least key noted → key ≡ read_conflict column cells k (read_is (get_or reads k d)) →

@@ -68,26 +68,33 @@ fn answer_read(
     read: Read,
     cells: &[Option<u32>],
     bank: &mut Bank,
-    values: &mut [i64],
+    values: &mut Vec<i64>,
 ) -> usize
     requires ordinal { ordinal < 8 }
     requires bank { IsBank bank.old }
     requires read { IsAwaited (2 ^ 20) (length bank.old.columns.items) bank.old.masks.many read }
     requires cells { length cells.now ≡ bank.old.masks.most }
     requires below { (j cell : ℕ) → j < bank.old.masks.many → cell_in cells.now j ≡ Some cell → cell < 2 ^ 20 }
-    requires values { length values.old ≡ bank.old.masks.most }
+    requires values { length values.old.items ≡ bank.old.masks.most }
     ensures answered { (value : ℕ → ℕ → ℤ) (j : ℕ) → Gives sent.now.held value → j < bank.old.masks.many →
         registers_at bank.new j ≡ spec_answer (value ordinal) read.destination (cell_in cells.now j) (registers_at bank.old j) }
     ensures bank { IsBank bank.new }
     ensures masks { bank.new.masks ≡ bank.old.masks }
     ensures same { IsSameBank bank.old bank.new }
-    ensures count { length values.new ≡ length values.old }
+    ensures count { length values.new.items ≡ length values.old.items }
 {
     match read.side {
         Side::Uniform => likely,
         Side::Private => {
-            let next = values_for(sent, likely, ordinal, cells, bank.masks.many, values);
-            bank.answer(read.destination, cells, values);
+            let next = values_for(
+                sent,
+                likely,
+                ordinal,
+                cells,
+                bank.masks.many,
+                values.as_mut_slice(),
+            );
+            bank.take_answers(read.destination, cells, values);
             next
         }
     }
@@ -99,7 +106,7 @@ fn answer_own(
     awaited: &[Read],
     columns: &[Vec<Option<u32>>],
     bank: &mut Bank,
-    values: &mut [i64],
+    values: &mut Vec<i64>,
 )
     requires bank { IsBank bank.old }
     requires few { length awaited.now ≤ 8 }
@@ -107,14 +114,14 @@ fn answer_own(
     requires reads { AllByRecursion (IsAwaited (2 ^ 20) (length bank.old.columns.items) bank.old.masks.many) awaited.now }
     requires below { (j : ℕ) → j < bank.old.masks.many →
         AllByRecursion (IsCellBelow (2 ^ 20)) (cells_at (length awaited.now) columns.now j) }
-    requires values { length values.old ≡ bank.old.masks.most }
+    requires values { length values.old.items ≡ bank.old.masks.most }
     ensures answered { (value : ℕ → ℕ → ℤ) (j : ℕ) → Gives sent.now.held value → j < bank.old.masks.many → registers_at bank.new j
         ≡ answers value 0 (zip (destinations (each read_is awaited.now)) (cells_at (length awaited.now) columns.now j))
         (registers_at bank.old j) }
     ensures bank { IsBank bank.new }
     ensures masks { bank.new.masks ≡ bank.old.masks }
     ensures same { IsSameBank bank.old bank.new }
-    ensures count { length values.new ≡ length values.old }
+    ensures count { length values.new.items ≡ length values.old.items }
 {
     let mut likely = 0;
     'reads: for k in 0..awaited.len() {
@@ -141,7 +148,7 @@ fn answer_part(sent: &Asks, u: &mut UniformState)
 }
 
 /// Each awaited read gets the values that came for its cells, and none is awaited any more.
-pub(crate) fn answer_worker(steps: &mut WorkerState, sent: &Asks, values: &mut [i64])
+pub(crate) fn answer_worker(steps: &mut WorkerState, sent: &Asks, values: &mut Vec<i64>)
     requires bank { IsBank steps.old.bank }
     requires few { length steps.old.uniform.awaited.items ≤ 8 }
     requires columns { AreColumns steps.old.bank.masks.most steps.old.awaited.items }
@@ -149,9 +156,9 @@ pub(crate) fn answer_worker(steps: &mut WorkerState, sent: &Asks, values: &mut [
         steps.old.uniform.awaited.items }
     requires below { (j : ℕ) → j < steps.old.bank.masks.many →
         AllByRecursion (IsCellBelow (2 ^ 20)) (cells_at (length steps.old.uniform.awaited.items) steps.old.awaited.items j) }
-    requires values { length values.old ≡ steps.old.bank.masks.most }
+    requires values { length values.old.items ≡ steps.old.bank.masks.most }
     ensures answered { IsAnswered sent.now.held steps.old steps.new }
-    ensures count { length values.new ≡ length values.old }
+    ensures count { length values.new.items ≡ length values.old.items }
 {
     let u = &steps.uniform;
     answer_own(

@@ -59,7 +59,7 @@ pub fn take_reply<M: AddressMap, C: Column>(local: &mut Local, map: &M, column: 
     let mut replies: [&[u64]; 32] = [&[]; 32];
     word_parts(column, workers, &mut replies);
     local.sent.take_replies(map, &replies[..workers]);
-    answer_worker(&mut local.steps, &local.sent, local.values.as_mut_slice());
+    answer_worker(&mut local.steps, &local.sent, &mut local.values);
     local.sent.clear();
     forget(local.asked.as_mut_slice());
 }

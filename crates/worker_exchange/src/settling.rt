@@ -15,7 +15,7 @@ ghost use Rattle.worker_exchange.specs.Settled.{key_of_put as spec_key_of_put, I
 use crate::column::Column;
 use crate::parts::{ask_parts, put_parts};
 use address_map::AddressMap;
-use combining::{Cells, merge_at_module, read_conflict};
+use combining::{Cells, asks_are_apart, merge_at_module, read_conflict};
 use instruction_steps::{Moment, Read, UniformState};
 use pram_values::{Kind, Place};
 use superstep_instructions::Side;
@@ -99,6 +99,9 @@ fn key_of_reads<M: AddressMap>(
         (module_cells (setting code (M.shape map.now) bound n) part) 0 (each read_is reads.now) }
     ensures same { cells.new ≡ cells.old }
 {
+    if asks_are_apart(columns) {
+        return None;
+    }
     let mut noted = None;
     let mut k = reads.len();
     'reads: while k > 0 {

@@ -14,5 +14,5 @@ invariant-processors l = record {
   long : length l.asked.items ≡ length l.keys.items;
   few : length l.keys.items ≤ length l.fn.keys.items + l.j;
   room : vec_capacity l.keys ≡ vec_capacity l.fn.keys;
-  rooms : vec_capacity l.asked ≡ vec_capacity l.fn.asked;
+  rooms : l.asked.room ≡ l.fn.asked.room;
 }

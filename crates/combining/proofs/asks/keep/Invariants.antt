@@ -8,8 +8,9 @@ invariant-loop-i g l =
     let at = (g.M.AddressMap.shape l.map).part in
     record {
       within : l.n ≤ length l.words;
-      long : length l.asked ≡ length l.fn.asked;
-      rest : drop l.i l.asked ≡ drop l.i l.fn.asked;
-      all : take l.i (paired ask_at l.keys l.asked) ++ replied at l.part (drop l.n l.words)
-          (drop l.i (paired ask_at l.keys l.fn.asked)) ≡ replied at l.part l.words (paired ask_at l.keys l.fn.asked);
+      room : l.asked.room ≡ l.fn.asked.room;
+      long : length l.asked.items ≡ length l.fn.asked.items;
+      rest : drop l.i l.asked.items ≡ drop l.i l.fn.asked.items;
+      all : take l.i (paired ask_at l.keys l.asked.items) ++ replied at l.part (drop l.n l.words)
+          (drop l.i (paired ask_at l.keys l.fn.asked.items)) ≡ replied at l.part l.words (paired ask_at l.keys l.fn.asked.items);
     }

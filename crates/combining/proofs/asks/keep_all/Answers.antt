@@ -11,9 +11,10 @@ use Rattle.combining.proofs.asks.keep_all.Goals as goal
 pub asks-init : goal.asks-init
 asks-init g c =
     let at = (g.M.AddressMap.shape c.args.map.now).part in
-    let held = paired ask_at c.args.keys.now c.args.asked.now in
+    let held = paired ask_at c.args.keys.now c.args.asked.now.items in
     record {
       size = refl;
+      room = refl;
       long = refl;
       within = omega arith;
       rest = refl;
@@ -23,7 +24,7 @@ asks-init g c =
 pub place-home-requires : goal.place-home-requires
 place-home-requires g c =
     let m = g.M.AddressMap.shape c.args.map.now in
-    rw c.cell_of.ensures (all_keys ask_at (IsAskBelow m.count) (λ k. k % 2 ^ 20 < m.count) (λ k x h. h) c.args.keys.now c.args.asked.now
+    rw c.cell_of.ensures (all_keys ask_at (IsAskBelow m.count) (λ k. k % 2 ^ 20 < m.count) (λ k x h. h) c.args.keys.now c.args.asked.now.items
     c.asks.i
     c.requires.long (let l = c.asks.invariant.long in omega arith) c.requires.cells)
 
@@ -31,7 +32,7 @@ pub bounds-replies-at : goal.bounds-replies-at
 bounds-replies-at g c =
     let m = g.M.AddressMap.shape c.args.map.now in
     let below : c.cell_of.result < m.count =
-    rw c.cell_of.ensures (all_keys ask_at (IsAskBelow m.count) (λ k. k % 2 ^ 20 < m.count) (λ k x h. h) c.args.keys.now c.args.asked.now
+    rw c.cell_of.ensures (all_keys ask_at (IsAskBelow m.count) (λ k. k % 2 ^ 20 < m.count) (λ k x h. h) c.args.keys.now c.args.asked.now.items
     c.asks.i
     c.requires.long (let l = c.asks.invariant.long in omega arith) c.requires.cells) in
     let there = (g.met.M.AddressMap.lawful c.args.map.now).part_below c.cell_of.result below in
@@ -44,7 +45,7 @@ bounds-taken-at g c =
     let m = g.M.AddressMap.shape c.args.map.now in
     let lawful = g.met.M.AddressMap.lawful c.args.map.now in
     let below : c.cell_of.result < m.count =
-    rw c.cell_of.ensures (all_keys ask_at (IsAskBelow m.count) (λ k. k % 2 ^ 20 < m.count) (λ k x h. h) c.args.keys.now c.args.asked.now
+    rw c.cell_of.ensures (all_keys ask_at (IsAskBelow m.count) (λ k. k % 2 ^ 20 < m.count) (λ k x h. h) c.args.keys.now c.args.asked.now.items
     c.asks.i
     c.requires.long (let l = c.asks.invariant.long in omega arith) c.requires.cells) in
     let there = lawful.part_below c.cell_of.result below in
@@ -57,7 +58,7 @@ bounds-taken-at-in-asks g c =
     let m = g.M.AddressMap.shape c.args.map.now in
     let lawful = g.met.M.AddressMap.lawful c.args.map.now in
     let below : c.cell_of.result < m.count =
-    rw c.cell_of.ensures (all_keys ask_at (IsAskBelow m.count) (λ k. k % 2 ^ 20 < m.count) (λ k x h. h) c.args.keys.now c.args.asked.now
+    rw c.cell_of.ensures (all_keys ask_at (IsAskBelow m.count) (λ k. k % 2 ^ 20 < m.count) (λ k x h. h) c.args.keys.now c.args.asked.now.items
     c.asks.i
     c.requires.long (let l = c.asks.invariant.long in omega arith) c.requires.cells) in
     let there = lawful.part_below c.cell_of.result below in
@@ -68,7 +69,7 @@ bounds-taken-at-in-asks g c =
 pub keep_run-next-requires-clause-cells : goal.keep_run-next-requires-clause-cells
 keep_run-next-requires-clause-cells g c i l =
     let m = g.M.AddressMap.shape c.args.map.now in
-    all_keys ask_at (IsAskBelow m.count) (λ k. k % 2 ^ 20 < m.count) (λ k x h. h) c.args.keys.now c.args.asked.now i c.requires.long l
+    all_keys ask_at (IsAskBelow m.count) (λ k. k % 2 ^ 20 < m.count) (λ k x h. h) c.args.keys.now c.args.asked.now.items i c.requires.long l
     c.requires.cells
 
 pub asks-preserved : goal.asks-preserved
@@ -78,9 +79,9 @@ asks-preserved g c =
     let lawful = g.met.M.AddressMap.lawful c.args.map.now in
     let at = m.part in
     let ks = c.args.keys.now in
-    let xs0 = c.args.asked.now in
-    let xs = c.asks.asked in
-    let new = c.keep_run-next.new.asked in
+    let xs0 = c.args.asked.now.items in
+    let xs = c.asks.asked.items in
+    let new = c.keep_run-next.new.asked.items in
     let i = c.asks.i in
     let k = c.keep_run-next.result.0 in
     let run = c.keep_run-next.ensures in
@@ -99,6 +100,7 @@ asks-preserved g c =
     let left = all_replied at 0 (left_of_all (set taken home c.keep_run-next.result.1) 0 replies) in
     record {
       size = length-set taken home _ ∙ inv.size;
+      room = run.room ∙ inv.room;
       long = run.length ∙ inv.long;
       within = (let w = run.within in let e = run.length in omega (arith, w, e));
       rest = run.rest ∙ after;
@@ -116,12 +118,12 @@ returns-clause-held g c =
     let at = (g.M.AddressMap.shape c.args.map.now).part in
     let replies : List (List ℕ) = map (λ x. x.now) c.args.replies.now in
     let columns = left_of_all c.asks.taken 0 replies in
-    let a = length_paired ask_at ks c.asks.asked (inv.long ∙ c.requires.long) in
-    let b = length_paired ask_at ks c.args.asked.now c.requires.long in
+    let a = length_paired ask_at ks c.asks.asked.items (inv.long ∙ c.requires.long) in
+    let b = length_paired ask_at ks c.args.asked.now.items c.requires.long in
     let v = inv.long in
     let r = c.requires.long in
-    let e : take i (paired ask_at ks c.asks.asked) ≡ paired ask_at ks c.asks.asked = take_all i (paired ask_at ks c.asks.asked) (omega arith) in
-    let d : drop i (paired ask_at ks c.args.asked.now) ≡ [] = drop_all i (paired ask_at ks c.args.asked.now) (omega arith) in
-    sym (ap (λ z. z ++ all_replied at 0 columns (drop i (paired ask_at ks c.args.asked.now))) e
-    ∙ ap (λ z. paired ask_at ks c.asks.asked ++ z) (ap (all_replied at 0 columns) d ∙ nothing_held at columns 0)
-    ∙ append-nil (paired ask_at ks c.asks.asked)) ∙ inv.all
+    let e : take i (paired ask_at ks c.asks.asked.items) ≡ paired ask_at ks c.asks.asked.items = take_all i (paired ask_at ks c.asks.asked.items) (omega arith) in
+    let d : drop i (paired ask_at ks c.args.asked.now.items) ≡ [] = drop_all i (paired ask_at ks c.args.asked.now.items) (omega arith) in
+    sym (ap (λ z. z ++ all_replied at 0 columns (drop i (paired ask_at ks c.args.asked.now.items))) e
+    ∙ ap (λ z. paired ask_at ks c.asks.asked.items ++ z) (ap (all_replied at 0 columns) d ∙ nothing_held at columns 0)
+    ∙ append-nil (paired ask_at ks c.asks.asked.items)) ∙ inv.all

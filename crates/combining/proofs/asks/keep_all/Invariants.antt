@@ -10,13 +10,14 @@ invariant-asks g l =
     let replies = map (λ x. x.now) l.replies in
     record {
       size : length l.taken ≡ 32;
-      long : length l.asked ≡ length l.fn.asked;
-      within : l.i ≤ length l.asked;
-      rest : drop l.i l.asked ≡ drop l.i l.fn.asked;
-      all : take l.i (paired ask_at l.keys l.asked) ++ all_replied at 0 (left_of_all l.taken 0 replies)
-          (drop l.i (paired ask_at l.keys l.fn.asked))
-          ≡ all_replied at 0 replies (paired ask_at l.keys l.fn.asked);
+      room : l.asked.room ≡ l.fn.asked.room;
+      long : length l.asked.items ≡ length l.fn.asked.items;
+      within : l.i ≤ length l.asked.items;
+      rest : drop l.i l.asked.items ≡ drop l.i l.fn.asked.items;
+      all : take l.i (paired ask_at l.keys l.asked.items) ++ all_replied at 0 (left_of_all l.taken 0 replies)
+          (drop l.i (paired ask_at l.keys l.fn.asked.items))
+          ≡ all_replied at 0 replies (paired ask_at l.keys l.fn.asked.items);
     }
 
 abbrev pub decreases-asks : goal.decreases-asks
-decreases-asks g l = length l.asked - l.i
+decreases-asks g l = length l.asked.items - l.i

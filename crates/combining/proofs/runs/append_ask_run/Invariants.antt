@@ -8,7 +8,7 @@ use Rattle.combining.proofs.runs.append_ask_run.Given as goal
 abbrev pub invariant-asks : goal.invariant-asks
 invariant-asks g l =
     let at = (g.M.AddressMap.shape l.map).part in
-    let held = paired ask_at l.keys l.asked in
+    let held = paired ask_at l.keys l.asked.items in
     record {
       room : vec_capacity l.list ≡ vec_capacity l.fn.list;
       got : l.list.items ++ packed words_of (is_for at l.home) (drop l.i held)

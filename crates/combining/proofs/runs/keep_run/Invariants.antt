@@ -8,12 +8,13 @@ abbrev pub invariant-asks : goal.invariant-asks
 invariant-asks g l =
     let at = (g.M.AddressMap.shape l.map).part in
     record {
-      long : length l.asked ≡ length l.fn.asked;
-      rest : drop l.i l.asked ≡ drop l.i l.fn.asked;
+      room : l.asked.room ≡ l.fn.asked.room;
+      long : length l.asked.items ≡ length l.fn.asked.items;
+      rest : drop l.i l.asked.items ≡ drop l.i l.fn.asked.items;
       held : (taken : List ℕ) (replies : List (List ℕ)) → l.home < length taken → l.home < length replies →
           get_or taken l.home 0 ≡ l.first → get_or replies l.home [] ≡ l.words →
-          take l.i (paired ask_at l.keys l.asked)
-          ++ all_replied at 0 (left_of_all (set taken l.home l.n) 0 replies) (drop l.i (paired ask_at l.keys l.fn.asked))
-          ≡ take l.from (paired ask_at l.keys l.fn.asked)
-          ++ all_replied at 0 (left_of_all taken 0 replies) (drop l.from (paired ask_at l.keys l.fn.asked));
+          take l.i (paired ask_at l.keys l.asked.items)
+          ++ all_replied at 0 (left_of_all (set taken l.home l.n) 0 replies) (drop l.i (paired ask_at l.keys l.fn.asked.items))
+          ≡ take l.from (paired ask_at l.keys l.fn.asked.items)
+          ++ all_replied at 0 (left_of_all taken 0 replies) (drop l.from (paired ask_at l.keys l.fn.asked.items));
     }

@@ -13,5 +13,5 @@ invariant-reads l = record {
   bank : IsBank l.bank;
   masks : l.bank.masks ≡ l.initial.bank.masks;
   same : IsSameBank l.initial.bank l.bank;
-  count : length l.values ≡ length l.initial.values;
+  count : length l.values.items ≡ length l.initial.values.items;
 }

@@ -1,4 +1,4 @@
-use Rattle.std.proofs.Common.{◌≡◌, ℕ, List, length, map, take, vec_capacity, refl, sym, ap, subst, ◌∙◌, arith, Bor}
+use Rattle.std.proofs.Common.{◌≡◌, ℕ, List, map, take, vec_capacity, refl, sym, ap, subst, ◌∙◌, arith, Bor}
 use Rattle.std.specs.Vec.{with_items}
 use Rattle.std.proofs.lemmas.List.{with_items_is}
 use Rattle.superstep_machine.specs.declared.header.MessageHeader.{MessageHeader}
@@ -26,7 +26,7 @@ returns-clause-shows g c = λ code bound n y shows.
       steps = c.answer_worker.new.steps;
       sent = c.clear.new.self;
       asked = with_items x.asked new;
-      values = with_items x.values c.answer_worker.new.values;
+      values = c.answer_worker.new.values;
     } in
     let lawful = g.met.M.AddressMap.lawful c.args.map.now in
     let few = lawful.few in
@@ -44,7 +44,7 @@ returns-clause-shows g c = λ code bound n y shows.
     subst (λ held. Gives held values)
     (sym (c.take_replies.ensures.held ∙ ap (λ ws. all_replied m.part 0 ws x.sent.held) words))
     (gives_values t w y came x.sent.held lawful c.requires.below shows.sent) in
-    let items : (with_items x.asked new).items ≡ new = with_items_is x.asked new (c.forget.auto.asked ∙ c.as_mut_slice-2.ensures.len) in
+    let items : (with_items x.asked new).items ≡ new = with_items_is x.asked new (c.forget.auto.asked ∙ c.as_mut_slice.ensures.len) in
     reply_shown t w x z y (messages_to code.rule m w Replies came) c.take_replies.new.self.held shows c.answer_worker.ensures.answered gives
     refl c.clear.ensures.none (λ j. ap (λ xs. column (words_of xs) j) items ∙ c.forget.ensures.none j)
 
@@ -57,14 +57,13 @@ returns-clause-equipped g c = λ code e.
       steps = c.answer_worker.new.steps;
       sent = c.clear.new.self;
       asked = with_items x.asked new;
-      values = with_items x.values c.answer_worker.new.values;
+      values = c.answer_worker.new.values;
     } in
-    let items : (with_items x.asked new).items ≡ new = with_items_is x.asked new (c.forget.auto.asked ∙ c.as_mut_slice-2.ensures.len) in
+    let items : (with_items x.asked new).items ≡ new = with_items_is x.asked new (c.forget.auto.asked ∙ c.as_mut_slice.ensures.len) in
     equipped_replied code m x z c.take_replies.new.self.held c.answer_worker.ensures.answered refl c.clear.ensures.none
     (c.clear.ensures.room ∙ c.take_replies.ensures.room) (λ j. ap (λ xs. column (words_of xs) j) items ∙ c.forget.ensures.none j)
-    (ap (map vec_capacity) items ∙ c.forget.ensures.rooms ∙ ap (map vec_capacity) c.as_mut_slice-2.ensures.value) refl
-    (ap length (with_items_is x.values c.answer_worker.new.values (c.answer_worker.ensures.count ∙ c.as_mut_slice.ensures.len))
-    ∙ c.answer_worker.ensures.count ∙ ap length c.as_mut_slice.ensures.value) e
+    (ap (map vec_capacity) items ∙ c.forget.ensures.rooms ∙ ap (map vec_capacity) c.as_mut_slice.ensures.value) refl
+    c.answer_worker.ensures.count e
 
 pub returns-clause-verified : goal.returns-clause-verified
 returns-clause-verified g c = λ code formed v there.

@@ -14,7 +14,7 @@ place-home-requires g c =
     let ks = c.self.inside.index.keys in
     let xs = c.self.inside.asked.items in
     let n : length xs ≡ length ks = c.self.invariant.1 in
-    let l : c.asks.i < length ks = (let v = c.self.inside.asked.ok.0 in omega arith) in
+    let l : c.asks.i < length ks = (let v = ap (λ (us : List ℕ). length us) c.keys-keys.ensures.keys in omega (arith, v)) in
     rw (c.cell_of.ensures, c.keys-keys.ensures.keys) (all_keys ask_at (IsAskBelow m.count) (λ k. k % 2 ^ 20 < m.count) (λ k x h. h) ks xs
     c.asks.i n l (rw (← c.self.view_is) at c.requires.cells))
 
@@ -24,7 +24,7 @@ bounds-columns-at g c =
     let ks = c.self.inside.index.keys in
     let xs = c.self.inside.asked.items in
     let n : length xs ≡ length ks = c.self.invariant.1 in
-    let l : c.asks.i < length ks = (let v = c.self.inside.asked.ok.0 in omega arith) in
+    let l : c.asks.i < length ks = (let v = ap (λ (us : List ℕ). length us) c.keys-keys.ensures.keys in omega (arith, v)) in
     let k = get_or c.keys-keys.result.now c.asks.i 0 in
     let below : k % 2 ^ 20 < m.count =
     rw c.keys-keys.ensures.keys (all_keys ask_at (IsAskBelow m.count) (λ k. k % 2 ^ 20 < m.count) (λ k x h. h) ks xs c.asks.i n l
@@ -54,10 +54,10 @@ add_ask_run-i-requires-clause-room g c =
     let i = c.asks.i in
     let inv = c.asks.invariant in
     let n : length xs ≡ length ks = c.self.invariant.1 in
-    let l : i < length ks = (let v = c.self.inside.asked.ok.0 in omega arith) in
+    let l : i < length ks = (let v = ap (λ (us : List ℕ). length us) c.keys-keys.ensures.keys in omega (arith, v)) in
     let held = c.args.self.now.held in
-    let same : paired ask_at c.keys-keys.result.now c.deref-in-asks.result.now ≡ held =
-    rw (c.keys-keys.ensures.keys, c.deref-in-asks.ensures.value) (ap (λ (v : HeldAsks). v.held) c.self.view_is) in
+    let same : paired ask_at c.keys-keys.result.now xs ≡ held =
+    rw (c.keys-keys.ensures.keys) (ap (λ (v : HeldAsks). v.held) c.self.view_is) in
     let row = c.asks.columns in
     let home = c.place-home.result.0 in
     let v = c.index-columns-at.result in
@@ -82,13 +82,12 @@ asks-smaller g c =
     let n : length xs ≡ length ks = c.self.invariant.1 in
     let i = c.asks.i in
     let held = c.args.self.now.held in
-    let l : i < length xs = (let v = c.self.inside.asked.ok.0 in omega arith) in
-    let deref : length c.deref-in-asks.result.now ≡ length xs = ap length c.deref-in-asks.ensures.value in
+    let l : i < length xs = (let v = ap (λ (us : List ℕ). length us) c.keys-keys.ensures.keys in omega (arith, v)) in
     let h = ap (λ (v : HeldAsks). length v.held) c.self.view_is in
     let p = length_paired ask_at ks xs n in
     let part : m.part (get_or c.keys-keys.result.now i 0 % 2 ^ 20) ≡ c.place-home.result.0 =
     sym (c.place-home.ensures.part ∙ ap m.part c.cell_of.ensures) in
-    let on : i < c.add_ask_run-i.result = c.add_ask_run-i.ensures.some (omega (arith, l, deref)) part in
+    let on : i < c.add_ask_run-i.result = c.add_ask_run-i.ensures.some l part in
     let less : length held - c.add_ask_run-i.result < length held - i = omega (arith, on, l, n, h, p) in
     less
 
@@ -100,10 +99,10 @@ asks-preserved g c =
     let i = c.asks.i in
     let inv = c.asks.invariant in
     let n : length xs ≡ length ks = c.self.invariant.1 in
-    let l : i < length ks = (let v = c.self.inside.asked.ok.0 in omega arith) in
+    let l : i < length ks = (let v = ap (λ (us : List ℕ). length us) c.keys-keys.ensures.keys in omega (arith, v)) in
     let held = c.args.self.now.held in
-    let same : paired ask_at c.keys-keys.result.now c.deref-in-asks.result.now ≡ held =
-    rw (c.keys-keys.ensures.keys, c.deref-in-asks.ensures.value) (ap (λ (v : HeldAsks). v.held) c.self.view_is) in
+    let same : paired ask_at c.keys-keys.result.now xs ≡ held =
+    rw (c.keys-keys.ensures.keys) (ap (λ (v : HeldAsks). v.held) c.self.view_is) in
     let row = c.asks.columns in
     let home = c.place-home.result.0 in
     let v = c.index-columns-at.result in
@@ -123,8 +122,7 @@ asks-preserved g c =
     (λ j. ask_words (asks_for m.part j (drop next hs))) (get_or row home v).items w.items) same c.add_ask_run-i.ensures.got in
     record {
       rooms = same_of_all vec_capacity row home v w is (c.add_ask_run-i.ensures.room ∙ ap vec_capacity (sym is)) ∙ inv.rooms;
-      within = (let a = c.add_ask_run-i.ensures.within in let d = ap length c.deref-in-asks.ensures.value in
-          let h = ap (λ (v : HeldAsks). length v.held) c.self.view_is in let p = length_paired ask_at ks xs n in omega (arith, a, d, h, p, n));
+      within = (let a = c.add_ask_run-i.ensures.within in let h = ap (λ (v : HeldAsks). length v.held) c.self.view_is in let p = length_paired ask_at ks xs n in omega (arith, a, h, p, n));
       got = λ j low. run_added row home v w within is (to_come i) (to_come next) got j ∙ inv.got j low;
     }
 
@@ -136,7 +134,7 @@ returns-clause-words g c j below =
     let h = ap (λ (v : HeldAsks). length v.held) c.self.view_is in
     let held = c.args.self.now.held in
     let i = c.asks.i in
-    let done : length held ≤ i = (let v = c.self.inside.asked.ok.0 in omega arith) in
+    let done : length held ≤ i = (let v = ap (λ (us : List ℕ). length us) c.keys-keys.ensures.keys in omega (arith, v)) in
     let now = column (map (λ v. v.items) c.asks.columns) j in
     sym (ap (λ (hs : List HeldAsk). now ++ ask_words (asks_for m.part j hs)) (drop_all i held done) ∙ append-nil now)
     ∙ c.asks.invariant.got j below
