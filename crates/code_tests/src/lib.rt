@@ -1,27 +1,18 @@
-//! Tests of superstep code: its listing, its verifier, address maps, held messages, the run on one memory, the runs of
-//! workers, and fusing.
+//! Tests of superstep code, its listing, its verifier, address maps and held messages, and of words that no worker sends.
 #![tactic(auto)]
 
 #[cfg(test)]
-mod by_workers;
-#[cfg(test)]
 mod codes;
 #[cfg(test)]
-mod flat;
-#[cfg(test)]
-mod fused;
-#[cfg(test)]
 mod held_and_merged;
-#[cfg(test)]
-mod in_threads;
 #[cfg(test)]
 mod listing;
 #[cfg(test)]
 mod maps;
 #[cfg(test)]
-mod strange_words;
+mod refusals;
 #[cfg(test)]
-mod texts;
+mod strange_words;
 #[cfg(test)]
 mod two_messages;
 #[cfg(test)]

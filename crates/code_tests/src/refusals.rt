@@ -1,9 +1,12 @@
-// The texts of refusals: number, name, and what else a refusal prints behind the word `refused`.
+//! Refusals: their texts, which are number, name, and what else a refusal prints behind the word `refused`; and in which order a run is judged.
 
-use address_map::MapFault;
-use bsp_verify::{Reason, VerifyFault};
+use crate::codes::BROADCAST;
+use address_map::{Identity, MapFault};
+use bsp_machine::{RunRefusal, run_plain};
+use bsp_verify::{Reason, Verified, VerifyFault, verify};
+use std::alloc::Global;
 use std::test::Fail;
-use superstep_code::ListingFault;
+use superstep_code::{ListingFault, read_listing};
 
 const MAPS: [(MapFault, &str); 2] = [
     (MapFault::BadMap, "E12 BadMap"),
@@ -56,4 +59,42 @@ fn refused_code_has_its_text(rt: HostRuntime) -> Result<(), Fail> {
         assert!(&rt; told.as_bytes() == text.as_bytes());
     }
     Ok(())
+}
+
+fn verified(alloc: Global, text: &[u8]) -> Option<Verified> {
+    let code = read_listing(alloc, text).ok()?;
+    verify(alloc, code).ok()
+}
+
+// Why the worked listing is not run.
+fn refusal_of(alloc: Global, map: &Identity, workers: u32, input: &[i64]) -> Option<RunRefusal> {
+    let code = verified(alloc, BROADCAST)?;
+    run_plain(alloc, &code, map, workers, input, 9).err()
+}
+
+#[test]
+fn refusals_come_in_order(rt: HostRuntime) {
+    let alloc = rt.alloc();
+    let eight = Identity::new(8, 2).expect(&rt, "eight places");
+    let four = Identity::new(4, 2).expect(&rt, "four places");
+    let long = [1, 2, 3, 4, 5, 6, 7];
+    for workers in [0, 33, 4_294_967_295] {
+        assert_eq!(rt;
+            refusal_of(alloc, &four, workers, &long),
+            Some(RunRefusal::BadWorkers)
+        );
+    }
+    assert_eq!(rt;
+        refusal_of(alloc, &four, 2, &long),
+        Some(RunRefusal::BadMap)
+    );
+    assert_eq!(rt;
+        refusal_of(alloc, &eight, 3, &long),
+        Some(RunRefusal::BadMap)
+    );
+    assert_eq!(rt;
+        refusal_of(alloc, &eight, 2, &long),
+        Some(RunRefusal::InputTooLong)
+    );
+    assert_eq!(rt; refusal_of(alloc, &eight, 2, &long[..6]), None);
 }
