@@ -1,7 +1,7 @@
 #!/usr/bin/env bash
 # Reads the plan of each example, at its own sizes, back from its listing, verifies it, and runs it on one memory at several bounds, beside
-# the definition of the language; and the listings of gate/rows/listings.md by the calls that no command makes, beside what was worked out by
-# hand. The program for that is built by `rt try`, which proves nothing, in a temporary folder.
+# the definition of the language; and asks of the listings of gate/rows/listings.md what no command shows. The program for that is built by
+# `rt try`, which proves nothing, in a temporary folder.
 set -eu
 . "$(dirname "$0")/../bench/lib.sh"
 bench=gate
