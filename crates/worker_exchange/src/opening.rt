@@ -109,6 +109,37 @@ fn opening_cells<M: AddressMap>(
     Ok(cells)
 }
 
+// What a worker keeps of an exchange: what is asked of its module, room for words, and for the values that come.
+#[derive(Drop)]
+struct ExchangeRoom {
+    asked: Vec<Vec<u64>>,
+    buffers: Buffers,
+    values: Vec<i64>,
+}
+
+// These lists, for messages of so many words and so many processors. They have a function of their own: each `?` lets go all that was made
+// before it, and what a function can let go costs its proof more than its length does.
+fn room_for_exchange(
+    alloc: Global,
+    workers: u32,
+    words: usize,
+    processors: usize,
+) -> Result<ExchangeRoom, AllocError>
+    ensures asked { IfOk result (λ x. HaveRoom workers words x.asked.items) }
+    ensures empty { IfOk result (λ x. (j : ℕ) → column (words_of x.asked.items) j ≡ []) }
+    ensures buffers { IfOk result (λ x. AreBuffers workers words x.buffers) }
+    ensures values { IfOk result (λ x. length x.values.items ≡ processors) }
+{
+    let asked = lists(alloc, workers, words)?;
+    let buffers = buffers(alloc, workers, words)?;
+    let values = vec![in alloc; 0; processors]?;
+    Ok(ExchangeRoom {
+        asked,
+        buffers,
+        values,
+    })
+}
+
 // Whether anything speaks against a run.
 fn judge<M: AddressMap>(code: &Code, map: &M, workers: u32, input: &[i64]) -> Result<(), RunRefusal>
     ensures accepted { IfOk result (λ u. IsAccepted code.now (M.shape map.now) workers input.now) }
@@ -148,16 +179,14 @@ fn open<M: AddressMap>(
     let steps = WorkerState::new(alloc, code.private_registers(), most, worker, workers)?;
     let cells = opening_cells(alloc, map, worker, input)?;
     let sent = Asks::with_room(alloc, 8 * (most as usize + 1))?;
-    let asked = lists(alloc, workers, words)?;
-    let buffers = buffers(alloc, workers, words)?;
-    let values = vec![in alloc; 0; most as usize]?;
+    let room = room_for_exchange(alloc, workers, words, most as usize)?;
     Ok(Local {
         steps,
         cells,
         sent,
-        asked,
-        buffers,
-        values,
+        asked: room.asked,
+        buffers: room.buffers,
+        values: room.values,
         way: Way::On,
         purpose: Purpose::Close,
     })

@@ -22,9 +22,9 @@ returns-clause-shown g c = λ bound n.
       steps = c.in_ok-steps.steps;
       cells = c.in_ok-cells.cells;
       sent = c.in_ok-sent.sent;
-      asked = c.in_ok-asked.asked;
-      buffers = c.in_ok-buffers.buffers;
-      values = c.in_ok-values.values;
+      asked = c.in_ok-room.room.asked;
+      buffers = c.in_ok-room.room.buffers;
+      values = c.in_ok-room.room.values;
       way = ways.On;
       purpose = purposes.Close;
     } in
@@ -33,7 +33,7 @@ returns-clause-shown g c = λ bound n.
     (opens code m c.args.input.now x c.in_ok-cells.ensures.fit refl c.in_ok-steps.ensures.place (c.in_ok-steps.ensures.shows code.rule)
     (c.in_ok-cells.ensures.values
     ∙ ap (λ w. map (λ k. slice_index_or c.args.input.now k (pos 0)) (map (m.cell w) (range_with_len 0 (m.width w)))) (sym here))
-    c.in_ok-sent.ensures.ok.0 c.in_ok-asked.ensures.empty bound n)
+    c.in_ok-sent.ensures.ok.0 c.in_ok-room.ensures.empty bound n)
 
 pub returns-clause-going : goal.returns-clause-going
 returns-clause-going g c = λ bound runnable.
@@ -43,9 +43,9 @@ returns-clause-going g c = λ bound runnable.
       steps = c.in_ok-steps.steps;
       cells = c.in_ok-cells.cells;
       sent = c.in_ok-sent.sent;
-      asked = c.in_ok-asked.asked;
-      buffers = c.in_ok-buffers.buffers;
-      values = c.in_ok-values.values;
+      asked = c.in_ok-room.room.asked;
+      buffers = c.in_ok-room.room.buffers;
+      values = c.in_ok-room.room.values;
       way = ways.On;
       purpose = purposes.Close;
     } in
@@ -64,13 +64,13 @@ returns-clause-going g c = λ bound runnable.
       workers = many;
       sent = (let room = c.in_ok-sent.ensures.ok.1 in let most = c.in_ok-steps.ensures.most in omega (arith, room, most));
       cells = c.in_ok-cells.ensures.long ∙ ap m.width (sym here);
-      asked = subst (λ (s : ℕ × ℕ). HaveRoom s.0 s.1 x.asked.items) (λ i. (c.modules-workers.ensures i, same i)) c.in_ok-asked.ensures.room;
-      few = λ j. let none = ap length (c.in_ok-asked.ensures.empty j) in omega (arith, none);
-      buffers = subst (λ (s : ℕ × ℕ). AreBuffers s.0 s.1 x.buffers) (λ i. (c.modules-workers.ensures i, same i)) c.in_ok-buffers.ensures;
-      values = (let n = c.in_ok-values.ensures.len in let most = c.in_ok-steps.ensures.most in omega (arith, n, most));
+      asked = subst (λ (s : ℕ × ℕ). HaveRoom s.0 s.1 x.asked.items) (λ i. (c.modules-workers.ensures i, same i)) c.in_ok-room.ensures.asked;
+      few = λ j. let none = ap length (c.in_ok-room.ensures.empty j) in omega (arith, none);
+      buffers = subst (λ (s : ℕ × ℕ). AreBuffers s.0 s.1 x.buffers) (λ i. (c.modules-workers.ensures i, same i)) c.in_ok-room.ensures.buffers;
+      values = (let n = c.in_ok-room.ensures.values in let most = c.in_ok-steps.ensures.most in omega (arith, n, most));
       below = subst (AllByRecursion (IsAskBelow m.count)) (sym c.in_ok-sent.ensures.ok.0) tt;
     } in
     may_open code m c.args.input.now x c.in_ok-cells.ensures.fit refl c.in_ok-steps.ensures.place (c.in_ok-steps.ensures.shows code.rule)
     (c.in_ok-cells.ensures.values
     ∙ ap (λ w. map (λ k. slice_index_or c.args.input.now k (pos 0)) (map (m.cell w) (range_with_len 0 (m.width w)))) (sym here))
-    c.in_ok-sent.ensures.ok.0 c.in_ok-asked.ensures.empty bound runnable equipped (c.in_ok-steps.ensures.verified code)
+    c.in_ok-sent.ensures.ok.0 c.in_ok-room.ensures.empty bound runnable equipped (c.in_ok-steps.ensures.verified code)
