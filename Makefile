@@ -14,7 +14,7 @@ bin/pramc: $(sources)
 # comes to.
 examples:
 	bash gate/examples.sh
-	bash gate/plans.sh
+	bash gate/calls.sh
 
 # Proves every crate over what earlier runs kept.
 check:
@@ -35,7 +35,7 @@ test:
 	python3 gate/build_test.py
 	python3 gate/wrong_bodies.py
 	python3 crates/run_tests/unthreaded/change.py look .
-	bash gate/plans.sh
+	bash gate/calls.sh
 	set -e; for check in crates/*/refusals/check.sh; do bash $$check; done
 	bash gate/prove.sh
 

@@ -3,7 +3,7 @@
 
 listings.py PROGRAM: by `exec`, which lines are refused, which code can't be met, and what the worked codes come to by several workers and
 two maps.
-listings.py --lay FOLDER: writes a file for each listing and for what is expected of it, for the program of gate/plans, and says how many
+listings.py --lay FOLDER: writes a file for each listing and for what is expected of it, for the program of gate/calls, and says how many
 rows there are. N.bsp is a listing; N.in the bound and the input of a run; N.out what that comes to, which is left out where it has no
 outcome; N.left the listing without its empty sends; worked.bsp is the worked listing, and worked.trace its exchanges.
 """

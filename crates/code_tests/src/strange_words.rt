@@ -1,6 +1,7 @@
 //! Words that no worker sends: whoever gets them passes over what makes no sense, and goes on.
 
-ghost use Rattle.std.specs.Prelude.{◌≡◌, false};
+ghost use Rattle.std.specs.Prelude.{◌≡◌, [], ◌∷◌, false, pos};
+ghost use Rattle.bsp_machine.specs.Opening.{IsFresh};
 ghost use Rattle.superstep_machine.specs.Run.{is_over};
 ghost use Rattle.worker_exchange.specs.Shown.{way_is};
 ghost use Rattle.code_tests.specs.Flood.{CanBeFlooded};
@@ -72,16 +73,18 @@ impl<'a, M: AddressMap> RuleBody for Flooded<'a, M> {
     }
 }
 
-// How many exchanges worker 0 makes of the worked listing, where that comes to it from each worker.
-fn exchanges(alloc: Global, header: [u64; 4], words: &[u64]) -> Option<u32> {
-    let verified = verify(alloc, read_listing(alloc, BROADCAST).ok()?).ok()?;
-    let code = verified.code();
-    let Ok(map) = Identity::new(8, 2) else {
-        return None;
-    };
-    let Ok(worker) = CountedWorker::new(alloc, code, &map, 2, 0, &[9, 8], true) else {
-        return None;
-    };
+// How many exchanges a worker makes that is told these words at each. It has a function of its own, so that no other lets a worker go.
+fn flood<M: AddressMap>(
+    alloc: Global,
+    code: &Code,
+    map: &M,
+    worker: CountedWorker,
+    header: [u64; 4],
+    words: &[u64],
+) -> Option<u32>
+    requires fresh { IsFresh code.now (M.shape map.now) (pos 9 ∷ pos 8 ∷ []) 0 worker }
+    requires two { (M.shape map.now).parts ≡ 2 }
+{
     let most = worker.local.buffers.reply.len();
     if words.len() > most {
         return None;
@@ -94,12 +97,25 @@ fn exchanges(alloc: Global, header: [u64; 4], words: &[u64]) -> Option<u32> {
         code.rule(),
         Flooded {
             code,
-            map: &map,
+            map,
             worker,
             row,
             came,
         },
     ))
+}
+
+// How many exchanges worker 0 makes of the worked listing, where that comes to it from each worker.
+fn exchanges(alloc: Global, header: [u64; 4], words: &[u64]) -> Option<u32> {
+    let verified = verify(alloc, read_listing(alloc, BROADCAST).ok()?).ok()?;
+    let code = verified.code();
+    let Ok(map) = Identity::new(8, 2) else {
+        return None;
+    };
+    match CountedWorker::new(alloc, code, &map, 2, 0, &[9, 8], true) {
+        Ok(worker) => flood(alloc, code, &map, worker, header, words),
+        Err(_) => None,
+    }
 }
 
 const MOST: u64 = 18_446_744_073_709_551_615;
