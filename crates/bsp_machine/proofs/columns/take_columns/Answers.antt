@@ -10,11 +10,11 @@ use Rattle.bsp_machine.specs.Ended.{counts_of}
 use Rattle.bsp_machine.proofs.TallyLemmas.{one_more_kept}
 use Rattle.bsp_machine.proofs.columns.take_columns.Goals as goal
 
-pub returns-in-None-into_rows-clause-all : goal.returns-in-None-into_rows-clause-all
-returns-in-None-into_rows-clause-all c = λ all.
+pub returns-in-None-rows_kept-clause-all : goal.returns-in-None-rows_kept-clause-all
+returns-in-None-rows_kept-clause-all c = λ all.
     let left = c.loop-worker.invariant.left all in
     let at : c.loop-worker.worker-iterator.rest.items ≡ c.in-Some.worker ∷ c.next.new.self.rest.items = c.in-Some.ensures.steps.0 in
-    c.in-None-into_rows.ensures.kept (subst (AreKept true) at left 0 c.in-Some.worker refl)
+    c.in-None-rows_kept.ensures.kept (subst (AreKept true) at left 0 c.in-Some.worker refl)
 
 pub loop-worker-preserved : goal.loop-worker-preserved
 loop-worker-preserved c =
@@ -22,8 +22,8 @@ loop-worker-preserved c =
     let xs = c.loop-worker.columns.items in
     let rest = c.next.new.self.rest.items in
     let at : c.loop-worker.worker-iterator.rest.items ≡ c.in-Some.worker ∷ rest = c.in-Some.ensures.steps.0 in
-    let rows = c.in-Some-into_rows.rows in
-    let is = c.in-Some-into_rows.ensures.rows in
+    let rows = c.in-Some-rows_kept.rows in
+    let is = c.in-Some-rows_kept.ensures.rows in
     record {
       taken =
           ap (λ (cs : List (Vec Count Global)). columns_of cs ++ counts_of rest) c.push_reserved.ensures.items
