@@ -1,6 +1,6 @@
 //! A set of processors, split by a mask.
 
-ghost use Rattle.std.specs.Prelude.{◌≡◌, ◌≤◌, ◌<◌, ℕ, [], length, take, slice_index, not, IfOk};
+ghost use Rattle.std.specs.Prelude.{◌≡◌, ◌≤◌, ◌<◌, ℕ, [], length, take, slice_index, not, IfOk, vec_capacity};
 ghost use Rattle.std.specs.List.{filter, range_with_len};
 ghost use Rattle.pram_values.specs.Truth.{is_nonzero};
 ghost use Rattle.worker_bank.specs.Columns.{value_of};
@@ -11,7 +11,8 @@ use std::alloc::{AllocError, Global};
 use std::mem;
 
 /// The processors that stay active under a mask, and those that it leaves out of the set below:
-/// the first `kept` of `active`, and the first `dropped` of `left`, ascending.
+/// the first `kept` of `active`, and the first `dropped` of `left`, ascending. Both lists have room
+/// from the beginning, and get as long as a mask asks for: memory that no mask reaches isn't touched.
 #[derive(Drop)]
 pub struct Level {
     pub active: Vec<u32>,
@@ -45,6 +46,17 @@ fn split(list: &[u32], column: &[i64], active: &mut [u32], left: &mut [u32]) -> 
     (kept, dropped)
 }
 
+// Adds zeros until there are so many items.
+fn lengthen(list: &mut Vec<u32>, count: usize)
+    requires room { count ≤ vec_capacity list.old }
+    ensures long { count ≤ length list.new.items }
+    ensures room { vec_capacity list.new ≡ vec_capacity list.old }
+{
+    while list.len() < count {
+        list.push_reserved(0);
+    }
+}
+
 // The first numbers.
 #[tactic(auto, using(crate::proofs::LevelLemmas::numbers_more))]
 fn numbers(alloc: Global, count: u32) -> Result<Vec<u32>, AllocError>
@@ -65,7 +77,7 @@ impl Level {
         ensures none { IfOk result (λ level. active_of level ≡ []) }
     {
         let active = numbers(alloc, most)?;
-        let left = vec![in alloc; 0; most as usize]?;
+        let left = Vec::with_capacity(alloc, most as usize)?;
         Ok(Level {
             active,
             kept: 0,
@@ -78,8 +90,8 @@ impl Level {
     pub fn new(alloc: Global, most: u32) -> Result<Level, AllocError>
         ensures room { IfOk result (λ level. IsLevel most level) }
     {
-        let active = vec![in alloc; 0; most as usize]?;
-        let left = vec![in alloc; 0; most as usize]?;
+        let active = Vec::with_capacity(alloc, most as usize)?;
+        let left = Vec::with_capacity(alloc, most as usize)?;
         Ok(Level {
             active,
             kept: 0,
@@ -105,13 +117,15 @@ impl Level {
 
     /// Splits a list: those stay active whose value isn't 0.
     pub fn split(&mut self, list: &[u32], column: &[i64])
-        requires active { length list.now ≤ length self.old.active.items }
-        requires left { length list.now ≤ length self.old.left.items }
+        requires active { length list.now ≤ vec_capacity self.old.active }
+        requires left { length list.now ≤ vec_capacity self.old.left }
         requires below { (k : ℕ) → k < length list.now → slice_index list.now k < length column.now }
         ensures active { active_of self.new ≡ filter (λ i. is_nonzero (value_of column.now i)) list.now }
         ensures left { left_of self.new ≡ filter (λ i. not (is_nonzero (value_of column.now i))) list.now }
-        ensures room { (most : ℕ) → IsLevel most self.old → IsLevel most self.new }
+        ensures room { (most : ℕ) → length list.now ≤ most → IsLevel most self.old → IsLevel most self.new }
     {
+        lengthen(&mut self.active, list.len());
+        lengthen(&mut self.left, list.len());
         let (kept, dropped) = split(
             list,
             column,

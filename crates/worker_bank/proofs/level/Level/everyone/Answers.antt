@@ -4,8 +4,11 @@ use Rattle.worker_bank.proofs.level.Level.everyone.Goals as goal
 
 pub returns-clause-room : goal.returns-clause-room
 returns-clause-room c = record {
-  active = ap length c.in_ok-active.ensures.items ∙ length-range_with_len 0 c.args.most;
-  left = search rules;
+  active_room = (let n = ap length c.in_ok-active.ensures.items ∙ length-range_with_len 0 c.args.most in let v = c.in_ok-active.active.ok in
+      omega (arith, n, v));
+  left_room = search rules;
+  active = omega arith;
+  left = omega arith;
   kept = omega arith;
   dropped = omega arith;
 }
