@@ -26,3 +26,4 @@ pub mod AllReplies
 pub mod CompactLemmas
 pub mod OneModule
 pub mod Marks
+pub mod SlotLemmas

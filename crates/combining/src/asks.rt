@@ -92,12 +92,13 @@ impl Model for Asks {
 }
 
 impl Asks {
-    /// Room for so many asks: no later call takes memory.
+    /// Room for so many asks: no later call takes memory. Eight reads may be held, and hardly ever are more than two, so the table
+    /// of their cells has a quarter.
     pub fn with_room(alloc: Global, room: usize) -> Result<Asks, AllocError>
         requires { room < 2 ^ 30 }
         ensures ok { IfOk result (λ x. (x.held ≡ []) × (x.room ≡ room)) }
     {
-        let index = Index::with_room(alloc, room)?;
+        let index = Index::with_room(alloc, room, room as u32 / 4)?;
         let asked = AskStates::with_room(alloc, room)?;
         Ok(Asks { index, asked })
     }

@@ -42,12 +42,13 @@ impl Model for Index {
 }
 
 impl Index {
-    /// An index for so many keys.
-    pub fn with_room(alloc: Global, room: usize) -> Result<Index, AllocError>
-        requires { room < 2 ^ 30 }
+    /// An index for so many keys, with a table of at least so many heads: where keys are more, their chains are longer.
+    pub fn with_room(alloc: Global, room: usize, heads: u32) -> Result<Index, AllocError>
+        requires room { room < 2 ^ 30 }
+        requires heads { heads ≤ 2 ^ 30 }
         ensures ok { IfOk result (λ x. (x.keys ≡ []) × (x.room ≡ room)) }
     {
-        let places = (room as u32 * 2).next_power_of_two();
+        let places = heads.next_power_of_two();
         let keys = Vec::with_capacity(alloc, room)?;
         let links = Vec::with_capacity(alloc, room)?;
         let heads = vec![in alloc; 0; places as usize]?;

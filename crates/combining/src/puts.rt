@@ -47,7 +47,7 @@ impl Puts {
         requires { room < 2 ^ 30 }
         ensures ok { IfOk result (λ x. (x.held ≡ []) × (x.room ≡ room)) }
     {
-        let index = Index::with_room(alloc, room)?;
+        let index = Index::with_room(alloc, room, room as u32)?;
         let entries = Vec::with_capacity(alloc, room)?;
         Ok(Puts { index, entries })
     }
