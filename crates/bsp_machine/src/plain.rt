@@ -45,7 +45,7 @@ fn run_all<M: AddressMap>(
     ensures kept { IfOk result (λ ended. (kept : Bool) → AreKept kept workers.items → AreKept kept ended.items) }
 {
     let count = map.modules();
-    let most = workers[0].local.buffers.reply.len();
+    let most = workers[0].local.buffers.reply.capacity();
     let rows = open_rows(alloc, count, most)?;
     Ok(under(
         code.rule(),

@@ -1,6 +1,6 @@
 -- Before the first instruction anything may come.
 use Rattle.std.proofs.Common.{◌≡◌, ℕ, ◌≤◌, List, ℤ, [], length, arith}
-use Rattle.std.specs.Prelude.{vec_len}
+use Rattle.std.specs.Prelude.{vec_capacity}
 use Rattle.address_map.specs.Lawful.{Shape}
 use Rattle.superstep_code.specs.Code.{SuperstepCode}
 use Rattle.superstep_machine.specs.Run.{opening, setting}
@@ -10,12 +10,11 @@ use Rattle.bsp_machine.specs.Opening.{IsFresh}
 use Rattle.code_tests.specs.Flood.{CanBeFlooded}
 
 pub fresh_flooded : (code : SuperstepCode) (m : Shape) (input : List ℤ) (x : CountedWorker) (room : ℕ) (words : List ℕ) →
-    IsFresh code m input 0 x → m.parts ≡ 2 → room ≡ vec_len x.local.buffers.reply →
-    length words ≤ vec_len x.local.buffers.reply → CanBeFlooded code m x room words
+    IsFresh code m input 0 x → m.parts ≡ 2 → room ≡ vec_capacity x.local.buffers.reply →
+    length words ≤ vec_capacity x.local.buffers.reply → CanBeFlooded code m x room words
 fresh_flooded code m input x room words f two is few =
     let going = f.going 9 in
     let most = going.equipped.buffers.reply in
-    let long = x.local.buffers.reply.ok.0 in
     record {
       runnable = going.runnable;
       somewhere = record {
@@ -31,6 +30,6 @@ fresh_flooded code m input x room words f two is few =
         };
       };
       two = two;
-      enough = omega (arith, is, most, long);
-      few = omega (arith, few, most, long);
+      enough = omega (arith, is, most);
+      few = omega (arith, few, most);
     }

@@ -85,7 +85,7 @@ fn flood<M: AddressMap>(
     requires fresh { IsFresh code.now (M.shape map.now) (pos 9 ∷ pos 8 ∷ []) 0 worker }
     requires two { (M.shape map.now).parts ≡ 2 }
 {
-    let most = worker.local.buffers.reply.len();
+    let most = worker.local.buffers.reply.capacity();
     if words.len() > most {
         return None;
     }

@@ -53,9 +53,9 @@ pub record CanTell (rule : Rule) (m : Shape) (room : ℕ) (x : Local) : Type 0 w
   pub bank : IsBank x.steps.bank
   pub cells : length x.cells ≡ m.width x.steps.bank.worker
   pub asked : length x.asked.items ≡ m.parts
-  pub few : (j : ℕ) → length (column (words_of x.asked.items) j) ≤ length x.buffers.reply.items
-  pub reply : length x.buffers.reply.items ≤ room
-  pub short : length x.buffers.reply.items < 2 ^ 32
+  pub few : (j : ℕ) → length (column (words_of x.asked.items) j) ≤ vec_capacity x.buffers.reply
+  pub reply : vec_capacity x.buffers.reply ≤ room
+  pub short : vec_capacity x.buffers.reply < 2 ^ 32
   pub counts : length x.buffers.counts.items ≡ m.parts
   pub rooms : (j : ℕ) → j < m.parts → room_at (map vec_capacity x.buffers.words.items) j ≤ room
   pub held : x.purpose ≡ purposes.Send → CanBeWritten rule m (map vec_capacity x.buffers.words.items) x.steps.puts.held x.steps.asks.held

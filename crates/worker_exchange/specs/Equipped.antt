@@ -41,7 +41,7 @@ pub record HaveRoom (p most : ℕ) (columns : List (Vec ℕ Global)) : Type 0 wh
 pub record AreBuffers (p most : ℕ) (buffers : Buffers) : Type 0 where
   pub words : HaveRoom p most buffers.words.items
   pub counts : length buffers.counts.items ≡ p
-  pub reply : length buffers.reply.items ≡ most
+  pub reply : vec_capacity buffers.reply ≡ most
 
 -- It has room for its processors, for what it sends and is asked, and for a value of each processor; it is one of as many workers as the
 -- map has modules; it has the cells of its module; and what it sent asks for cells of the map.

@@ -132,7 +132,7 @@ impl Local {
                 self.steps.bank.worker,
                 self.asked.as_slice(),
                 &self.cells,
-                self.buffers.reply.as_mut_slice(),
+                &mut self.buffers.reply,
             ),
             Purpose::Vote { destination: _ } => {
                 tell_alone(row, workers, key, any_active(&self.steps))

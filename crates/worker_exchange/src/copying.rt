@@ -4,6 +4,17 @@ ghost use Rattle.std.specs.Prelude.{◌≡◌, ◌≤◌, length, vec_capacity};
 
 use std::mem;
 
+/// Adds zeros until there are so many words, where there is room for them. So memory that no message reaches isn't touched.
+pub(crate) fn lengthen(words: &mut Vec<u64>, count: usize)
+    requires { count ≤ vec_capacity words.old }
+    ensures long { count ≤ length words.new.items }
+    ensures room { vec_capacity words.new ≡ vec_capacity words.old }
+{
+    while words.len() < count {
+        words.push_reserved(0);
+    }
+}
+
 // Some words in a list with room for them. It is passed by value, so that its length stays in a register over the loop.
 fn filled(words: &[u64], mut list: Vec<u64>) -> Vec<u64>
     requires { length words.now ≤ vec_capacity list }

@@ -1,11 +1,12 @@
 //! Rows are filled.
 
-ghost use Rattle.std.specs.Prelude.{◌≡◌, ◌<◌, ◌≤◌, ◌^◌, ℕ, [], length};
+ghost use Rattle.std.specs.Prelude.{◌≡◌, ◌<◌, ◌≤◌, ◌^◌, ℕ, [], length, vec_capacity};
 ghost use Rattle.superstep_machine.specs.HeaderWords.{header_words};
 ghost use Rattle.combining.specs.AllModules.{column};
 ghost use Rattle.worker_exchange.specs.Rows.{IsRow, words_in};
 ghost use Rattle.worker_exchange.specs.Sends.{words_of, header_with as spec_header, send_message, reply_message};
 
+use crate::copying::lengthen;
 use crate::row::Row;
 use address_map::AddressMap;
 use combining::{Cells, answer_asks};
@@ -76,25 +77,28 @@ pub fn fill_replies<M: AddressMap, W: Row>(
     part: u32,
     asked: &[Vec<u64>],
     cells: &Cells,
-    reply: &mut [u64],
+    reply: &mut Vec<u64>,
 ) -> u64
     requires part { part < (M.shape map.now).parts }
     requires cells { length cells.now ≡ (M.shape map.now).width part }
     requires workers { length (W.filled row.old) ≡ length asked.now }
-    requires reply { (j : ℕ) → length (column (words_of asked.now) j) ≤ length reply.old }
-    requires room { length reply.old ≤ W.room row.old }
+    requires reply { (j : ℕ) → length (column (words_of asked.now) j) ≤ vec_capacity reply.old }
+    requires room { vec_capacity reply.old ≤ W.room row.old }
     // Their number has 64 bits.
     requires few { length asked.now < 2 ^ 32 }
-    requires short { length reply.old < 2 ^ 32 }
+    requires short { vec_capacity reply.old < 2 ^ 32 }
     ensures filled { IsRow (length asked.now) (reply_message key (M.shape map.now) part cells.now (words_of asked.now)) (W.filled row.new) }
     ensures words { result ≡ words_in (W.filled row.new) }
+    ensures reply { vec_capacity reply.new ≡ vec_capacity reply.old }
     ensures room { W.room row.new ≡ W.room row.old }
     ensures kept { W.kept row.old row.new }
 {
     let header = header_with(key, 0);
     let mut sent = 0;
     'workers: for j in 0..asked.len() {
-        let n = answer_asks(map, part, asked[j].as_slice(), cells, reply);
+        let words = asked[j].as_slice();
+        lengthen(reply, words.len());
+        let n = answer_asks(map, part, words, cells, reply.as_mut_slice());
         let _filled = row.fill(j, header, &reply[..n]);
         sent += n as u64;
     }

@@ -64,7 +64,7 @@ fn buffers(alloc: Global, workers: u32, most: usize) -> Result<Buffers, AllocErr
 {
     let words = lists(alloc, workers, most)?;
     let counts = vec![in alloc; 0; workers as usize]?;
-    let reply = vec![in alloc; 0; most]?;
+    let reply = Vec::with_capacity(alloc, most)?;
     Ok(Buffers {
         words,
         counts,

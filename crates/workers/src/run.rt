@@ -107,7 +107,7 @@ fn run_code<R: Threads + Wait + Sync, M: AddressMap + Sync, G: Gate + Sync>(
     let Ok(end_room) = EndRoom::new(alloc, code, terms.workers) else {
         return Err(RunRefusal::OutOfMemory);
     };
-    let most = opened[0].local.buffers.reply.len();
+    let most = opened[0].local.buffers.reply.capacity();
     let Ok((mut turnstile, seats)) = Turnstile::new(alloc, terms.workers as usize, most) else {
         return Err(RunRefusal::OutOfMemory);
     };

@@ -17,7 +17,7 @@ under-requires g c =
     let many = c.requires.workers in
     let here : slice_get workers 0 ≡ Some x = slice_get-get_or workers 0 x (omega (arith, some, many)) ∙ ap (λ y. Some y) (sym c.index.ensures) in
     let reply = ((o.fresh 0 x here).going c.args.bound).equipped.buffers.reply in
-    let most : c.len-most.result ≡ most_words code m = c.len-most.ensures ∙ x.local.buffers.reply.ok.0 ∙ reply in (
+    let most : c.capacity-most.result ≡ most_words code m = c.capacity-most.ensures ∙ reply in (
       c.rule.ensures.value,
       record {
         runnable = c.requires.runnable;

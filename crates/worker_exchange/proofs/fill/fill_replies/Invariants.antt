@@ -1,4 +1,4 @@
-use Rattle.std.proofs.Common.{◌≡◌, ◌≤◌, ◌*◌, ◌^◌, length, take}
+use Rattle.std.proofs.Common.{◌≡◌, ◌≤◌, ◌*◌, ◌^◌, length, take, vec_capacity}
 use Rattle.worker_exchange.specs.Rows.{words_in}
 use Rattle.worker_exchange.specs.Sends.{words_of, reply_message}
 use Rattle.worker_exchange.proofs.RowLemmas.{AreFilled}
@@ -10,7 +10,7 @@ invariant-workers g l = record {
   words : l.sent ≡ words_in (take l.j (g.W.Row.filled l.row));
   fits : l.sent ≤ l.j * 2 ^ 32;
   long : length (g.W.Row.filled l.row) ≡ length l.asked;
-  reply : length l.reply ≡ length l.fn.reply;
+  reply : vec_capacity l.reply ≡ vec_capacity l.fn.reply;
   room : g.W.Row.room l.row ≡ g.W.Row.room l.fn.row;
   kept : g.W.Row.kept l.fn.row l.row;
 }

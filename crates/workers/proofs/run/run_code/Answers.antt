@@ -54,7 +54,7 @@ new-requires-2-clause-room g c =
     let many = c.in_ok-opened.ensures.count in
     let here : slice_get workers 0 ≡ Some x = slice_get-get_or workers 0 x (omega (arith, few, many)) ∙ ap (λ y. Some y) (sym c.index.ensures) in
     let reply = ((c.in_ok-opened.ensures.opened 0 x here).going c.args.terms.bound).equipped.buffers.reply in
-    let most : c.len-most.result ≡ most_words code m = c.len-most.ensures ∙ x.local.buffers.reply.ok.0 ∙ reply in
+    let most : c.capacity-most.result ≡ most_words code m = c.capacity-most.ensures ∙ reply in
     let short = few_words code m c.instructions-instructions.ensures.stands (omega (arith, few, parts)) in
     omega (arith, most, short)
 
@@ -70,7 +70,7 @@ play_all-seats-requires-clause-begin g c κs within =
     let many = c.in_ok-opened.ensures.count in
     let here : slice_get workers 0 ≡ Some x = slice_get-get_or workers 0 x (omega (arith, few, many)) ∙ ap (λ y. Some y) (sym c.index.ensures) in
     let goes = (c.in_ok-opened.ensures.opened 0 x here).going c.args.terms.bound in
-    let most : c.len-most.result ≡ most_words code m = c.len-most.ensures ∙ x.local.buffers.reply.ok.0 ∙ goes.equipped.buffers.reply in
+    let most : c.capacity-most.result ≡ most_words code m = c.capacity-most.ensures ∙ goes.equipped.buffers.reply in
     let made = c.in-Ok-new.ensures in
     let same = c.set_looks.ensures in
     let seats = c.in-Ok-new.seats.items in
