@@ -61,10 +61,11 @@ fn lengthen(list: &mut Vec<u32>, count: usize)
 #[tactic(auto, using(crate::proofs::LevelLemmas::numbers_more))]
 fn numbers(alloc: Global, count: u32) -> Result<Vec<u32>, AllocError>
     ensures items { IfOk result (λ all. all.items ≡ range_with_len 0 count) }
+    ensures room { IfOk result (λ all. vec_capacity all ≡ count) }
 {
     let mut all = Vec::with_capacity(alloc, count as usize)?;
     for j in 0..count {
-        all.push(j)?;
+        all.push_reserved(j);
     }
     Ok(all)
 }
@@ -122,7 +123,7 @@ impl Level {
         requires below { (k : ℕ) → k < length list.now → slice_index list.now k < length column.now }
         ensures active { active_of self.new ≡ filter (λ i. is_nonzero (value_of column.now i)) list.now }
         ensures left { left_of self.new ≡ filter (λ i. not (is_nonzero (value_of column.now i))) list.now }
-        ensures room { (most : ℕ) → length list.now ≤ most → IsLevel most self.old → IsLevel most self.new }
+        ensures room { (most : ℕ) → IsLevel most self.old → IsLevel most self.new }
     {
         lengthen(&mut self.active, list.len());
         lengthen(&mut self.left, list.len());

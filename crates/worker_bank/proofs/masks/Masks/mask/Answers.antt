@@ -30,7 +30,6 @@ split-requires-clause-left c =
 pub returns-clause-masks : goal.returns-clause-masks
 returns-clause-masks c =
     let m = c.args.self.now in
-    let few = listed_few m c.active.result.now c.index.result.now c.active.ensures c.index.ensures c.requires.masks in
     let list = c.active.ensures ∙ read_is active_of m.levels.items m.depth c.index.result.now c.requires.masks.depth c.index.ensures in
     let test : ℕ → Bool = λ i. is_nonzero (value_of c.args.column.now i) in
     let new = c.swap.new.y in
@@ -38,7 +37,7 @@ returns-clause-masks c =
     let active : active_of new ≡ filter test c.active.result.now = ap active_of c.swap.ensures.y_after ∙ c.split.ensures.active in
     let left : left_of new ≡ filter (λ i. not (test i)) c.active.result.now = ap left_of c.swap.ensures.y_after ∙ c.split.ensures.left in
     let level : IsLevel m.most new =
-    subst (IsLevel m.most) (sym c.swap.ensures.y_after) (c.split.ensures.room m.most few c.requires.masks.spare) in
+    subst (IsLevel m.most) (sym c.swap.ensures.y_after) (c.split.ensures.room m.most c.requires.masks.spare) in
     let spare : IsLevel m.most c.swap.new.x =
     subst (IsLevel m.most) (sym (c.swap.ensures.x_after ∙ c.index_mut.ensures.value))
     (all_get (IsLevel m.most) m.levels.items (m.depth + 1) old c.requires.room c.requires.masks.levels) in
