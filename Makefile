@@ -8,7 +8,7 @@ sources := $(shell find crates -name out -prune -o \( -name '*.rt' -o -name '*.a
 all: bin/pramc
 
 bin/pramc: $(sources)
-	bash gate/build.sh
+	python3 gate/build.py command_main bin/pramc
 
 # Runs every example, every command of the documents and every row of gate/rows, and compares what they print, and what the examples' code
 # comes to.

@@ -15,8 +15,9 @@ import sys
 import time
 from pathlib import Path
 
-from build import FIGURES, TOP, chain, listed, with_those_below
+from uses import TOP, chain, listed, with_those_below
 
+FIGURES = TOP / "bench/gate-times.txt"
 MADE = TOP / "bin/gate-times.txt"
 KINDS = ("proof", "tests", "wrong bodies")
 HEAD = "# Processor seconds of the gate: a crate, its proof, its tests, its wrong bodies. gate/figures.py writes it.\n"

@@ -15,7 +15,7 @@ import sys
 import tempfile
 from pathlib import Path
 
-from build import CRATES, PARTS, TOP, listed, with_those_below
+from uses import CRATES, PARTS, TOP, listed, with_those_below
 
 FOLDERS = ("must-fail", "wrong-bodies")
 LINE = re.compile(r"(file: |old: |new:)(.*)")
