@@ -1,5 +1,5 @@
 -- What the values of the plain program stand for.
-use Rattle.std.specs.Prelude.{◌≡◌, ℕ, ◌<◌, ◌≤◌, List, map, length, reverse, Option, None, slice_index_or}
+use Rattle.std.specs.Prelude.{◌≡◌, ℕ, ◌<◌, ◌≤◌, ◌^◌, List, map, length, reverse, Option, None, slice_index_or}
 use Rattle.pram_model.specs.Layout.{total_size}
 use Rattle.write_rules.specs.declared.entry.Entry.{Entry}
 use Rattle.superstep_instructions.specs.Code.{SuperstepCode}
@@ -36,9 +36,10 @@ flat_of m = record {
   key = m.key;
 }
 
--- a machine has the processors of its range, and room for all cells
+-- a machine has the processors of its range, room for all cells, and a place for each uniform register that there can be
 pub record IsSized (code : SuperstepCode) (m : Machine) : Type 0 where
   pub processors : length m.processors.items ≡ m.uniform.width
+  pub registers : 2 ^ 16 ≤ length m.uniform.registers.items
   pub memory : total_size code.layout ≤ length m.memory.items
   pub held : length m.held.items ≡ total_size code.layout
 

@@ -1,6 +1,6 @@
 //! An instruction on registers, by all processors of the range.
 
-ghost use Rattle.std.specs.Prelude.{◌≡◌, ◌<◌, ℕ, None, OnOk, IfOk, if◌then◌else◌, length, map, pos};
+ghost use Rattle.std.specs.Prelude.{◌≡◌, ◌<◌, ◌≤◌, ◌^◌, ℕ, None, OnOk, IfOk, if◌then◌else◌, length, map, pos};
 ghost use Rattle.std.specs.List.{range_with_len};
 ghost use Rattle.pram_model.specs.Layout.{total_size};
 ghost use Rattle.pram_values.specs.Total.{total};
@@ -223,12 +223,15 @@ fn step_parts(
     processors: &mut Vec<ProcessorState>,
 ) -> Result<(), AllocError>
     requires sized { length processors.old.items ≡ u.old.width }
+    requires places { 2 ^ 16 ≤ length u.old.registers.items }
     requires room { HasRoom instr u.old.count }
     ensures uniform { OnOk result (uniform_of u.new ≡ spec.on_uniform code.now instr (uniform_of u.old)) }
+    ensures registers { OnOk result (length u.new.registers.items ≡ length u.old.registers.items) }
     ensures count { OnOk result (length processors.new.items ≡ u.new.width) }
     ensures each { OnOk result ((v : ℕ) → v < u.new.width → own_of processors.new.items v
         ≡ (if spec.renews instr then spec_fresh else spec.on_own code.now instr (uniform_of u.old) v (own_of processors.old.items v))) }
 {
+    instr.operands_fit();
     if renews(instr) {
         step_uniform(u, code, instr)?;
         *processors = fresh_processors(alloc, u.width)?;

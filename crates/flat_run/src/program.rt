@@ -19,6 +19,9 @@ use std::alloc::{AllocError, Global};
 use superstep_instructions::Code;
 use write_rules::Outcome;
 
+// So many uniform registers there can be, since each has a number of 16 bits.
+const REGISTERS: u32 = 65_536;
+
 // The memory at the beginning: the first cells have the values of the input, and the others 0.
 fn open_memory(alloc: Global, cells: u32, input: &[i64]) -> Result<Vec<i64>, AllocError>
     ensures room { IfOk result (λ memory. cells ≤ length memory.items) }
@@ -37,7 +40,7 @@ pub(crate) fn open(alloc: Global, code: &Code, bound: u32, input: &[i64]) -> Res
     let cells = code.layout().cells();
     let memory = open_memory(alloc, cells, input)?;
     let held = none_held(alloc, cells)?;
-    let uniform = open_uniform(alloc)?;
+    let uniform = open_uniform(alloc, REGISTERS)?;
     Ok(Run {
         machine: Machine {
             uniform,

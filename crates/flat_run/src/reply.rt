@@ -103,7 +103,10 @@ fn reply_processors(
 }
 
 fn reply_uniform(memory: &[i64], u: &mut UniformState)
-    ensures { uniform_of u.new ≡ spec.uniform_answered (λ k c. registers_of memory.now c) (uniform_of u.old) }
+    requires room { 2 ^ 16 ≤ length u.old.registers.items }
+    ensures value { uniform_of u.new ≡ spec.uniform_answered (λ k c. registers_of memory.now c) (uniform_of u.old) }
+    ensures width { u.new.width ≡ u.old.width }
+    ensures count { length u.new.registers.items ≡ length u.old.registers.items }
 {
     answer_uniform(memory, u.registers.as_mut_slice(), u.awaited.as_slice());
     u.awaited.clear();

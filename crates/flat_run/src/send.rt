@@ -48,7 +48,8 @@ fn settle(rule: Rule, held: &[Option<Entry>], memory: &mut Vec<i64>)
 
 // What the uniform part held is on its way.
 fn send_uniform(alloc: Global, u: &mut UniformState)
-    ensures { uniform_of u.new ≡ spec.uniform_sent (uniform_of u.old) }
+    ensures shown { uniform_of u.new ≡ spec.uniform_sent (uniform_of u.old) }
+    ensures registers { u.new.registers ≡ u.old.registers }
 {
     u.put = None;
     u.awaited = mem::replace(&mut u.asks, SmallVec::new(alloc));

@@ -1,6 +1,6 @@
 //! The uniform part, of which there is one copy.
 
-ghost use Rattle.std.specs.Prelude.{◌≤◌, ◌≤ℤ◌, ◌+ℤ◌, ◌^◌, length, pos};
+ghost use Rattle.std.specs.Prelude.{◌≤ℤ◌, ◌+ℤ◌, ◌^◌, pos};
 
 use crate::read::{Moment, Read};
 use smallvec::SmallVec;
@@ -8,7 +8,8 @@ use smallvec::SmallVec;
 /// The uniform part. The range of processors begins at the index `low`; `asks` are the reads that
 /// are held, and `awaited` those that were sent and have no answer yet: eight of each, which verified code has at most, stand in the value
 /// itself; `put` is the moment of the put that is held; an item of the output has the count at which it was printed; `reserved` says that
-/// its memory was taken in advance, so that the output doesn't grow past that. All registers that there can be have a place.
+/// its memory was taken in advance, so that the output doesn't grow past that. A register is 0 until it is set, and is set where it has a
+/// place.
 #[derive(Drop)]
 pub struct UniformState {
     pub count: u32,
@@ -22,5 +23,4 @@ pub struct UniformState {
     pub output: Vec<(u32, i64)>,
     pub reserved: bool,
     ghost fits: { (low +ℤ pos width) ≤ℤ pos (2 ^ 63) },
-    ghost all_registers: { 2 ^ 16 ≤ length registers.items },
 }

@@ -6,7 +6,7 @@ ghost use Rattle.superstep_machine.specs.Parts.{opening_part};
 ghost use Rattle.superstep_instructions.specs.declared.instr.Instr.TheVariants as instr_is;
 ghost use Rattle.superstep_instructions.specs.declared.instr.Side.TheVariants as side_is;
 ghost use Rattle.superstep_machine.specs.Steps as spec;
-ghost use Rattle.instruction_steps.specs.Views.{uniform_of, moment_is, read_is, HasRoom, KeepsReserve, IsShort};
+ghost use Rattle.instruction_steps.specs.Views.{uniform_of, moment_is, read_is, HasRoom, HasPlaces, KeepsReserve, IsShort};
 
 use crate::arithmetic::computed_on;
 use crate::range::range_width;
@@ -19,15 +19,13 @@ use smallvec::SmallVec;
 use std::alloc::{AllocError, Global};
 use superstep_instructions::{Code, Instr, Side};
 
-// So many registers there can be, since each has a number of 16 bits.
-const REGISTERS: usize = 65_536;
-
-/// The uniform part at the beginning, with all registers. The error comes where memory was refused.
-pub fn open_uniform(alloc: Global) -> Result<UniformState, AllocError>
-    ensures { IfOk result (λ u. uniform_of u ≡ opening_part) }
+/// The uniform part at the beginning, with places for so many registers. The error comes where memory was refused.
+pub fn open_uniform(alloc: Global, places: u32) -> Result<UniformState, AllocError>
+    ensures value { IfOk result (λ u. uniform_of u ≡ opening_part) }
+    ensures places { IfOk result (λ u. places ≤ length u.registers.items) }
 {
     let mut registers = Vec::new(alloc);
-    make_room(&mut registers, REGISTERS)?;
+    make_room(&mut registers, places as usize)?;
     Ok(UniformState {
         count: 0,
         line: 0,
@@ -142,6 +140,7 @@ fn ask_uniform(
     subscript: u16,
     position: u32,
 ) -> Result<(), AllocError>
+    requires place { destination < length u.old.registers.items }
     ensures after { OnOk result (uniform_of u.new ≡ spec.on_uniform code.now
         (instr_is.Ask side_is.Uniform destination entry subscript position) (uniform_of u.old)) }
     ensures reserve { OnOk result (KeepsReserve u.old u.new) }
@@ -205,6 +204,7 @@ pub(crate) fn print(u: &mut UniformState, source: u16) -> Result<(), AllocError>
 /// has no room, and a read where eight are held: nothing is said of the uniform part then.
 pub fn step_uniform(u: &mut UniformState, code: &Code, instr: Instr) -> Result<(), AllocError>
     requires room { HasRoom instr u.old.count }
+    requires places { HasPlaces (length u.old.registers.items) instr }
     ensures after { OnOk result (uniform_of u.new ≡ spec.on_uniform code.now instr (uniform_of u.old)) }
     ensures reserve { OnOk result (KeepsReserve u.old u.new) }
     ensures refused { OnErr result (IsShort instr u.old) }

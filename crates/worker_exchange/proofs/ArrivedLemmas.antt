@@ -216,7 +216,7 @@ module _ (code : SuperstepCode) (m : Shape) (bound : ℕ) (is_code : IsCode code
           few = λ h. few_held verified;
           awaited = λ h.
               awaits (setting code m bound go.enough) is_code go.runnable.map go.runnable.formed a.steps.bank.worker (stopped_at stop moved)
-              go.state (comes go.enough go.state go.is_enough go.shown) fitted.registers h;
+              go.state (comes go.enough go.state go.is_enough go.shown) fitted.registers fitted.places h;
         };
         shown = comes;
         worker = same.worker;

@@ -25,6 +25,7 @@ use Rattle.superstep_machine.specs.Answering.{own_answered, value_came}
 use Rattle.superstep_machine.specs.Fitting.{IsCellBelow}
 use Rattle.superstep_machine.specs.Run as machine
 use Rattle.superstep_machine.proofs.MachineWords.{all_map}
+use Rattle.instruction_steps.specs.declared.read.Read.{Read as HeldRead}
 use Rattle.instruction_steps.specs.Views.{read_is}
 use Rattle.bsp_verify.specs.Judging.{is_register, has_registers}
 use Rattle.bsp_verify.specs.WellFormed.{IsWellFormed}
@@ -39,20 +40,21 @@ use Rattle.worker_exchange.specs.declared.local.Local.{Local}
 use Rattle.worker_exchange.specs.Reached.{IsReached}
 use Rattle.superstep_machine.specs.Purposes.{purpose_is}
 use Rattle.worker_exchange.specs.Shown.{IsAtExchange}
-use Rattle.worker_exchange.specs.Equipped.{AwaitsAnswers}
+use Rattle.worker_exchange.specs.Equipped.{HasPlace, AwaitsAnswers}
 use Rattle.worker_exchange.proofs.ReachedLemmas.{IsPathed, ready_pathed}
 
--- the register of a private read is there
-abbrev IsReadThere : ℕ → Read → Type 0
-IsReadThere registers r = r.side ≡ Private → r.destination < registers
+-- the register of a private read is there, and the one that gets the value of a cell has its place among the uniform ones
+abbrev IsReadThere : SuperstepCode → Read → Type 0
+IsReadThere code r =
+    (r.side ≡ Private → r.destination < code.private_registers) × ((cell : ℕ) → r.cell ≡ Some cell → r.destination < code.uniform_registers)
 
 -- ---- what every instruction of the code keeps
 
 record AreSent (t : Setting) (x : Worker) : Type 0 where
-  pub held : AllByRecursion (IsReadThere t.code.private_registers) x.uniform.asks
+  pub held : AllByRecursion (IsReadThere t.code) x.uniform.asks
   pub few : length x.uniform.awaited ≤ 8
   pub below : AllByRecursion (IsReadBelow t.map.count) x.uniform.awaited
-  pub there : AllByRecursion (IsReadThere t.code.private_registers) x.uniform.awaited
+  pub there : AllByRecursion (IsReadThere t.code) x.uniform.awaited
   pub own : AllByRecursion (λ (y : PrivatePart). AllByRecursion (IsCellBelow t.map.count) y.awaited) x.own
 
 abbrev Named : SuperstepCode → Instr → Type 0
@@ -74,15 +76,16 @@ module _ (t : Setting) (formed : IsWellFormed t.code) (w : ℕ) where
   still_awaited (instrs.Print s) u = refl
   still_awaited i u = refl
 
-  held_there : (i : Instr) → Named t.code i → (u : UniformPart) → AllByRecursion (IsReadThere t.code.private_registers) u.asks →
-      AllByRecursion (IsReadThere t.code.private_registers) (on_uniform t.code i u).asks
+  held_there : (i : Instr) → Named t.code i → (u : UniformPart) → AllByRecursion (IsReadThere t.code) u.asks →
+      AllByRecursion (IsReadThere t.code) (on_uniform t.code i u).asks
   held_there (instrs.Mark line) a u h = h
   held_there (instrs.Enter r s q) a u h = h
   held_there instrs.Leave a u h = h
-  held_there (instrs.Ask Uniform d e s q) a u h = all_add (IsReadThere t.code.private_registers) u.asks _ h (λ k. cc)
+  held_there (instrs.Ask Uniform d e s q) a u h = all_add (IsReadThere t.code) u.asks _ h
+      ((λ k. cc), (λ cell e. ltb-true d t.code.uniform_registers (both (is_register t.code Uniform d) (is_register t.code Uniform s) a).0))
   held_there (instrs.Ask Private d e s q) a u h =
-      all_add (IsReadThere t.code.private_registers) u.asks _ h
-      (λ k. ltb-true d t.code.private_registers (both (is_register t.code Private d) (is_register t.code Private s) a).0)
+      all_add (IsReadThere t.code) u.asks _ h
+      ((λ k. ltb-true d t.code.private_registers (both (is_register t.code Private d) (is_register t.code Private s) a).0), (λ cell e. cc))
   held_there (instrs.Put side e s v q) a u h = h
   held_there (instrs.Print s) a u h = h
   held_there i a u h = h
@@ -119,7 +122,7 @@ module _ (t : Setting) (formed : IsWellFormed t.code) (w : ℕ) where
     held = held_there i a x.uniform h.held;
     few = subst (λ (rs : List Read). length rs ≤ 8) (sym (still_awaited i x.uniform)) h.few;
     below = subst (AllByRecursion (IsReadBelow t.map.count)) (sym (still_awaited i x.uniform)) h.below;
-    there = subst (AllByRecursion (IsReadThere t.code.private_registers)) (sym (still_awaited i x.uniform)) h.there;
+    there = subst (AllByRecursion (IsReadThere t.code)) (sym (still_awaited i x.uniform)) h.there;
     own = own;
   }
 
@@ -203,7 +206,7 @@ three P Q R S f (x ∷ xs) p q r = (f x p.0 q.0 r.0, three P Q R S f xs p.1 q.1 
 
 module _ (t : Setting) (code : IsCode t.code) (room : IsMapFor t.code t.map) (formed : IsWellFormed t.code) (w : ℕ) (x : Local)
     (s : machine.State) (at : IsAtExchange t w x s) (registers : length x.steps.bank.columns.items ≡ t.code.private_registers)
-    (reply : x.purpose ≡ purposes.Reply) where
+    (places : t.code.uniform_registers ≤ length x.steps.uniform.registers.items) (reply : x.purpose ≡ purposes.Reply) where
   abbrev y : Worker
   y = (machine.ready t w s).state.worker
 
@@ -229,19 +232,27 @@ module _ (t : Setting) (code : IsCode t.code) (room : IsMapFor t.code t.map) (fo
       let own = pathed.describes.processors ∙ ap (λ n. length (processors t w n)) none in
       let many = many_is in omega (arith, own, many)
 
+  places_there : (reads : List HeldRead) → AllByRecursion (λ (r : HeldRead). IsReadThere t.code (read_is r)) reads →
+      AllByRecursion (HasPlace (length x.steps.uniform.registers.items)) reads
+  places_there [] h = tt
+  places_there (r ∷ reads) h = ((λ cell e. (let l = h.0.1 cell e in omega (arith, l, places))), places_there reads h.1)
+
+  there_all : AllByRecursion (λ (r : HeldRead). IsReadThere t.code (read_is r)) x.steps.uniform.awaited.items
+  there_all = all_shown (IsReadThere t.code) read_is _ (subst (AllByRecursion (IsReadThere t.code)) awaited_is sent.there)
+
   pub awaits : AwaitsAnswers t.map x
   awaits = record {
     few = (let h = sent.few in let e = ap length awaited_is in let n = length-map x.steps.uniform.awaited.items read_is in
         omega (arith, h, e, n));
+    places = places_there x.steps.uniform.awaited.items there_all;
     reads = three _ _ _ _
         (λ r below there side. record {
           cell = below.cell;
-          register = λ e. subst (λ n. r.destination < n) (sym registers) (there e);
+          register = λ e. subst (λ n. r.destination < n) (sym registers) (there.0 e);
           alone = λ e. alone pathed.state.entered refl (sym side ∙ e);
         }) x.steps.uniform.awaited.items
         (all_shown (IsReadBelow t.map.count) read_is _ (subst (AllByRecursion (IsReadBelow t.map.count)) awaited_is sent.below))
-        (all_shown (IsReadThere t.code.private_registers) read_is _
-        (subst (AllByRecursion (IsReadThere t.code.private_registers)) awaited_is sent.there))
+        there_all
         (all_shown (λ (r : Read). r.side ≡ side_of pathed.state.entered) read_is _
         (subst (AllByRecursion (λ (r : Read). r.side ≡ side_of pathed.state.entered)) awaited_is pathed.describes.awaited_side));
     own = λ j l. all_numbers (λ (p : PrivatePart). AllByRecursion (IsCellBelow t.map.count) p.awaited) (part_in x.steps)

@@ -45,6 +45,7 @@ module _ (code : SuperstepCode) (x y : WorkerState) (noted : Option Key) (sent :
     bank = subst IsBank (sym sent.bank) f.bank;
     worker = subst (λ (b : Bank). b.worker < b.workers) (sym sent.bank) f.worker;
     registers = ap (λ (b : Bank). length b.columns.items) sent.bank ∙ f.registers;
+    places = subst (λ n. code.uniform_registers ≤ n) (sym sent.uniform.reserve.registers) f.places;
     masks = subst (λ (b : Bank). 64 < length b.masks.levels.items) (sym sent.bank) f.masks;
     range = λ t e.
         subst (λ (b : Bank). processors t b.worker y.uniform.width ≡ numbers_in b) (sym sent.bank)

@@ -202,7 +202,7 @@ module _ (b : Local) (z : Buffers) where
     stands = h.stands;
     goes = h.goes;
     few = h.few;
-    awaited = λ e. let q = h.awaited e in record { few = q.few; reads = q.reads; own = q.own };
+    awaited = λ e. let q = h.awaited e in record { few = q.few; places = q.places; reads = q.reads; own = q.own };
   }
 
 -- ---- marks

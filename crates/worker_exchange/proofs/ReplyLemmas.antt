@@ -168,11 +168,12 @@ module _ (code : SuperstepCode) (x y : WorkerState) (held : List HeldAsk) (done 
   fitted_replied f =
       subst (IsFitted code) (sym done.rest)
       (let g = fitted_same code x y.uniform y.bank x.key f done.bank done.same (ap (λ (m : Masks). m.many) done.masks) done.part.width
-      (ap (λ (v : SmallVec HeldRead). length v.items) done.part.asks) in
+      (ap (λ (v : SmallVec HeldRead). length v.items) done.part.asks) done.part.reserve.registers in
       record {
         bank = g.bank;
         worker = g.worker;
         registers = g.registers;
+        places = g.places;
         masks = g.masks;
         range = g.range;
         numbers = g.numbers;

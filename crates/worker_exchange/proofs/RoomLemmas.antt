@@ -43,6 +43,7 @@ module _ (code : SuperstepCode) (y : WorkerState) (u : UniformState) (same : IsR
     bank = f.bank;
     worker = f.worker;
     registers = f.registers;
+    places = subst (λ n. code.uniform_registers ≤ n) (sym same.registers) f.places;
     masks = f.masks;
     range = λ t e. ap (processors t y.bank.worker) same.width ∙ f.range t e;
     numbers = λ j l. subst (λ n. number_of y.bank j < n) (sym same.width) (f.numbers j l);

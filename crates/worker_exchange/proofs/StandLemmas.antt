@@ -1,9 +1,11 @@
 -- A worker that has taken what came stands behind the exchange.
-use Rattle.std.proofs.Common.{◌≡◌, ℕ, ◌+◌, ◌-◌, ◌<◌, List, Bool, true, false, Option, Some, None, refl, sym, ap, subst, ◌∙◌, arith}
+use Rattle.std.proofs.Common.{◌≡◌, ℕ, ◌+◌, ◌-◌, ◌<◌, List, length, Bool, true, false, Option, Some, None, refl, sym, ap, subst, ◌∙◌, arith}
 use Rattle.std.specs.Prelude.{slice_get}
 use Rattle.std.specs.Option.{is_some}
+use Rattle.std.proofs.lemmas.Bool.{ltb-true}
 use Rattle.std.proofs.lemmas.Option.{slice_get_within}
 use Rattle.address_map.specs.Lawful.{Shape}
+use Rattle.superstep_instructions.specs.declared.instr.Instr.TheVariants.{Vote}
 use Rattle.superstep_instructions.specs.Code.{SuperstepCode}
 use Rattle.superstep_machine.specs.declared.key.Key.{Key}
 use Rattle.superstep_machine.specs.declared.mark.HeaderMark.TheVariants.{Clear}
@@ -21,7 +23,8 @@ use Rattle.bsp_verify.proofs.RunLemmas.{decided_same}
 use Rattle.worker_steps.specs.declared.worker.WorkerState.{WorkerState}
 use Rattle.worker_steps.specs.Met.{IsVerifiedAt}
 use Rattle.worker_steps.specs.Stretch.{rank_of, rank}
-use Rattle.worker_steps.proofs.StretchLemmas.{rank_on, rises_there}
+use Rattle.worker_steps.proofs.FittedLemmas.{fitted_at}
+use Rattle.worker_steps.proofs.StretchLemmas.{met_there, rank_on, rises_there}
 use Rattle.worker_exchange.specs.Rows.{WrittenMessage}
 use Rattle.superstep_machine.specs.declared.purpose.Purpose.{Purpose}
 use Rattle.superstep_machine.specs.declared.purpose.Purpose.TheVariants as purposes
@@ -99,6 +102,23 @@ fewer_by purpose u key (ways.Stopped m) new goes d going before later falls = ab
 
 -- ---- the place
 
+-- a vote is for a run that goes on
+votes_on : (way : Way) (d : ℕ) → GoesWith way (purposes.Vote d) → way ≡ ways.On
+votes_on ways.On d h = refl
+votes_on (ways.Ending ended) d h = absurd h
+votes_on (ways.Past k ended) d h = absurd h
+votes_on (ways.Stopped mark) d h = absurd h
+
+-- the register of a vote has its place
+pub vote_placed : (code : SuperstepCode) (m : Shape) (bound : ℕ) (x : Local) (d : ℕ) → IsWellFormed code → IsAtStep code m bound x →
+    x.purpose ≡ purposes.Vote d → d < length x.steps.uniform.registers.items
+vote_placed code m bound x d formed at e =
+    let on = votes_on x.way d (subst (GoesWith x.way) e at.goes) in
+    let met = met_there code x.steps (Vote d) formed (at.verified on) (at.stands on ∙ ap (λ p. Some (instr_of p)) e) in
+    let low = ltb-true d code.uniform_registers met.allowed.registers in
+    let places = at.equipped.fitted.places in
+    omega (arith, low, places)
+
 leads_on : (purpose : Purpose) → GoesWith ways.On purpose → (p : ℕ) → Leads (instr_of purpose) p (p + 1)
 leads_on purposes.Send goes p = refl
 leads_on purposes.Reply goes p = refl
@@ -127,21 +147,7 @@ placed a p way = record a { steps = record a.steps { place = p }; way = way }
 equipped_placed : (code : SuperstepCode) (m : Shape) (a : Local) (p : ℕ) (way : Way) → IsEquipped code m a →
     IsEquipped code m (placed a p way)
 equipped_placed code m a p way e = record {
-  fitted = (let f = e.fitted in record {
-    bank = f.bank;
-    worker = f.worker;
-    registers = f.registers;
-    masks = f.masks;
-    range = f.range;
-    numbers = f.numbers;
-    room = f.room;
-    asked = f.asked;
-    awaited = f.awaited;
-    written = f.written;
-    puts = f.puts;
-    asks = f.asks;
-    held = f.held;
-  });
+  fitted = fitted_at code a.steps p e.fitted;
   workers = e.workers;
   sent = e.sent;
   cells = e.cells;

@@ -88,9 +88,15 @@ pub record IsAwaited (cells registers many : ℕ) (r : Read) : Type 0 where
   pub register : r.side ≡ Private → r.destination < registers
   pub alone : r.side ≡ Uniform → many ≡ 0
 
--- At most eight reads await an answer, and the cells that the processors asked for are of the map.
+-- a register that gets the value of a cell is among the first n
+abbrev pub HasPlace : ℕ → Read → Type 0
+HasPlace n r = (cell : ℕ) → r.cell ≡ Some cell → r.destination < n
+
+-- At most eight reads await an answer, the uniform registers that get one have a place, and the cells that the processors asked for are of
+-- the map.
 pub record AwaitsAnswers (m : Shape) (x : Local) : Type 0 where
   pub few : length x.steps.uniform.awaited.items ≤ 8
+  pub places : AllByRecursion (HasPlace (length x.steps.uniform.registers.items)) x.steps.uniform.awaited.items
   pub reads : AllByRecursion (IsAwaited m.count (length x.steps.bank.columns.items) x.steps.bank.masks.many) x.steps.uniform.awaited.items
   pub own : (j : ℕ) → j < x.steps.bank.masks.many →
       AllByRecursion (IsCellBelow m.count) (cells_at (length x.steps.uniform.awaited.items) x.steps.awaited.items j)

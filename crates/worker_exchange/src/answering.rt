@@ -12,7 +12,7 @@ ghost use Rattle.worker_bank.specs.Bank.{registers_at, IsBank, IsSameBank};
 ghost use Rattle.worker_bank.specs.Cells.{cell_in};
 ghost use Rattle.worker_steps.specs.Shown.{cells_at};
 ghost use Rattle.worker_steps.specs.Fitted.{AreColumns};
-ghost use Rattle.worker_exchange.specs.Equipped.{IsAwaited};
+ghost use Rattle.worker_exchange.specs.Equipped.{HasPlace, IsAwaited};
 ghost use Rattle.worker_exchange.specs.Answered.{Gives, IsAnsweredPart, IsAnswered};
 
 use combining::Asks;
@@ -25,7 +25,7 @@ use worker_steps::WorkerState;
 fn answer_uniform(sent: &Asks, awaited: &[Read], registers: &mut [i64])
     requires few { length awaited.now ≤ 8 }
     requires cells { AllByRecursion (λ r. IsCellBelow (2 ^ 20) r.cell) awaited.now }
-    requires room { 2 ^ 16 ≤ length registers.old }
+    requires places { AllByRecursion (HasPlace (length registers.old)) awaited.now }
     ensures answered { (value : ℕ → ℕ → ℤ) → Gives sent.now.held value → registers_of registers.new
         ≡ answers value 0 (each (λ (x : SpecRead). (x.destination, x.cell)) (each read_is awaited.now)) (registers_of registers.old) }
     ensures count { length registers.new ≡ length registers.old }
@@ -141,6 +141,7 @@ fn answer_own(
 fn answer_part(sent: &Asks, u: &mut UniformState)
     requires few { length u.old.awaited.items ≤ 8 }
     requires cells { AllByRecursion (λ r. IsCellBelow (2 ^ 20) r.cell) u.old.awaited.items }
+    requires places { AllByRecursion (HasPlace (length u.old.registers.items)) u.old.awaited.items }
     ensures { IsAnsweredPart sent.now.held u.old u.new }
 {
     answer_uniform(sent, u.awaited.as_slice(), u.registers.as_mut_slice());
@@ -151,6 +152,7 @@ fn answer_part(sent: &Asks, u: &mut UniformState)
 pub(crate) fn answer_worker(steps: &mut WorkerState, sent: &Asks, values: &mut Vec<i64>)
     requires bank { IsBank steps.old.bank }
     requires few { length steps.old.uniform.awaited.items ≤ 8 }
+    requires places { AllByRecursion (HasPlace (length steps.old.uniform.registers.items)) steps.old.uniform.awaited.items }
     requires columns { AreColumns steps.old.bank.masks.most steps.old.awaited.items }
     requires reads { AllByRecursion (IsAwaited (2 ^ 20) (length steps.old.bank.columns.items) steps.old.bank.masks.many)
         steps.old.uniform.awaited.items }

@@ -176,7 +176,14 @@ fn open<M: AddressMap>(
     let workers = map.modules();
     let most = (code.procs() + (workers - 1)) / workers;
     let words = (words_for_each(code.rule()) * most) as usize;
-    let steps = WorkerState::new(alloc, code.private_registers(), most, worker, workers)?;
+    let steps = WorkerState::new(
+        alloc,
+        code.uniform_registers(),
+        code.private_registers(),
+        most,
+        worker,
+        workers,
+    )?;
     let cells = opening_cells(alloc, map, worker, input)?;
     let sent = Asks::with_room(alloc, 8 * (most as usize + 1))?;
     let room = room_for_exchange(alloc, workers, words, most as usize)?;

@@ -1,6 +1,6 @@
 //! What came in a vote.
 
-ghost use Rattle.std.specs.Prelude.{◌≡◌, ◌≤◌, ◌+◌, ◌^◌, ℕ, List, Some, length, slice_get};
+ghost use Rattle.std.specs.Prelude.{◌≡◌, ◌<◌, ◌+◌, ℕ, List, Some, length, slice_get};
 ghost use Rattle.std.specs.List.{list_any};
 ghost use Rattle.address_map.specs.Lawful.{Shape};
 ghost use Rattle.superstep_instructions.specs.declared.instr.Instr.TheVariants as instr_is;
@@ -20,6 +20,7 @@ use pram_values::truth;
 
 /// What came in a vote: the register gets 1 if any worker has an active processor, else 0.
 pub fn take_vote(local: &mut Local, destination: u16, active: bool)
+    requires place { destination < length local.old.steps.uniform.registers.items }
     ensures shows { (t : Setting) (w : ℕ) (y : Worker) (messages : List Message) → list_any (λ (m : Message). m.active) messages ≡ active →
         ShowsWorker t w local.old y → ShowsWorker t w local.new (after_vote destination y messages) }
     ensures equipped { (code : SuperstepCode) (m : Shape) → IsEquipped code m local.old → IsEquipped code m local.new }

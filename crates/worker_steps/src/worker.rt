@@ -43,11 +43,12 @@ fn columns(alloc: Global, most: usize) -> Result<Vec<Vec<Option<u32>>>, AllocErr
 }
 
 impl WorkerState {
-    /// One of the workers before the first instruction, with all uniform registers, and room for so many private ones and for so many
+    /// One of the workers before the first instruction, with so many uniform registers, and room for so many private ones and for so many
     /// processors. The error comes where memory was refused.
     pub fn new(
         alloc: Global,
-        registers: u32,
+        uniform_registers: u32,
+        private_registers: u32,
         most: u32,
         worker: u32,
         workers: u32,
@@ -58,19 +59,20 @@ impl WorkerState {
         ensures worker { IfOk result (λ x. (x.bank.worker ≡ worker) × (x.bank.workers ≡ workers)) }
         ensures most { IfOk result (λ x. x.bank.masks.most ≡ most) }
         ensures place { IfOk result (λ x. x.place ≡ 0) }
-        ensures fitted { IfOk result (λ x. (code : SuperstepCode) → code.private_registers ≡ registers →
+        ensures fitted { IfOk result (λ x. (code : SuperstepCode) → code.uniform_registers ≡ uniform_registers →
+            code.private_registers ≡ private_registers →
             ((t : Setting) → workers_of t ≡ workers → length (processors t worker code.procs) ≤ most) → IsFitted code x) }
         ensures verified { IfOk result (λ x. (code : SuperstepCode) → IsVerifiedAt code x) }
         ensures shows { IfOk result (λ x. (rule : Rule) (cells : List ℤ) → Shows rule x (record no_worker { cells = cells })) }
     {
-        let bank = Bank::new(alloc, registers, most, 64, worker, workers)?;
+        let bank = Bank::new(alloc, private_registers, most, 64, worker, workers)?;
         let count = most as usize;
         let asked = columns(alloc, count)?;
         let awaited = columns(alloc, count)?;
         let written = vec![in alloc; None; count]?;
         let asks = Asks::with_room(alloc, 8 * (count + 1))?;
         let puts = Puts::with_room(alloc, count + 1)?;
-        let uniform = open_uniform(alloc)?;
+        let uniform = open_uniform(alloc, uniform_registers)?;
         Ok(WorkerState {
             uniform,
             bank,

@@ -2,8 +2,8 @@ use Rattle.std.proofs.Common.{◌∙◌, None, map, ap, pos}
 use Rattle.instruction_steps.specs.Views.{registers_of, read_is}
 use Rattle.instruction_steps.proofs.uniform_step.open_uniform.Goals as goal
 
-pub returns : goal.returns
-returns c =
+pub returns-clause-value : goal.returns-clause-value
+returns-clause-value c =
     let none = c.in_ok-make_room.ensures.same ∙ ap registers_of c.new-registers.ensures.items in
     λ i. record {
       count = 0;

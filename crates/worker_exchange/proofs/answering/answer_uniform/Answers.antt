@@ -1,10 +1,11 @@
-use Rattle.std.proofs.Common.{sym, ap, ◌∙◌, ◌+◌, ◌^◌, arith, rules, get_or, FitsSigned}
+use Rattle.std.proofs.Common.{sym, ap, ◌∙◌, ◌+◌, ◌^◌, arith, rules, get_or, length, FitsSigned}
 use Rattle.std.specs.Int.{w64}
 use Rattle.std.proofs.lemmas.Int.{to_z-of_z}
 use Rattle.superstep_machine.specs.Parts.{set_register}
 use Rattle.superstep_machine.specs.Fitting.{IsCellBelow}
 use Rattle.instruction_steps.specs.Views.{registers_of}
 use Rattle.instruction_steps.specs.declared.read.Read.{Read}
+use Rattle.worker_exchange.specs.Equipped.{HasPlace}
 use Rattle.worker_exchange.proofs.AnswerLemmas.{no_read, uniform_left, uniform_goes, uniform_ends, came_there, none_there}
 use Rattle.worker_exchange.proofs.AnswerLemmas.{each_of, cell_small}
 use Rattle.worker_exchange.proofs.answering.answer_uniform.Goals.{in-Some, in_default}
@@ -48,3 +49,11 @@ returns-clause-answered c = λ value gives.
     let off = c.reads-test.false in
     sym (uniform_ends value c.args.awaited.now c.reads.k (registers_of c.reads.registers) (omega (arith, off)))
     ∙ c.reads.invariant.answered value gives
+
+pub put_number-requires : goal.put_number-requires
+put_number-requires c =
+    let reads = c.args.awaited.now in
+    let place = each_of (HasPlace (length c.args.registers.now)) reads c.requires.places c.reads.k no_read c.reads-test.true
+    c.in-Some.cell c.in-Some.is in
+    let count = c.reads.invariant.count in
+    omega (arith, place, count)

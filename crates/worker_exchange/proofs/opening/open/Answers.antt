@@ -56,7 +56,7 @@ returns-clause-going g c = λ bound runnable.
     * ((c.procs.ensures.value i + (c.modules-workers.ensures i - 1)) / c.modules-workers.ensures i) in
     let low = c.requires.worker in
     let equipped : IsEquipped code m x = record {
-      fitted = c.in_ok-steps.ensures.fitted code (sym c.private_registers.ensures.value) (λ t q.
+      fitted = c.in_ok-steps.ensures.fitted code (sym c.uniform_registers.ensures.value) (sym c.private_registers.ensures.value) (λ t q.
           let n : workers t ≡ m.parts = q ∙ c.modules-workers.ensures in
           let h = few_processors (record t { code = code }) c.args.worker code.procs (omega (arith, low, n)) (omega arith) in
           subst (λ (s : ℕ × ℕ). length (processors t c.args.worker code.procs) ≤ (s.0 + (s.1 - 1)) / s.1)

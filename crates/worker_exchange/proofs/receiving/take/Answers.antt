@@ -7,6 +7,7 @@ use Rattle.worker_exchange.specs.Shown.{ShowsWorker}
 use Rattle.worker_exchange.specs.Received.{messages_to}
 use Rattle.worker_exchange.proofs.TakeLemmas.{asks_sent, asks_below}
 use Rattle.worker_exchange.proofs.HeardLemmas.{votes_heard}
+use Rattle.worker_exchange.proofs.StandLemmas.{vote_placed}
 use Rattle.worker_exchange.proofs.receiving.take.Goals as goal
 
 pub returns-in-Send-clause-shows : goal.returns-in-Send-clause-shows
@@ -64,3 +65,9 @@ returns-in-Vote-clause-shows g c = λ n s enough here.
     (after_exchange t w (purpose_is purpose) y (messages_to code.rule m w (purpose_is purpose) came))) (sym c.in-Vote.is)
     (c.take_vote.ensures.shows t w y (messages_to code.rule m w (Votes d) came)
     (votes_heard code.rule m w (Votes d) came ∙ sym c.requires.active) here.worker)
+
+pub take_vote-requires : goal.take_vote-requires
+take_vote-requires g c = record {
+  place = vote_placed c.args.code.now (g.M.AddressMap.shape c.args.map.now) c.args.bound c.args.local.now c.in-Vote.destination
+      c.requires.runnable.formed c.requires.at c.in-Vote.is;
+}

@@ -79,5 +79,5 @@ returns-else-is_past-clause-at g c = λ states told w b.
       sent = λ h. e.sent;
       counted = λ h n low. b.counted alive n low;
       items = λ h. record { none = (b.items alive).none; room = (let room = had.1 in omega (arith, few, room)) };
-      reserved = λ h r some. (let q = b.reserved alive r some in (e.reserve h r.items q.0, q.1, q.2));
+      reserved = λ h r some. (let q = b.reserved alive r some in ((e.reserve h).items r.items q.0, q.1, q.2));
     }

@@ -49,7 +49,7 @@ returns-clause-behind g c = λ states told w row at.
             room = (let room = had.room in let same = ap (λ (v : _). length v.items) e.output in omega (arith, room, same));
           };
       reserved = λ h r some. (let had = at.reserved (alive h) r some in let room = had.2 in let same = c.count.ensures.room in (
-        e.reserve r.items had.0,
+        e.reserve.items r.items had.0,
         had.1,
         omega (arith, room, same),
       ));

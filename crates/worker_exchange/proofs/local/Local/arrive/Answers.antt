@@ -1,4 +1,5 @@
 use Rattle.std.proofs.lemmas.Result.{on_err_weaker}
+use Rattle.instruction_steps.proofs.ReserveLemmas.{keeps_itself}
 use Rattle.worker_exchange.proofs.ArrivedLemmas.{ended}
 use Rattle.worker_exchange.proofs.PastLemmas.{comes_past}
 use Rattle.worker_exchange.proofs.local.Local.arrive.Goals as goal
@@ -11,6 +12,6 @@ returns-in-On-clause-refused g c = on_err_weaker c.go_on.result (λ past items h
 pub returns-in_default : goal.returns-in_default
 returns-in_default g c = record {
   arrived = ended c.args.code.now (g.M.AddressMap.shape c.args.map.now) c.args.bound c.args.self.now c.requires.going c.in_default.not-On;
-  reserve = λ items h. h;
+  reserve = keeps_itself c.args.self.now.steps.uniform;
   refused = tt;
 }

@@ -13,6 +13,7 @@ use Rattle.worker_bank.proofs.LevelLemmas.{all_get}
 use Rattle.combining.specs.Adding.{by_read, asked_after}
 use Rattle.worker_steps.specs.Held.{cells_of}
 use Rattle.worker_steps.specs.Done.{IsDone}
+use Rattle.worker_steps.proofs.KindLemmas.{uniform_places}
 use Rattle.worker_steps.proofs.AskDone.{few_reads, own_cell_small, done_ask_private}
 use Rattle.worker_steps.proofs.worker.WorkerState.ask_private.Goals as goal
 use Rattle.worker_steps.proofs.worker.WorkerState.ask_private.Goals.{After-as_slice}
@@ -78,3 +79,9 @@ returns-clause-done c =
     (c.hold_asks.ensures.held ∙ ap (λ n. asked_after (by_read n (cells_of c.as_slice.result.now c.ask-fault.new.self.masks.many)) a.asks.held) e
     ∙ ap (λ xs. asked_after (by_read (length a.uniform.asks.items) (cells_of xs c.ask-fault.new.self.masks.many)) a.asks.held) column)
     c.hold_asks.ensures.few c.hold_asks.ensures.room c.in_ok-step_uniform.ensures.reserve)
+
+pub step_uniform-requires-clause-places : goal.step_uniform-requires-clause-places
+step_uniform-requires-clause-places c =
+    uniform_places c.args.code.now (length c.args.self.now.uniform.registers.items)
+    (Ask Private c.args.destination c.args.entry c.args.subscript c.args.position)
+    c.requires.fitted.places c.requires.met.allowed.registers

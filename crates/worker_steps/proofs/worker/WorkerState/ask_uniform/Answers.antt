@@ -3,9 +3,11 @@ use Rattle.std.proofs.Common.{rules, w64, to_z, of_z, FitsSigned}
 use Rattle.std.proofs.lemmas.Int.{to_z-of_z}
 use Rattle.pram_model.specs.Layout.{cell_of}
 use Rattle.superstep_instructions.specs.declared.instr.Side.TheVariants.{Uniform}
+use Rattle.superstep_instructions.specs.declared.instr.Instr.TheVariants.{Ask}
 use Rattle.superstep_machine.specs.Keys.{least}
 use Rattle.instruction_steps.specs.Views.{registers_of}
 use Rattle.combining.specs.Adding.{by_read, asked_after}
+use Rattle.worker_steps.proofs.KindLemmas.{uniform_places}
 use Rattle.worker_steps.proofs.AskDone.{room_left, few_reads, cell_small, done_ask_uniform}
 use Rattle.worker_steps.proofs.worker.WorkerState.ask_uniform.Goals as goal
 
@@ -38,3 +40,9 @@ returns-clause-done c =
     (c.hold_ask.ensures.held ∙ ap (λ n. asked_after (by_read n (c.cell-cell.result ∷ [])) a.asks.held) e
     ∙ ap (λ x. asked_after (by_read (length a.uniform.asks.items) (x ∷ [])) a.asks.held) cell)
     c.hold_ask.ensures.few c.hold_ask.ensures.room c.in_ok-step_uniform.ensures.reserve
+
+pub step_uniform-requires-clause-places : goal.step_uniform-requires-clause-places
+step_uniform-requires-clause-places c =
+    uniform_places c.args.code.now (length c.args.self.now.uniform.registers.items)
+    (Ask Uniform c.args.destination c.args.entry c.args.subscript c.args.position)
+    c.requires.fitted.places c.requires.met.allowed.registers

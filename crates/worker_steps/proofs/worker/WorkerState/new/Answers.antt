@@ -8,7 +8,7 @@ use Rattle.worker_steps.proofs.worker.WorkerState.new.Goals as goal
 
 pub returns-clause-verified : goal.returns-clause-verified
 returns-clause-verified c = λ code.
-    let e = c.in_ok-uniform.ensures in
+    let e = c.in_ok-uniform.ensures.value in
     let width : c.in_ok-uniform.uniform.width ≡ 0 = ap (λ (u : UniformPart). u.width) e in
     let asks : length c.in_ok-uniform.uniform.asks.items ≡ 0 = simp length-map at (ap (λ (u : UniformPart). length u.asks) e) in
     let awaited : length c.in_ok-uniform.uniform.awaited.items ≡ 0 =
