@@ -1,4 +1,5 @@
-use Rattle.std.proofs.Common.{◌<◌, ◌+◌, drop, map, subst}
+use Rattle.std.proofs.Common.{◌<◌, ◌+◌, ◌++◌, ◌∙◌, ap, append-nil, arith, drop, map, subst, sym}
+use Rattle.std.proofs.lemmas.List.{drop_all}
 use Rattle.serde_json.specs.View.{view}
 use Rattle.json_texts.proofs.DeclarationFacts.{chosen_memory, memory_at, some_more}
 use Rattle.json_texts.proofs.memory.memory_of.Goals as goal
@@ -14,3 +15,13 @@ loop-i-preserved c =
     c.parted.ensures.first c.parted.ensures.others in
     some_more all _ left (map view c.loop-i.list.items) (map view c.push_if_chosen.new.list.items) _ c.loop-i.invariant at
     c.in_ok-push_if_chosen.ensures
+
+pub returns : goal.returns
+returns c =
+    let now = map view c.loop-i.list.items in
+    let count = c.len-i-end.ensures in
+    let off = c.loop-i-test.false in
+    sym (c.loop-i.invariant
+    ∙ ap (λ es. now ++ chosen_memory c.args.choice es c.loop-i.rest.now)
+    (drop_all c.loop-i.i c.args.layout.now (omega (arith, off, count)))
+    ∙ append-nil now)
