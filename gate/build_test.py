@@ -11,7 +11,8 @@ import time
 from pathlib import Path
 
 TOP = Path(__file__).resolve().parent.parent
-# The stand-in: it takes the crates as they stand in crates.txt. One whose text has a word is not proved, one of 60 seconds is begun and told.
+# The stand-in: it takes the crates as they stand in crates.txt, each for the seconds of its text. One of 0 is kept, and one whose text goes on
+# behind its seconds is not proved.
 RT = """#!/usr/bin/env python3
 import pathlib, subprocess, sys
 assert sys.argv[1:] == ["ci"] and pathlib.Path(".git").is_dir() and pathlib.Path("HANDLES").exists()
