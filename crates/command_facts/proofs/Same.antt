@@ -131,7 +131,7 @@ module _ (now before : List ℕ → Option (List ℕ) → Type 0) (same : IsSame
   stops_before layout words h (inl stops) = inl stops
   stops_before layout words h (inr stops) = inr (opening_stops layout words.opening h stops)
 
-  stops_behind : (program : Checked) (words : RunWords) (h : Halted) →
+  pub stops_behind : (program : Checked) (words : RunWords) (h : Halted) →
       IsForeignTo program.tree words h.stop h.about ⊎ StopsBefore now program.layout words h →
       IsForeignTo program.tree words h.stop h.about ⊎ StopsBefore before program.layout words h
   stops_behind program words h (inl foreign) = inl foreign

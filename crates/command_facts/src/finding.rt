@@ -4,7 +4,15 @@ ghost use Rattle.std.specs.Prelude.{◌≡◌, ◌⊎◌, IfOk, IfErr};
 ghost use Rattle.system_files.specs.Files.{IsSame};
 ghost use Rattle.command_facts.specs.Calls.{Finds, FindsOf, IsCodeOfFile, Refuses, RefusesOf};
 ghost use Rattle.command_facts.specs.Found.{AreNamed, AreThere, IsCodeFound, IsComparisonFound, IsLoaded, IsOpening, IsRunFound, IsStepsFound};
-ghost use Rattle.command_facts.specs.Refused.{IsForeignTo, IsUnknownIn, RefusesCodeRun, RefusesRun, StopsAtCode, StopsBehindProgram};
+ghost use Rattle.command_facts.specs.Refused.{
+  IsForeignTo,
+  IsUnknownIn,
+  RefusesCodeRun,
+  RefusesRun,
+  StopsAtCode,
+  StopsBefore,
+  StopsBehindProgram,
+};
 ghost use Rattle.command_facts.specs.Held.{StopsAtProgram};
 
 use crate::exploring::find_scope;
@@ -22,6 +30,7 @@ use call_progress::Watch;
 use command_requests::{ProgramFile, Request, RunWords, Verb};
 use diagnoses::Halted;
 use memory_texts::unknown_name;
+use pram_check::Program;
 use pram_trees::{Layout, Tree};
 use program_runs::{compile_program, outcome_of_code};
 use program_texts::{Refusal, Stop};
@@ -55,6 +64,25 @@ fn check_told<'a>(tree: &Tree, words: RunWords<'a>) -> Result<(), Halted<'a>>
     }
 }
 
+// What the first cells of a program hold before the first statement, where the words name nothing that it doesn't have.
+fn opening_of<'a, S: Sources>(
+    alloc: Global,
+    program: &Program,
+    words: RunWords<'a>,
+    sources: &mut S,
+) -> Result<Vec<i64>, Halted<'a>>
+    ensures there { IfOk result (λ _. AreThere program.now.layout words.entry) }
+    ensures named { IfOk result (λ _. AreNamed program.now.tree words.entry) }
+    ensures input { IfOk result (λ input. IsOpening (S.Sources.holds sources.old) program.now.layout words.entry.opening input.items) }
+    ensures refused { IfErr result (λ h. IsForeignTo program.now.tree words.entry h.stop h.about
+        ⊎ StopsBefore (S.Sources.holds sources.old) program.now.layout words.entry h) }
+    ensures same { IsSame (S.Sources.holds sources.new) (S.Sources.holds sources.old) }
+{
+    check_names(program.layout(), words)?;
+    check_told(program.tree(), words)?;
+    load_opening(alloc, sources, words.opening, program.layout())
+}
+
 // The program of a file, and behind it what its first cells hold before the first statement.
 fn load_given<'a, S: Sources>(
     alloc: Global,
@@ -71,9 +99,7 @@ fn load_given<'a, S: Sources>(
     ensures same { IsSame (S.Sources.holds sources.new) (S.Sources.holds sources.old) }
 {
     let loaded = load_program(alloc, sources, file)?;
-    check_names(loaded.program.layout(), words)?;
-    check_told(loaded.program.tree(), words)?;
-    let input = load_opening(alloc, sources, words.opening, loaded.program.layout())?;
+    let input = opening_of(alloc, &loaded.program, words, sources)?;
     Ok((loaded, input))
 }
 

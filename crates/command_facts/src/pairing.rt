@@ -284,6 +284,26 @@ fn compare_on<'a, S: Sources>(
     }
 }
 
+// What is found of two programs, the second of this text, on the inputs that the words give.
+fn compare_pair<'a, S: Sources>(
+    alloc: Global,
+    first: &Program,
+    second: &Program,
+    text: &[u8],
+    words: &PairWords<'a>,
+    sources: &mut S,
+) -> Result<Comparison, Halted<'a>>
+    requires plain { IsPlain text.now }
+    ensures found { IfOk result (λ r. (compared : Compared) × spec.IsCompared words.now first.now.layout second.now.layout text.now compared
+        × spec.IsFoundOn (S.Sources.holds sources.old) first.now second.now compared words.now.inputs words.now.bound r) }
+    ensures refused { IfErr result (λ h. spec.IsUncommonIn words.now first.now.layout second.now.layout h.stop h.about
+        ⊎ (HaveNoLimits words.now text.now h
+        ⊎ spec.IsRefusedPair (S.Sources.holds sources.old) words.now.inputs first.now second.now h)) }
+{
+    let compared = compared_of(alloc, words, first.layout(), second.layout(), text)?;
+    compare_on(alloc, first, second, &compared, words, sources)
+}
+
 /// What is found of the programs of two files on the same inputs.
 pub(crate) fn find_pair<'a, S: Sources>(
     alloc: Global,
@@ -295,8 +315,7 @@ pub(crate) fn find_pair<'a, S: Sources>(
 {
     let first = load(alloc, &words.first, sources)?;
     let (second, text) = load_with_text(alloc, &words.second, sources)?;
-    let compared = compared_of(alloc, words, first.layout(), second.layout(), &text)?;
-    let comparison = compare_on(alloc, &first, &second, &compared, words, sources)?;
+    let comparison = compare_pair(alloc, &first, &second, &text, words, sources)?;
     Ok(FoundPair {
         first,
         second,

@@ -1,46 +1,19 @@
-use Rattle.std.proofs.Common.{List, inl, inr, subst}
-use Rattle.pram_model.specs.Layout.{SharedEntry}
-use Rattle.command_facts.specs.Found.{IsOpening}
-use Rattle.pram_trees.specs.Program.{ProgramTree}
-use Rattle.command_facts.specs.Refused.{IsForeignTo, IsUnknownIn, StopsAtOpening}
+use Rattle.std.proofs.Common.{inr}
 use Rattle.command_facts.proofs.Programs.{program_in}
-use Rattle.command_facts.proofs.Same.{opening_held, opening_stops}
+use Rattle.command_facts.proofs.Same.{opening_held, stops_behind}
 use Rattle.command_sizes.proofs.Sizes.{hands_on}
 use Rattle.command_facts.proofs.finding.load_given.Goals as goal
-
-pub returns-in_err-check_names-clause-refused : goal.returns-in_err-check_names-clause-refused
-returns-in_err-check_names-clause-refused g c =
-    let loaded = c.in_ok-loaded.loaded in
-    let h = c.in_err-check_names.field-0.0 in
-    hands_on _ h _ c.from_residual-in_err-check_names.ensures.1 (inr (
-      loaded.program,
-      program_in (g.S.Sources.holds c.args.sources.now) c.args.file.now loaded c.in_ok-loaded.ensures.loaded,
-      inr (inl (subst (λ (l : List SharedEntry). IsUnknownIn l c.args.words h.stop h.about) c.layout.ensures c.in_err-check_names.ensures.unknown)),
-    ))
-
-pub returns-in_err-check_told-clause-refused : goal.returns-in_err-check_told-clause-refused
-returns-in_err-check_told-clause-refused g c =
-    let loaded = c.in_ok-loaded.loaded in
-    let h = c.in_err-check_told.field-0.0 in
-    hands_on _ h _ c.from_residual-in_err-check_told.ensures.1 (inr (
-      loaded.program,
-      program_in (g.S.Sources.holds c.args.sources.now) c.args.file.now loaded c.in_ok-loaded.ensures.loaded,
-      inl (subst (λ (t : ProgramTree). IsForeignTo t c.args.words h.stop h.about) c.tree.ensures.tree c.in_err-check_told.ensures.foreign),
-    ))
 
 pub returns-in_err-input-clause-refused : goal.returns-in_err-input-clause-refused
 returns-in_err-input-clause-refused g c =
     let loaded = c.in_ok-loaded.loaded in
     let h = c.in_err-input.field-0.0 in
-    let held = opening_stops _ _ c.in_ok-loaded.ensures.same c.layout-2.result.now c.args.words.opening h c.in_err-input.ensures.refused in
     hands_on _ h _ c.from_residual-in_err-input.ensures.1 (inr (
       loaded.program,
       program_in (g.S.Sources.holds c.args.sources.now) c.args.file.now loaded c.in_ok-loaded.ensures.loaded,
-      inr (inr (subst (λ (l : List SharedEntry). StopsAtOpening (g.S.Sources.holds c.args.sources.now) l c.args.words.opening h) c.layout-2.ensures held)),
+      stops_behind _ _ c.in_ok-loaded.ensures.same loaded.program c.args.words h c.in_err-input.ensures.refused,
     ))
 
 pub returns-clause-input : goal.returns-clause-input
 returns-clause-input g c =
-    subst (λ (l : List SharedEntry). IsOpening (g.S.Sources.holds c.args.sources.now) l c.args.words.opening c.in_ok-input.input.items)
-    c.layout-2.ensures
-    (opening_held _ _ c.in_ok-loaded.ensures.same c.layout-2.result.now c.args.words.opening _ c.in_ok-input.ensures.values)
+    opening_held _ _ c.in_ok-loaded.ensures.same c.in_ok-loaded.loaded.program.layout c.args.words.opening _ c.in_ok-input.ensures.input
