@@ -155,8 +155,8 @@ fn answer_request<R: Threads + Wait + Sync, S: Sources, V: Watch + Gate + Sync, 
 /// the listing of the program's code; `meaning FILE` the outcome by the definition, `cost FILE` what that run costs and then its outcome,
 /// `steps FILE` that run statement by statement and then its outcome, or a picture or a page of it, and `rules FILE` how it comes out under
 /// each rule; `run FILE` that of its code, run by workers in threads, and `trace FILE` the exchanges of that run, or a picture of them;
-/// `exec LISTING` the outcome of a listing, run so; `explain WORD` what a refusal or a fault is; `--version`, or `-V`, the line `pramc
-/// 0.1.0`.
+/// `exec LISTING` the outcome of a listing, run so; `explain WORD` what a refusal or a fault is; `--version`, or `-V`, the line of the
+/// version.
 ///
 /// What is refused is written to `err`: P1 for the words, P2 for a file that can't be read, and E1 to E19. Besides what
 /// [`find`](command_facts::find) refuses, E17 is told where standard output failed, and E16 where memory was refused to a run that is told
