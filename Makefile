@@ -1,29 +1,41 @@
-# The crates are proved, built and tested by the toolchain's command `rt`.
+# The program is in release/, and so are the checksums of what it was proved and built of. Only `prove`, `release`, `gate`, `unproved` and what
+# is tried by hand need the toolchain's command `rt`.
 
-.PHONY: all check test examples bench refusals wrong-bodies fuzz memory memory-table hostile unthreaded page-test editor-test mpi-test dist dist-test clean install uninstall
+.PHONY: all prove release test gate unproved check bench calls refusals wrong-bodies fuzz memory unthreaded mpi-test dist clean install uninstall
 
-sources := $(shell find crates -name out -prune -o \( -name '*.rt' -o -name '*.antt' \) -print) crates.txt
+sources := $(shell find crates -name out -prune -o \( -name '*.rt' -o -name '*.antt' \) -print) crates.txt HANDLES
 
-# Proves the crates of the program and builds it.
+# The program of the release where the sources are those that it was proved and built of, which takes seconds; else one that is proved and
+# built of the sources that are here.
 all: bin/pramc
 
-bin/pramc: $(sources)
+bin/pramc: $(sources) $(wildcard release/*)
+	@sh gate/program.sh
+
+# Proves the crates of the program and builds it, whatever is there, and says whether it has the bytes of the release. What was proved on this
+# machine is kept.
+prove:
 	python3 gate/build.py command_main bin/pramc
+	python3 gate/release.py tell bin/pramc
 
-# Runs every example, every command of the documents and every row of gate/rows, and compares what they print, and what the examples' code
-# comes to.
-examples:
-	bash gate/examples.sh
-	bash gate/calls.sh
+# The same, packed into release/, with the checksums of its sources.
+release:
+	python3 gate/build.py command_main bin/pramc
+	python3 gate/release.py write bin/pramc
 
-# Proves every crate over what earlier runs kept.
-check:
-	rt all check
+# The program that is tried or installed.
+PROGRAM ?= bin/pramc
+# The parts of the test, all where none is named: make test PARTS="examples documents"
+PARTS ?=
 
-# The merge gate: the scripts of gate/, the plans of the examples, the callers that must not compile; then every proof from nothing, every
-# must-fail edit, every test and program; then the examples, the documents and hostile use, of the program that this built. The wrong bodies
-# that it leaves out (`make wrong-bodies`) are only looked at.
-test:
+# What a user runs: examples, documents, drawn programs, pictures, packages, hostile use, some minutes.
+test: $(PROGRAM)
+	@python3 gate/test.py $(PROGRAM) $(PARTS)
+
+# The whole, hours: the scripts over sources, every proof from nothing, every wrong body of the gate, and then the test of the program that this
+# built, which is byte for byte that of the release.
+gate:
+	python3 gate/release.py check
 	python3 gate/crates.py
 	python3 gate/definitions.py
 	python3 gate/walks.py
@@ -33,15 +45,31 @@ test:
 	python3 gate/mpi.py
 	python3 gate/scale.py
 	python3 gate/build_test.py
+	python3 gate/release_test.py
 	python3 gate/wrong_bodies.py
 	python3 crates/run_tests/unthreaded/change.py look .
 	bash gate/calls.sh
 	set -e; for check in crates/*/refusals/check.sh; do bash $$check; done
-	bash gate/prove.sh
+	bash gate/gate.sh
 
-# Runs the C text of plans under MPI, and compares what it writes with the program; needs mpicc and mpirun.
+# A program without proofs, for who works on it: make test PROGRAM=bin/pramc-unproved
+unproved: bin/pramc-unproved
+
+bin/pramc-unproved: $(sources)
+	python3 gate/unproved.py $@
+
+# Proves every crate over what earlier runs kept.
+check:
+	rt all check
+
+# Asks the crates what no command of the program shows.
+calls:
+	bash gate/calls.sh
+
+# Runs the C text of plans under MPI by more maps than the test does, and under the compiler's sanitizers; needs mpicc and mpirun.
 mpi-test: bin/pramc
 	bash gate/mpi_test.sh bin/pramc --both
+	bash gate/mpi_test.sh bin/pramc --sanitize
 
 # Prints figures, and asserts nothing.
 bench:
@@ -66,37 +94,17 @@ fuzz: bin/pramc
 	python3 gate/oracle/compare.py bin/pramc --seed $(SEED) --count $(COUNT)
 	python3 gate/drawn_outputs.py bin/pramc --seed $(SEED) --count $(COUNT)
 
-# Uses the program as nobody should.
-hostile:
-	bash gate/hostile.sh
-
 # Shows that memory is given back, and that each allocation may be refused.
 memory:
 	set -e; for check in crates/*/memory/check.sh; do bash $$check; done
-
-# Compares the memory that commands take with the table of bench/README.md.
-memory-table: bin/pramc
-	python3 gate/memory_table.py bin/pramc
 
 # Shows that the tests of runs in threads refuse a run whose threads do nothing.
 unthreaded:
 	bash crates/run_tests/unthreaded/check.sh
 
-# Steps through the pages of eleven runs in Chromium, and compares what they show with the facts in them.
-page-test: bin/pramc
-	python3 gate/page_test.py bin/pramc
-
-# Checks programs in Vim by :make, and compares its list with what is wrong in them.
-editor-test: bin/pramc
-	bash gate/vim_test.sh bin/pramc
-
 # Writes an archive and a package for Debian to hand on, in bin/dist.
 dist: bin/pramc
 	bash gate/dist.sh
-
-# Unpacks, installs and uses both in an empty root, and takes them away again.
-dist-test: bin/pramc
-	bash gate/dist_test.sh
 
 clean:
 	rm -rf bin crates/*/out
@@ -112,9 +120,6 @@ installed = \
 	$(shared)/vim/vimfiles/ftplugin/pram.vim=editors/vim/ftplugin/pram.vim \
 	$(shared)/vim/vimfiles/compiler/pramc.vim=editors/vim/compiler/pramc.vim \
 	$(foreach it,$(wildcard editors/textmate/*.json),$(shared)/pramc/textmate/$(notdir $(it))=$(it))
-
-# The program that is installed.
-PROGRAM ?= bin/pramc
 
 # Puts the program, its man page, its completions and the syntax of the language for editors below PREFIX.
 install: $(PROGRAM)

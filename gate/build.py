@@ -1,10 +1,12 @@
 #!/usr/bin/env python3
 """Proves a program and the crates that it stands on, side by side, and builds it.
 
-build.py PROGRAM TO: has `rt ci` prove a copy of their sources, which has no tests and no wrong bodies, and puts the program in the file TO.
-So a crate is proved as in the gate: over the statements of those below it, first those with the longest chain of others behind them, and as
-many at a time as processors and memory allow. What passes is kept beside the toolchain by the checksums of all that was read, so that it
-is proved once on a machine, by a build or by the gate, also where one is stopped. A crate that isn't proved stops the build, and is shown.
+build.py PROGRAM TO: has `rt ci` prove a copy of their sources, which has no tests and no wrong bodies, and puts the program in the file TO,
+without the names that no run needs. So a crate is proved as in the gate: over the statements of those below it, first those with the longest
+chain of others behind them, and as many at a time as processors and memory allow. What passes is kept beside the toolchain by the checksums
+of all that was read, so that it is proved once on a machine, by a build or by the gate, also where one is stopped. A crate that isn't proved
+stops the build, and is shown.
+build.py --strip BUILT TO: puts a program that was built into the file TO so.
 """
 import os
 import queue
@@ -26,12 +28,19 @@ READ = (*PARTS, "args", "data", "status", "stdin", "stdout")
 ENDED = re.compile(r"rt: (\w+) (is kept: .*|proved|NOT PROVED.*)")
 
 
+def files_read(crate, is_program):
+    """The files that `rt` reads of a crate's folder."""
+    for it in [CRATES / crate / part for part in READ if part in PARTS or is_program]:
+        yield from (file for file in [it, *it.rglob("*")] if file.is_file())
+
+
 def copy(program, uses, to):
     """Copies what `rt` reads of these crates."""
     for crate in uses:
-        for it in [CRATES / crate / part for part in READ if part in PARTS or crate == program]:
-            if it.exists():
-                (shutil.copytree if it.is_dir() else shutil.copyfile)(it, to / "crates" / crate / it.name)
+        for it in files_read(crate, crate == program):
+            there = to / it.relative_to(TOP)
+            there.parent.mkdir(parents=True, exist_ok=True)
+            shutil.copyfile(it, there)
     lines = listed()
     (to / "crates.txt").write_text("".join(f"{lines[it]}\n" for it in uses))
     shutil.copyfile(TOP / "HANDLES", to / "HANDLES")
@@ -110,6 +119,15 @@ def tell(seconds, uses, begun):
         print(f"the longest chain, {sum(map(seconds.get, longest)):.0f} s: {told(longest, seconds)}")
 
 
+def strip(built, to):
+    """Puts a program into a file without names and remarks of the linker, by the toolchain: of one program it makes the same bytes everywhere."""
+    tool = Path(shutil.which("rt")).resolve().parent.parent / "toolchain/bin/clang"
+    to.parent.mkdir(exist_ok=True)
+    made = to.with_name(f"{to.name}.new")
+    subprocess.run(["llvm-strip", "--strip-all", "-o", made, built], executable=tool, check=True)
+    os.replace(made, to)
+
+
 def build(program, to, room):
     """Whether the program is proved, and is in the file."""
     uses, begun = with_those_below([program]), time.monotonic()
@@ -126,14 +144,13 @@ def build(program, to, room):
     if seconds is None:
         return False
     tell(seconds, uses, begun)
-    to.parent.mkdir(exist_ok=True)
-    made = to.with_name(f"{to.name}.new")
-    shutil.copy(room / "crates" / program / "out" / program, made)
-    os.replace(made, to)
+    strip(room / "crates" / program / "out" / program, to)
     return True
 
 
 def main():
+    if sys.argv[1] == "--strip":
+        return strip(Path(sys.argv[2]), Path(sys.argv[3]))
     program, to = sys.argv[1:]
     if not shutil.which("rt"):
         sys.exit("the toolchain's command rt is not on the path")

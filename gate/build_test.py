@@ -61,7 +61,10 @@ class Tree:
             (self.top / "crates/program" / file).write_text(text)
         (folder / "tools").mkdir()
         (folder / "tools/rt").write_text(RT.replace("NOTES", str(self.notes)))
-        (folder / "tools/rt").chmod(0o755)
+        (folder / "toolchain/bin").mkdir(parents=True)
+        (folder / "toolchain/bin/clang").write_text('#!/bin/sh\n[ "$1 $2" = "--strip-all -o" ] && cp "$4" "$3"\n')
+        for it in ("tools/rt", "toolchain/bin/clang"):
+            (folder / it).chmod(0o755)
         self.env = {**os.environ, "PATH": f"{folder}/tools:{os.environ['PATH']}", "TMPDIR": str(self.rooms)}
 
     def write(self, crate, text):

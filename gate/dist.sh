@@ -1,13 +1,16 @@
 #!/usr/bin/env bash
-# dist.sh [PROGRAM [FOLDER]]: writes pramc-VERSION-x86_64-linux.tar.gz, and where dpkg-deb is there pramc_VERSION_amd64.deb, to FOLDER
+# dist.sh [PROGRAM [FOLDER]]: writes pramc-VERSION-x86_64-linux.tar.xz, and where dpkg-deb is there pramc_VERSION_amd64.deb, to FOLDER
 # (bin/dist). Each has the program, its man page, its completions, the syntax for editors, the examples, the documents and the licence. Of
-# one program and one state of the sources they are the same bytes: all times are that of the last commit, or SOURCE_DATE_EPOCH.
+# one program and one state of the documents they are the same bytes: all times are those of the version's day in CHANGELOG.md, or
+# SOURCE_DATE_EPOCH.
 set -eu -o pipefail
 top=$(cd "$(dirname "$0")/.." && pwd)
 program=$(realpath "${1:-$top/bin/pramc}")
 folder=${2:-$top/bin/dist}
 version=$("$program" --version | sed -n 's/^pramc //p')
-export SOURCE_DATE_EPOCH=${SOURCE_DATE_EPOCH:-$(git -C "$top" log -1 --format=%ct 2> /dev/null || stat -c %Y "$top/CHANGELOG.md")}
+day=$(sed -n "s/^## $version, //p" "$top/CHANGELOG.md")
+[ "$day" ] || { echo "CHANGELOG.md has no version $version"; exit 1; }
+export SOURCE_DATE_EPOCH=${SOURCE_DATE_EPOCH:-$(date -ud "$day" +%s)}
 work=$(mktemp -d)
 trap 'rm -rf "$work"' EXIT
 umask 022
@@ -42,8 +45,8 @@ archive() {
     installed "$work" "/$name"
     documents "$work/$name"
     cp "$top/LICENSE" "$work/$name/"
-    tar -C "$work" "${same[@]}" -cf - "$name" | gzip -9n > "$folder/$name.tar.gz"
-    echo "$folder/$name.tar.gz"
+    tar -C "$work" "${same[@]}" -cf - "$name" | xz -9e > "$folder/$name.tar.xz"
+    echo "$folder/$name.tar.xz"
 }
 
 control() {

@@ -62,8 +62,8 @@ left() {
 
 archive() {
     local name
-    tar -C "$work" -xf "$work"/one/*.tar.gz
-    name=$(basename "$work"/one/*.tar.gz .tar.gz)
+    tar -C "$work" -xf "$work"/one/*.tar.xz
+    name=$(basename "$work"/one/*.tar.xz .tar.xz)
     cd "$work/$name"
     used share examples bin/pramc
     cmp LICENSE "$top/LICENSE"

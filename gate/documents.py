@@ -10,7 +10,10 @@ import re
 import subprocess
 import sys
 import tempfile
+from concurrent.futures import ThreadPoolExecutor
 from pathlib import Path
+
+from jobs import JOBS
 
 TOP = Path(__file__).resolve().parent.parent
 NAMES = ("runs", "programs", "checks", "limits", "exchanges", "commands", "tellings", "pictures", "mistakes", "json")
@@ -29,34 +32,34 @@ def run(words, status, folder):
     return done.stdout, done.returncode
 
 
-def tried(page, program, folder):
+def tried(page, program):
     """How many commands a page has, and those that write something else."""
     commands = status = 0
     wrong = []
-    os.mkdir(f"{folder}/bin")
-    os.symlink(program, f"{folder}/bin/pramc")
-    os.symlink(TOP / "examples", f"{folder}/examples")
-    for block in BLOCK.finditer((TOP / page).read_text()):
-        if block["name"]:
-            Path(folder, block["name"]).write_text(block["text"])
-        for command in COMMAND.finditer(block["text"]) if block["kind"] == "console" else []:
-            output, status = run(command["words"], status, folder)
-            commands += 1
-            if output != command["output"]:
-                wrong.append(f"$ {command['words']}\n{output}")
+    with tempfile.TemporaryDirectory() as folder:
+        os.mkdir(f"{folder}/bin")
+        os.symlink(program, f"{folder}/bin/pramc")
+        os.symlink(TOP / "examples", f"{folder}/examples")
+        for block in BLOCK.finditer((TOP / page).read_text()):
+            if block["name"]:
+                Path(folder, block["name"]).write_text(block["text"])
+            for command in COMMAND.finditer(block["text"]) if block["kind"] == "console" else []:
+                output, status = run(command["words"], status, folder)
+                commands += 1
+                if output != command["output"]:
+                    wrong.append(f"$ {command['words']}\n{output}")
     return commands, wrong
 
 
 def main():
-    failed = False
-    for page in PAGES:
-        with tempfile.TemporaryDirectory() as folder:
-            commands, wrong = tried(page, Path(sys.argv[1]).resolve(), folder)
+    program = Path(sys.argv[1]).resolve()
+    with ThreadPoolExecutor(JOBS) as pool:
+        found = list(pool.map(lambda it: tried(it, program), PAGES))
+    for page, (commands, wrong) in zip(PAGES, found):
         for it in wrong:
             print(it)
         print(f"{page}: {commands - len(wrong)} of {commands} commands write what it says")
-        failed |= bool(wrong) or not commands
-    sys.exit(failed)
+    sys.exit(any(wrong or not commands for commands, wrong in found))
 
 
 if __name__ == "__main__":

@@ -22,6 +22,7 @@ import flow_pictures
 import json_texts
 import pictures
 import step_pictures
+from jobs import JOBS
 
 TOP = Path(__file__).resolve().parent.parent
 PROGRAM = Path(sys.argv[1]).resolve()
@@ -86,7 +87,7 @@ def main():
     words.add_argument("--seed", type=int, default=1)
     words.add_argument("--count", type=int, default=60)
     words = words.parse_args()
-    with tempfile.TemporaryDirectory() as folder, ThreadPoolExecutor(4) as pool:
+    with tempfile.TemporaryDirectory() as folder, ThreadPoolExecutor(JOBS) as pool:
         found = list(pool.map(lambda it: judged(Path(folder), words.seed * 1000003 + it), range(words.count)))
     found = [it for accepted, it in found if accepted]
     for it in sum(found, []):

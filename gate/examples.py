@@ -15,6 +15,7 @@ from concurrent.futures import ThreadPoolExecutor
 from pathlib import Path
 
 from gallery import EXAMPLES, cases, change, costs, foot, programs, sizes
+from jobs import JOBS
 
 sys.path.insert(0, str(Path(__file__).resolve().parent / "expected"))
 from references import expected, read, referenced
@@ -118,7 +119,7 @@ def tried(name, text, folder):
 
 
 def main():
-    with tempfile.TemporaryDirectory() as folder, ThreadPoolExecutor(4) as pool:
+    with tempfile.TemporaryDirectory() as folder, ThreadPoolExecutor(JOBS) as pool:
         found = list(pool.map(lambda it: tried(*it, Path(folder)), programs()))
     for it in sum(found, []):
         print(it)

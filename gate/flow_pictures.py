@@ -15,6 +15,7 @@ from concurrent.futures import ThreadPoolExecutor
 from pathlib import Path
 
 from gallery import EXAMPLES, files
+from jobs import JOBS
 
 PROGRAM = Path(sys.argv[1]).resolve()
 SVG = "{http://www.w3.org/2000/svg}"
@@ -124,7 +125,7 @@ def main():
         for name in SHOWN:
             words = ["steps", EXAMPLES / f"{name}.pram", "--input", EXAMPLES / f"{name}.in", "--flow"]
             (EXAMPLES / "flows" / f"{name}.svg").write_text(written(words))
-    with ThreadPoolExecutor(4) as pool:
+    with ThreadPoolExecutor(JOBS) as pool:
         found = list(pool.map(wrong, files()))
     for it in sum(found, []):
         print(it)

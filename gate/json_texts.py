@@ -17,6 +17,7 @@ from concurrent.futures import ThreadPoolExecutor
 from pathlib import Path
 
 from gallery import EXAMPLES, INPUTS, foot, programs, sizes
+from jobs import JOBS
 
 PROGRAM = Path(sys.argv[1]).resolve()
 MEMORY = re.compile(r"(\w+)(?:\[(\d+)\.\.(\d+)\])? = (.+)")
@@ -449,7 +450,7 @@ def of_words():
 
 
 def main():
-    with tempfile.TemporaryDirectory() as folder, ThreadPoolExecutor(4) as pool:
+    with tempfile.TemporaryDirectory() as folder, ThreadPoolExecutor(JOBS) as pool:
         found = sum(pool.map(lambda it: of_example(*it, Path(folder)), programs()), [])
         found += sum(pool.map(lambda it: of_pairs(*it, Path(folder)), programs()), [])
         found += sum(pool.map(lambda it: of_sizes(*it), programs()), [])

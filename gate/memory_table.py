@@ -13,6 +13,8 @@ import tempfile
 from concurrent.futures import ThreadPoolExecutor
 from pathlib import Path
 
+from jobs import JOBS
+
 TOP = Path(__file__).resolve().parent.parent
 PAGE = TOP / "bench" / "README.md"
 TIME = "/usr/bin/time"
@@ -95,7 +97,7 @@ def peak(program, words, file, bound, folder):
 
 def peaks(program):
     """The peak of each command on each program."""
-    with tempfile.TemporaryDirectory() as folder, ThreadPoolExecutor(2) as pool:
+    with tempfile.TemporaryDirectory() as folder, ThreadPoolExecutor(JOBS) as pool:
         found = {}
         for number, (name, (bound, text)) in enumerate(PROGRAMS.items()):
             file = Path(folder) / f"{number}.pram"

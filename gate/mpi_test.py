@@ -20,6 +20,7 @@ from pathlib import Path
 TOP = Path(__file__).resolve().parent.parent
 sys.path.insert(0, str(TOP / "gate" / "oracle"))
 import draw
+from jobs import JOBS
 
 RULES = ["erew", "crew", "common", "priority", "sum"]
 RANKS = [1, 2, 3, 4, 16]
@@ -273,7 +274,7 @@ def sanitized(test):
 def main():
     options = argparse.ArgumentParser()
     options.add_argument("program", type=Path)
-    options.add_argument("--jobs", type=int, default=2)
+    options.add_argument("--jobs", type=int, default=JOBS)
     options.add_argument("--drawn", type=int, default=300)
     options.add_argument("--seed", type=int, default=1)
     options.add_argument("--only", default="")

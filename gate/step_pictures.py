@@ -13,6 +13,7 @@ from concurrent.futures import ThreadPoolExecutor
 from pathlib import Path
 
 from gallery import files
+from jobs import JOBS
 
 PROGRAM = Path(sys.argv[1]).resolve()
 SVG = "{http://www.w3.org/2000/svg}"
@@ -91,7 +92,7 @@ def wrong(file, *more):
 
 
 def main():
-    with ThreadPoolExecutor(4) as pool:
+    with ThreadPoolExecutor(JOBS) as pool:
         found = list(pool.map(wrong, files()))
     for it in sum(found, []):
         print(it)

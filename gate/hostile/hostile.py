@@ -1,7 +1,7 @@
 """Uses the program as nobody should, and looks at what it says: memory, threads and writes that are refused, broken texts, blocks that end
 at pages which can't be touched, long runs, and runs that are stopped, crowded, or all on one core.
 
-hostile.py PROGRAM STUB GUARD INPUTS FOLDER: the stub is refuse.c as a library, the guard is guard.c, the folder is for files in between.
+hostile.py PROGRAM [PART ..]: the parts are memory, streams and guards, which need a compiler of C (cc), texts, long, crowds and stops.
 """
 
 import itertools
@@ -11,14 +11,22 @@ import re
 import signal
 import subprocess
 import sys
+import tempfile
 import threading
 import time
 from concurrent.futures import ThreadPoolExecutor
 from pathlib import Path
 
-PROGRAM, STUB, GUARD = sys.argv[1:4]
-INPUTS, FOLDER = map(Path, sys.argv[4:])
-EXAMPLES = Path(__file__).resolve().parent.parent.parent / "examples"
+INPUTS = Path(__file__).resolve().parent
+sys.path.insert(0, str(INPUTS.parent))
+from jobs import JOBS
+
+PROGRAM = str(Path(sys.argv[1]).resolve())
+WORK = tempfile.TemporaryDirectory()
+FOLDER = Path(WORK.name)
+# What is loaded before the program: by the one what it asks for is refused, by the other its blocks lie alone.
+STUB, GUARD = FOLDER / "refuse.so", FOLDER / "guard.so"
+EXAMPLES = INPUTS.parent.parent / "examples"
 LONGEST = 60  # seconds of one call, far more than it takes
 EVERY = 20  # of the changes of a text by one byte
 WORKERS = 3
@@ -77,7 +85,7 @@ def run(words, env=None, before=()):
 def call(words, **refused):
     """The same of a call of which one is refused."""
     env = {name: str(value) for name, value in refused.items()}
-    return run(words, {**env, "LD_PRELOAD": STUB} if refused else {})
+    return run(words, {**env, "LD_PRELOAD": str(STUB)} if refused else {})
 
 
 def tallied(words, **refused):
@@ -92,9 +100,9 @@ def tallied(words, **refused):
 
 
 def all_of(judge, cases):
-    """Judges all cases, as many at a time as there are processors, and tells how many there were."""
+    """Judges all cases, as many at a time as it may, and tells how many there were."""
     cases = list(cases)
-    with ThreadPoolExecutor(os.cpu_count()) as pool:
+    with ThreadPoolExecutor(JOBS) as pool:
         try:
             for _ in pool.map(lambda case: judge(*case), cases):
                 pass
@@ -247,7 +255,7 @@ def streams():
 
 def guard_one(words):
     """A call does the same where each block has pages of its own."""
-    given, expected = run(words, {"LD_PRELOAD": GUARD}), run(words)
+    given, expected = run(words, {"LD_PRELOAD": str(GUARD)}), run(words)
     if given != expected:
         raise Wrong(f"{words} with guards: {given[0]} {given[2]}, and else {expected[0]} {expected[2]}")
 
@@ -348,9 +356,17 @@ def stops():
     return "ten runs by 4 workers come to one answer that are stopped and let go on all the time"
 
 
+PARTS = {"memory": memory, "texts": texts, "streams": streams, "guards": guards, "long": long_runs, "crowds": crowds, "stops": stops}
+OVER_C = {"memory", "streams", "guards"}
+
+
 def main():
-    for part in [memory, texts, streams, guards, long_runs, crowds, stops]:
-        print(f"as it must be: {part()}", flush=True)
+    names = sys.argv[2:] or [*PARTS]
+    for made in (STUB, GUARD) if OVER_C & {*names} else ():
+        text = INPUTS / f"{made.stem}.c"
+        subprocess.run(["cc", "-O1", "-shared", "-fPIC", "-fno-builtin", "-o", made, text, "-ldl"], check=True)
+    for name in names:
+        print(f"as it must be: {PARTS[name]()}", flush=True)
 
 
 try:

@@ -13,11 +13,12 @@ import tempfile
 from concurrent.futures import ThreadPoolExecutor
 from pathlib import Path
 
-sys.path.insert(0, str(Path(__file__).resolve().parent))
+sys.path[:0] = [str(it) for it in Path(__file__).resolve().parents[:2]]
 import draw
 import listing
 import machine
 import meaning
+from jobs import JOBS
 from language import Refused, read, tokens_of
 
 TOP = Path(__file__).resolve().parents[2]
@@ -192,7 +193,7 @@ def main():
         with tempfile.TemporaryDirectory() as folder:
             return job[0].__name__, job[0](comparison, Path(folder), job[1])
 
-    with ThreadPoolExecutor(4) as pool:
+    with ThreadPoolExecutor(JOBS) as pool:
         results = list(pool.map(done, jobs))
     for kind in dict.fromkeys(name for name, _ in results):
         good = [it for name, it in results if name == kind]
