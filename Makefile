@@ -1,7 +1,8 @@
-# The program is in release/, and so are the checksums of what it was proved and built of. Only `prove`, `release`, `gate`, `unproved` and what
-# is tried by hand need the toolchain's command `rt`.
+# The program is in release/, and so are the checksums of what it was proved and built of. Only `prove`, `release`, `gate`, `unproved` and
+# what is tried by hand need the toolchain's command `rt`.
 
-.PHONY: all prove release test gate unproved check bench calls refusals wrong-bodies fuzz memory unthreaded mpi-test dist clean install uninstall
+.PHONY: all prove release test gate unproved check bench calls refusals wrong-bodies fuzz memory unthreaded mpi-test dist
+.PHONY: clean install uninstall
 
 sources := $(shell find crates -name out -prune -o \( -name '*.rt' -o -name '*.antt' \) -print) crates.txt HANDLES
 
@@ -12,8 +13,8 @@ all: bin/pramc
 bin/pramc: $(sources) $(wildcard release/*)
 	@sh gate/program.sh
 
-# Proves the crates of the program and builds it, whatever is there, and says whether it has the bytes of the release. What was proved on this
-# machine is kept.
+# Proves the crates of the program and builds it, whatever is there, and says whether it has the bytes of the release. What was proved on
+# this machine is kept.
 prove:
 	python3 gate/build.py command_main bin/pramc
 	python3 gate/release.py tell bin/pramc
@@ -32,8 +33,8 @@ PARTS ?=
 test: $(PROGRAM)
 	@python3 gate/test.py $(PROGRAM) $(PARTS)
 
-# The whole, hours: the scripts over sources, every proof from nothing, every wrong body of the gate, and then the test of the program that this
-# built, which is byte for byte that of the release.
+# The whole, hours: the scripts over sources, every proof from nothing, every wrong body of the gate, and then the test of the program that
+# this built, which is byte for byte that of the release.
 gate:
 	python3 gate/release.py check
 	python3 gate/crates.py

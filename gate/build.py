@@ -2,10 +2,10 @@
 """Proves a program and the crates that it stands on, side by side, and builds it.
 
 build.py PROGRAM TO: has `rt ci` prove a copy of their sources, which has no tests and no wrong bodies, and puts the program in the file TO,
-without the names that no run needs. So a crate is proved as in the gate: over the statements of those below it, first those with the longest
-chain of others behind them, and as many at a time as processors and memory allow. What passes is kept beside the toolchain by the checksums
-of all that was read, so that it is proved once on a machine, by a build or by the gate, also where one is stopped. A crate that isn't proved
-stops the build, and is shown.
+without the names that no run needs. So a crate is proved as in the gate: over the statements of those below it, first those with the
+longest chain of others behind them, and as many at a time as processors and memory allow. What passes is kept beside the toolchain by the
+checksums of all that was read, so that it is proved once on a machine, by a build or by the gate, also where one is stopped. A crate that
+isn't proved stops the build, and is shown.
 build.py --strip BUILT TO: puts a program that was built into the file TO so.
 """
 import os
@@ -85,7 +85,7 @@ def shown(block):
 
 
 def prove(rt, uses):
-    """Prints a line for each crate as it is proved, and returns the seconds of each, or nothing where one isn't: then what is said of it is shown."""
+    """Prints a line for each crate as it is proved, and returns the seconds of each, or nothing where one isn't, of which all is shown."""
     left, begun, seconds, block = {*uses}, {}, {}, []
     for line in said(rt):
         if line is None:
@@ -120,7 +120,7 @@ def tell(seconds, uses, begun):
 
 
 def strip(built, to):
-    """Puts a program into a file without names and remarks of the linker, by the toolchain: of one program it makes the same bytes everywhere."""
+    """Puts a program into a file without names and remarks of the linker, by the toolchain, which makes the same bytes everywhere."""
     tool = Path(shutil.which("rt")).resolve().parent.parent / "toolchain/bin/clang"
     to.parent.mkdir(exist_ok=True)
     made = to.with_name(f"{to.name}.new")

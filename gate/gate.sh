@@ -1,7 +1,7 @@
 #!/usr/bin/env bash
-# What stands behind the scripts over sources: every proof from nothing, every wrong body, test and program (`rt ci`); that the program which
-# this built is byte for byte that of the release; and then gate/test.py over it. Before the last line, which counts all, stands what was
-# spent on each crate, on which nothing here depends.
+# What stands behind the scripts over sources: every proof from nothing, every wrong body, test and program (`rt ci`); that the program
+# which this built is byte for byte that of the release; and then gate/test.py over it. Before the last line, which counts all, stands
+# what was spent on each crate, on which nothing here depends.
 set -eu -o pipefail
 top=$(cd "$(dirname "$0")/.." && pwd)
 work=$(mktemp -d)

@@ -1,6 +1,6 @@
 #!/usr/bin/env bash
-# mpi_test.sh PROGRAM [WORD ..]: compiles the C text of plans, runs it under MPI, and compares what it writes with the program (gate/mpi_test.py
-# says which, and takes the words). It needs mpicc and mpirun, and ends with status 77 where MPI starts no two ranks.
+# mpi_test.sh PROGRAM [WORD ..]: compiles the C text of plans, runs it under MPI, and compares what it writes with the program
+# (gate/mpi_test.py says which, and takes the words). It needs mpicc and mpirun, and ends with status 77 where MPI starts no two ranks.
 # mpi_test.sh --install: installs these from Debian's packages where they are missing and there is a registry.
 set -eu
 top=$(cd "$(dirname "$0")/.." && pwd)

@@ -1,7 +1,7 @@
 #!/bin/sh
-# program.sh: puts the program into bin/pramc. Where this checkout has just the sources that the program of release/ was proved and built of,
-# that takes seconds, and tar, xz and sha256sum. Where it hasn't, the first file that differs is named, and the toolchain's command rt proves
-# and builds the program of what is here; where there is no rt, nothing is done.
+# program.sh: puts the program into bin/pramc. Where this checkout has just the sources that the program of release/ was proved and built
+# of, that takes seconds, and tar, xz and sha256sum. Where it hasn't, the first file that differs is named, and the toolchain's command rt
+# proves and builds the program of what is here; where there is no rt, nothing is done.
 # program.sh release TO: the first alone, into the file TO.
 set -eu
 export LC_ALL=C
@@ -47,7 +47,8 @@ unpack() {
     name=$(sed -n 's,^[0-9a-f]\{64\}  \(pramc-[^/]*\)/bin/pramc$,\1,p' $sources)
     mkdir -p "$(dirname "$1")"
     sum=$(sed -n "s,  $name/bin/pramc\$,,p" $sources)
-    if ! xz -dc "release/$name.tar.xz" > "$work/archive" 2> /dev/null || ! tar -xOf "$work/archive" "$name/bin/pramc" > "$1.new" 2> /dev/null ||
+    if ! xz -dc "release/$name.tar.xz" > "$work/archive" 2> /dev/null ||
+        ! tar -xOf "$work/archive" "$name/bin/pramc" > "$1.new" 2> /dev/null ||
         [ "$(sha256sum < "$1.new")" != "$sum  -" ]; then
         rm -f "$1.new"
         stop "release/$name.tar.xz is damaged: it doesn't come to the program of $sources (git checkout HEAD -- release brings it back)"

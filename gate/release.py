@@ -6,7 +6,8 @@ release.py check [PROGRAM]  whether release/SOURCES is of the sources of this ch
                             same kit, byte for byte that of the release; else the status is 1
 release.py tell PROGRAM     says the same of the program, whatever it is
 
-SOURCES has the line of `rt version`, and then, as `sha256sum` writes them, the checksums of the program and of each file that its build reads.
+SOURCES has the line of `rt version`, and then, as `sha256sum` writes them, the checksums of the program and of each file that its build
+reads.
 """
 import hashlib
 import os

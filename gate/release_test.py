@@ -67,7 +67,8 @@ class Tree:
 
 def these_sources_are_unpacked(tree):
     status, said, wrong = tree.make()
-    assert (status, wrong) == (0, "") and said.startswith("bin/pramc is the program that these sources were proved and built to"), (said, wrong)
+    told = "bin/pramc is the program that these sources were proved and built to"
+    assert (status, wrong) == (0, "") and said.startswith(told), (said, wrong)
     assert os.access(tree.top / "bin/pramc", os.X_OK) and tree.made() == {"pramc": tree.program}
 
 
@@ -93,7 +94,8 @@ def each_difference_is_told(tree):
 
 def is_told(tree, difference):
     status, said, wrong = tree.make()
-    assert status == 1 and said == "" and wrong.startswith(f"{difference}, so the program of release/ isn't that"), (difference, said, wrong)
+    told = f"{difference}, so the program of release/ isn't that of these sources"
+    assert (status, said) == (1, "") and wrong.startswith(told), (difference, said, wrong)
     mended = f"rm {difference.removesuffix(' is new')}" if difference.endswith(" is new") else "git checkout HEAD --"
     assert "rt has to be on the path" in wrong and f"again: {mended}" in wrong and not tree.made(), wrong
 
