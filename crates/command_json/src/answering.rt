@@ -32,7 +32,6 @@ fn write_watched<'a, V: Watch, O: Out>(
     out: &mut O,
 ) -> Result<Outcome, Stop<'a>>
     requires fits { length steps.now.input.items ≤ total_size steps.now.loaded.program.layout }
-    requires out { (O.Out.state out.old).failures < 2 ^ 62 }
     ensures told { IsToldBy steps.now (O.Out.state out.old) (O.Out.state out.new) result }
 {
     if on_terminal {
@@ -54,8 +53,6 @@ fn tell_steps<V: Watch, O: Out, E: Out>(
     err: &mut E,
 ) -> Status
     requires fits { length steps.now.input.items ≤ total_size steps.now.loaded.program.layout }
-    requires out { (O.Out.state out.old).failures < 2 ^ 62 }
-    requires err { (E.Out.state err.old).failures < 2 ^ 62 }
     ensures leaves { LeavesFound (map string_bytes words.now) (Found.Stepped steps.now) (O.Out.state out.old) (O.Out.state out.new)
         (E.Out.state err.old) (E.Out.state err.new) result }
 {
@@ -80,8 +77,6 @@ fn tell<O: Out, E: Out>(
     err: &mut E,
 ) -> Status
     requires settled { IsSettled found.now }
-    requires out { (O.Out.state out.old).failures < 2 ^ 62 }
-    requires err { (E.Out.state err.old).failures < 2 ^ 62 }
     ensures leaves { LeavesFound (map string_bytes words.now) found.now (O.Out.state out.old) (O.Out.state out.new)
         (E.Out.state err.old) (E.Out.state err.new) result }
 {
@@ -109,8 +104,6 @@ fn tell_found<V: Watch, O: Out, E: Out>(
     err: &mut E,
 ) -> Status
     requires fits { FitsIn found.now }
-    requires out { (O.Out.state out.old).failures < 2 ^ 62 }
-    requires err { (E.Out.state err.old).failures < 2 ^ 62 }
     ensures leaves { LeavesFound (map string_bytes words.now) found.now (O.Out.state out.old) (O.Out.state out.new)
         (E.Out.state err.old) (E.Out.state err.new) result }
 {
@@ -133,8 +126,6 @@ fn answer_request<R: Threads + Wait + Sync, S: Sources, V: Watch + Gate + Sync, 
     out: &mut O,
     err: &mut E,
 ) -> Status
-    requires out { (O.Out.state out.old).failures < 2 ^ 62 }
-    requires err { (E.Out.state err.old).failures < 2 ^ 62 }
     ensures leaves { LeavesJson (S.Sources.holds sources.old) (map string_bytes words.now) (Ok request.entry)
         (O.Out.state out.old) (O.Out.state out.new) (E.Out.state err.old) (E.Out.state err.new) result }
 {
@@ -174,8 +165,6 @@ pub fn answer_in_json<
     out: &mut O,
     err: &mut E,
 ) -> Status
-    requires out { (O.Out.state out.old).failures < 2 ^ 62 }
-    requires err { (E.Out.state err.old).failures < 2 ^ 62 }
     ensures leaves { LeavesJson (S.Sources.holds sources.old) (map string_bytes words.now) asked.entry
         (O.Out.state out.old) (O.Out.state out.new) (E.Out.state err.old) (E.Out.state err.new) result }
 {

@@ -45,7 +45,6 @@ fn refusal_line(alloc: Global, words: &[String], halted: &Halted<'_>) -> Result<
 }
 
 fn write_line<E: Out>(err: &mut E, line: &[u8])
-    requires err { (E.Out.state err.old).failures < 2 ^ 62 }
     ensures written { IsReported (E.Out.state err.old) (E.Out.state err.new) line.now }
 {
     if err.write_all(line).is_ok() {
@@ -56,7 +55,6 @@ fn write_line<E: Out>(err: &mut E, line: &[u8])
 /// Writes what is refused, of a call of these words, to standard error, or that memory for this was refused. That it fails changes no
 /// status.
 pub(crate) fn report<E: Out>(alloc: Global, err: &mut E, words: &[String], halted: &Halted<'_>)
-    requires err { (E.Out.state err.old).failures < 2 ^ 62 }
     ensures told { spec.IsRefusalSaid (map string_bytes words.now) halted.now.stop halted.now.about
         (E.Out.state err.old) (E.Out.state err.new) }
 {
@@ -67,7 +65,6 @@ pub(crate) fn report<E: Out>(alloc: Global, err: &mut E, words: &[String], halte
 }
 
 fn write_time<E: Out>(err: &mut E, seconds: u32, bound: u32) -> Result<(), WriteFault>
-    requires err { (E.Out.state err.old).failures < 2 ^ 62 }
     ensures written { Writes (E.Out.state err.old) (E.Out.state err.new) (spec.time_line seconds bound) result }
 {
     err.write_parts(&[
@@ -80,7 +77,6 @@ fn write_time<E: Out>(err: &mut E, seconds: u32, bound: u32) -> Result<(), Write
 }
 
 fn say_time<E: Out>(err: &mut E, seconds: u32, bound: u32)
-    requires err { (E.Out.state err.old).failures < 2 ^ 62 }
     ensures written { IsReported (E.Out.state err.old) (E.Out.state err.new) (spec.time_line seconds bound) }
 {
     if write_time(err, seconds, bound).is_ok() {
@@ -90,7 +86,6 @@ fn say_time<E: Out>(err: &mut E, seconds: u32, bound: u32)
 
 /// Writes to standard error, where time was over for a run that goes on, how many seconds it had and behind how many statements that was.
 pub(crate) fn tell_time<E: Out>(err: &mut E, outcome: &Outcome, words: &RunWords<'_>)
-    requires err { (E.Out.state err.old).failures < 2 ^ 62 }
     ensures told { spec.IsTimeTold outcome.now words.now (E.Out.state err.old) (E.Out.state err.new) }
 {
     match outcome {
@@ -105,7 +100,6 @@ pub(crate) fn tell_time<E: Out>(err: &mut E, outcome: &Outcome, words: &RunWords
 
 /// The same of what was found.
 pub(crate) fn tell_found_in_time<E: Out>(err: &mut E, found: &Found<'_>)
-    requires err { (E.Out.state err.old).failures < 2 ^ 62 }
     ensures told { spec.IsFoundInTime found.now (E.Out.state err.old) (E.Out.state err.new) }
 {
     match found {

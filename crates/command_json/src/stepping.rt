@@ -29,7 +29,6 @@ fn stream_lines<'a, V: Watch, O: Out>(
     out: &mut O,
 ) -> Result<Outcome, Stop<'a>>
     requires fits { length steps.now.input.items ≤ total_size steps.now.loaded.program.layout }
-    requires out { (O.Out.state out.old).failures < 2 ^ 62 }
     ensures outcome { IfOk result (IsOutcomeOf steps.now) }
     ensures lines { OnOk result (WroteJson (O.Out.state out.old) (O.Out.state out.new)
         (spec.first_behind steps.now [] (entries_of steps.now))) }
@@ -67,7 +66,6 @@ fn write_run<'a, V: Watch, O: Out>(
     out: &mut O,
 ) -> Result<Outcome, Stop<'a>>
     requires fits { length steps.now.input.items ≤ total_size steps.now.loaded.program.layout }
-    requires out { (O.Out.state out.old).failures < 2 ^ 62 }
     ensures told { spec.IsToldBehind steps.now [] (O.Out.state out.old) (O.Out.state out.new) result }
 {
     let outcome = stream_lines(alloc, steps, watch, out)?;
@@ -95,7 +93,6 @@ pub(crate) fn write_stepped<'a, V: Watch, O: Out>(
     out: &mut O,
 ) -> Result<Outcome, Stop<'a>>
     requires fits { length steps.now.input.items ≤ total_size steps.now.loaded.program.layout }
-    requires out { (O.Out.state out.old).failures < 2 ^ 62 }
     ensures told { spec.IsToldBy steps.now (O.Out.state out.old) (O.Out.state out.new) result }
 {
     let line = opening_line(alloc, steps)?;

@@ -136,7 +136,6 @@ pub(crate) fn write_found<'a, O: Out>(
     found: &Found<'_>,
     out: &mut O,
 ) -> Result<Status, Stop<'a>>
-    requires out { (O.Out.state out.old).failures < 2 ^ 62 }
     ensures written { spec.WritesFound found.now (O.Out.state out.old) (O.Out.state out.new) result }
 {
     let text = text_of(alloc, found)?;

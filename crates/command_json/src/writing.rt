@@ -12,7 +12,6 @@ pub(crate) fn write_json<'a, O: Out>(
     text: &String,
     status: Status,
 ) -> Result<Status, Stop<'a>>
-    requires out { (O.Out.state out.old).failures < 2 ^ 62 }
     ensures written { Wrote status (string_bytes text.now) (O.Out.state out.old) (O.Out.state out.new) result }
 {
     out.write_all(text.as_bytes())?;

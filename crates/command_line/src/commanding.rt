@@ -55,8 +55,6 @@ pub fn command<
     out: &mut O,
     err: &mut E,
 ) -> Status
-    requires out { (O.Out.state out.old).failures < 2 ^ 62 }
-    requires err { (E.Out.state err.old).failures < 2 ^ 62 }
     ensures leaves { spec.LeavesAs (S.Sources.holds sources.old) terminal (map string_bytes words.now)
         (O.Out.state out.old) (O.Out.state out.new) (E.Out.state err.old) (E.Out.state err.new) result }
 {

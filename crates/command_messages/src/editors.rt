@@ -17,7 +17,6 @@ fn write_message_for<W: Out>(
     halted: &Halted<'_>,
     message: &Message,
 ) -> Result<(), WriteFault>
-    requires counted { (W.Out.state out.old).failures < 2 ^ 63 }
     ensures written { Writes (W.Out.state out.old) (W.Out.state out.new)
         (spec.editor_text halted.now.stop halted.now.about (message_is message.now)) result }
 {
@@ -30,7 +29,6 @@ fn write_message_for<W: Out>(
 
 // The line of the refusal, and that memory for the rest was refused.
 fn write_unsaid<W: Out>(out: &mut W, halted: &Halted<'_>) -> Result<(), WriteFault>
-    requires counted { (W.Out.state out.old).failures < 2 ^ 63 }
     ensures written { Writes (W.Out.state out.old) (W.Out.state out.new)
         (spec.unsaid_text halted.now.stop halted.now.about) result }
 {
@@ -46,7 +44,6 @@ pub fn write_for_editors<W: Out>(
     words: &[String],
     halted: &Halted<'_>,
 ) -> Result<(), WriteFault>
-    requires counted { (W.Out.state out.old).failures < 2 ^ 63 }
     ensures written { (text : List ℕ)
         × spec.IsForEditors (map string_bytes words.now) halted.now.stop halted.now.about text
         × Writes (W.Out.state out.old) (W.Out.state out.new) text result }

@@ -32,7 +32,6 @@ fn write_watched<'a, 'b, V: Watch, O: Out>(
     out: &mut O,
 ) -> Result<FoundRun<'b>, Stop<'a>>
     requires fits { length steps.input.items ≤ total_size steps.loaded.program.layout }
-    requires out { (O.Out.state out.old).failures < 2 ^ 62 }
     ensures told { IsToldRun on steps.entry (O.Out.state out.old) (O.Out.state out.new) result }
 {
     if on.output {
@@ -54,8 +53,6 @@ fn tell_steps<V: Watch, O: Out, E: Out>(
     err: &mut E,
 ) -> Status
     requires fits { length steps.input.items ≤ total_size steps.loaded.program.layout }
-    requires out { (O.Out.state out.old).failures < 2 ^ 62 }
-    requires err { (E.Out.state err.old).failures < 2 ^ 62 }
     ensures leaves { LeavesFound on (map string_bytes words.now) (Found.Stepped steps.entry) (O.Out.state out.old) (O.Out.state out.new)
         (E.Out.state err.old) (E.Out.state err.new) result }
 {
@@ -82,8 +79,6 @@ fn tell<V: Watch, O: Out, E: Out>(
     err: &mut E,
 ) -> Status
     requires settled { IsSettled found.now }
-    requires out { (O.Out.state out.old).failures < 2 ^ 62 }
-    requires err { (E.Out.state err.old).failures < 2 ^ 62 }
     ensures leaves { LeavesFound on (map string_bytes words.now) found.now (O.Out.state out.old) (O.Out.state out.new)
         (E.Out.state err.old) (E.Out.state err.new) result }
 {
@@ -111,8 +106,6 @@ fn tell_found<V: Watch, O: Out, E: Out>(
     err: &mut E,
 ) -> Status
     requires fits { FitsIn found }
-    requires out { (O.Out.state out.old).failures < 2 ^ 62 }
-    requires err { (E.Out.state err.old).failures < 2 ^ 62 }
     ensures leaves { LeavesFound on (map string_bytes words.now) found.entry (O.Out.state out.old) (O.Out.state out.new)
         (E.Out.state err.old) (E.Out.state err.new) result }
 {
@@ -135,8 +128,6 @@ fn answer_request<R: Threads + Wait + Sync, S: Sources, V: Watch + Gate + Sync, 
     out: &mut O,
     err: &mut E,
 ) -> Status
-    requires out { (O.Out.state out.old).failures < 2 ^ 62 }
-    requires err { (E.Out.state err.old).failures < 2 ^ 62 }
     ensures leaves { Leaves (S.Sources.holds sources.old) on (map string_bytes words.now) (Ok request.entry)
         (O.Out.state out.old) (O.Out.state out.new) (E.Out.state err.old) (E.Out.state err.new) result }
 {
@@ -179,8 +170,6 @@ pub fn answer<'a, R: Threads + Wait + Sync, S: Sources, V: Watch + Gate + Sync, 
     out: &mut O,
     err: &mut E,
 ) -> Status
-    requires out { (O.Out.state out.old).failures < 2 ^ 62 }
-    requires err { (E.Out.state err.old).failures < 2 ^ 62 }
     ensures leaves { Leaves (S.Sources.holds sources.old) on (map string_bytes words.now) asked.entry
         (O.Out.state out.old) (O.Out.state out.new) (E.Out.state err.old) (E.Out.state err.new) result }
 {

@@ -47,7 +47,6 @@ fn write_behind<E: Out>(
     halted: &Halted<'_>,
     wrong: Option<Given>,
 ) -> Result<(), WriteFault>
-    requires err { (E.Out.state err.old).failures < 2 ^ 62 }
     requires wrong { spec.IsWrongOf (map string_bytes words.now) halted.now.stop wrong }
     ensures written { (said : List ℕ) × spec.IsSaidBehind (map string_bytes words.now) halted.now.stop halted.now.about said
         × Writes (E.Out.state err.old) (E.Out.state err.new) said result }
@@ -66,7 +65,6 @@ fn write_in_words<E: Out>(
     halted: &Halted<'_>,
     explains: bool,
 ) -> Result<(), WriteFault>
-    requires err { (E.Out.state err.old).failures < 2 ^ 62 }
     ensures written { (text : List ℕ)
         × spec.IsInWords explains (map string_bytes words.now) halted.now.stop halted.now.about text
         × Writes (E.Out.state err.old) (E.Out.state err.new) text result }
@@ -87,7 +85,6 @@ fn write_halt<E: Out>(
     halted: &Halted<'_>,
     on: Terminal,
 ) -> Result<(), WriteFault>
-    requires err { (E.Out.state err.old).failures < 2 ^ 62 }
     ensures written { (text : List ℕ)
         × spec.IsTold on.gnu on.errors (map string_bytes words.now) halted.now.stop halted.now.about text
         × Writes (E.Out.state err.old) (E.Out.state err.new) text result }
@@ -107,7 +104,6 @@ pub(crate) fn report<E: Out>(
     halted: &Halted<'_>,
     on: Terminal,
 )
-    requires err { (E.Out.state err.old).failures < 2 ^ 62 }
     ensures written { spec.IsRefusalReported on (map string_bytes words.now) halted.now.stop halted.now.about
         (E.Out.state err.old) (E.Out.state err.new) }
 {
@@ -142,7 +138,6 @@ fn say_run_fault<V: Watch, E: Out>(
     run: &FoundRun<'_>,
     fault: &Fault,
 )
-    requires err { (E.Out.state err.old).failures < 2 ^ 62 }
     ensures written { (why : Why) × spec.IsReasonOf run.now why × IsReported (E.Out.state err.old) (E.Out.state err.new)
         (fault_diagnosis run.now.loaded.source run.now.loaded.program.layout fault.now why) }
 {
@@ -155,7 +150,6 @@ fn say_run_fault<V: Watch, E: Out>(
 }
 
 fn write_bound<E: Out>(err: &mut E, bound: u32) -> Result<(), WriteFault>
-    requires err { (E.Out.state err.old).failures < 2 ^ 62 }
     ensures written { Writes (E.Out.state err.old) (E.Out.state err.new) (spec.bound_sentence bound) result }
 {
     let mut digits = Buffer::new();
@@ -167,7 +161,6 @@ fn write_bound<E: Out>(err: &mut E, bound: u32) -> Result<(), WriteFault>
 }
 
 fn write_cycle<E: Out>(err: &mut E, cycle: Cycle) -> Result<(), WriteFault>
-    requires err { (E.Out.state err.old).failures < 2 ^ 62 }
     ensures written { Writes (E.Out.state err.old) (E.Out.state err.new) (spec.cycle_sentence cycle) result }
 {
     err.write_parts(&[
@@ -194,7 +187,6 @@ fn cycle_of<V: Watch>(alloc: Global, watch: &mut V, run: &FoundRun<'_>) -> Optio
 }
 
 fn write_bound_of<E: Out>(err: &mut E, bound: u32, cycle: Option<Cycle>) -> Result<(), WriteFault>
-    requires err { (E.Out.state err.old).failures < 2 ^ 62 }
     ensures written { Writes (E.Out.state err.old) (E.Out.state err.new) (spec.bound_sentence bound ++ spec.cycle_text cycle) result }
 {
     write_bound(err, bound)?;
@@ -206,7 +198,6 @@ fn write_bound_of<E: Out>(err: &mut E, bound: u32, cycle: Option<Cycle>) -> Resu
 
 // Writes that a run met its bound, and that it never ends where that is known.
 fn say_bound<V: Watch, E: Out>(alloc: Global, watch: &mut V, err: &mut E, run: &FoundRun<'_>)
-    requires err { (E.Out.state err.old).failures < 2 ^ 62 }
     ensures written { spec.IsBoundSaid run.now (E.Out.state err.old) (E.Out.state err.new) }
 {
     let cycle = cycle_of(alloc, watch, run);
@@ -216,7 +207,6 @@ fn say_bound<V: Watch, E: Out>(alloc: Global, watch: &mut V, err: &mut E, run: &
 }
 
 fn write_time<E: Out>(err: &mut E, seconds: u32, bound: u32) -> Result<(), WriteFault>
-    requires err { (E.Out.state err.old).failures < 2 ^ 62 }
     ensures written { Writes (E.Out.state err.old) (E.Out.state err.new) (spec.time_sentence seconds bound) result }
 {
     err.write_parts(&[
@@ -230,7 +220,6 @@ fn write_time<E: Out>(err: &mut E, seconds: u32, bound: u32) -> Result<(), Write
 
 // Writes that there was no more time for a run.
 fn say_time<E: Out>(err: &mut E, seconds: u32, bound: u32)
-    requires err { (E.Out.state err.old).failures < 2 ^ 62 }
     ensures written { IsReported (E.Out.state err.old) (E.Out.state err.new) (spec.time_sentence seconds bound) }
 {
     if write_time(err, seconds, bound).is_ok() {
@@ -246,7 +235,6 @@ fn say_limit<V: Watch, E: Out>(
     run: &FoundRun<'_>,
     explains: bool,
 )
-    requires err { (E.Out.state err.old).failures < 2 ^ 62 }
     ensures left { spec.IsLimitSaid explains run.now.words.seconds run.now (E.Out.state err.old) (E.Out.state err.new) }
 {
     match run.words.seconds {
@@ -268,7 +256,6 @@ pub(crate) fn explain_run<V: Watch, E: Out>(
     run: &FoundRun<'_>,
     explains: bool,
 )
-    requires err { (E.Out.state err.old).failures < 2 ^ 62 }
     ensures left { spec.IsRunExplained explains run.now run.now.outcome (E.Out.state err.old) (E.Out.state err.new) }
 {
     match &run.outcome {
@@ -284,7 +271,6 @@ pub(crate) fn explain_run<V: Watch, E: Out>(
 
 // Writes what is said of the fault of code.
 fn say_code_fault<E: Out>(alloc: Global, err: &mut E, run: &FoundCode<'_>, fault: &Fault)
-    requires err { (E.Out.state err.old).failures < 2 ^ 62 }
     ensures written { IsReported (E.Out.state err.old) (E.Out.state err.new) (fault_sentence run.now.code.layout fault.now unknown) }
 {
     let reason = Reason::unknown(alloc);
@@ -294,7 +280,6 @@ fn say_code_fault<E: Out>(alloc: Global, err: &mut E, run: &FoundCode<'_>, fault
 }
 
 fn explain_code<E: Out>(alloc: Global, err: &mut E, run: &FoundCode<'_>, explains: bool)
-    requires err { (E.Out.state err.old).failures < 2 ^ 62 }
     ensures left { spec.IsCodeExplained explains run.now run.now.outcome (E.Out.state err.old) (E.Out.state err.new) }
 {
     if !explains {
@@ -315,7 +300,6 @@ pub(crate) fn explain<V: Watch, E: Out>(
     found: &Found<'_>,
     explains: bool,
 )
-    requires err { (E.Out.state err.old).failures < 2 ^ 62 }
     ensures left { spec.IsExplained explains found.now (E.Out.state err.old) (E.Out.state err.new) }
 {
     match found {

@@ -33,7 +33,6 @@ fn write_flow_of<'a, V: Watch, O: Out>(
     requires form { steps.now.words.form ≡ Form.Flow }
     requires fits { length steps.now.input.items ≤ total_size steps.now.loaded.program.layout }
     requires only { only.now ≡ spans.chosen_spans steps.now.loaded.program.layout steps.now.words.shown }
-    requires out { (O.Out.state out.old).failures < 2 ^ 62 }
     ensures outcome { IfOk result (IsOutcomeOf steps.now) }
     ensures flow { IfOk result (λ o. O.Out.state out.new
         ≡ with_bytes (O.Out.state out.old) (texts.flow_text (with_outcome steps.now o) (entries_of steps.now))) }
@@ -73,7 +72,6 @@ pub(crate) fn write_as_flow<'a, V: Watch, O: Out>(
 ) -> Result<Outcome, Stop<'a>>
     requires form { steps.now.words.form ≡ Form.Flow }
     requires fits { length steps.now.input.items ≤ total_size steps.now.loaded.program.layout }
-    requires out { (O.Out.state out.old).failures < 2 ^ 62 }
     ensures told { (on : Terminal) → stepped.IsToldBy on steps.now (O.Out.state out.old) (O.Out.state out.new) result }
 {
     let layout = steps.loaded.program.layout();

@@ -25,7 +25,6 @@ fn write_page_of<'a, V: Watch, O: Out>(
 ) -> Result<Outcome, Stop<'a>>
     requires form { steps.now.words.form ≡ Form.Page }
     requires fits { length steps.now.input.items ≤ total_size steps.now.loaded.program.layout }
-    requires out { (O.Out.state out.old).failures < 2 ^ 62 }
     ensures outcome { IfOk result (IsOutcomeOf steps.now) }
     ensures page { IfOk result (stepped.IsPageTaken steps.now (O.Out.state out.old) (O.Out.state out.new)) }
     ensures cut { IfErr result (λ why. (on : Terminal) → stepped.IsCutOff on steps.now (O.Out.state out.old) (O.Out.state out.new) why) }
@@ -64,7 +63,6 @@ pub(crate) fn write_as_page<'a, V: Watch, O: Out>(
 ) -> Result<Outcome, Stop<'a>>
     requires form { steps.now.words.form ≡ Form.Page }
     requires fits { length steps.now.input.items ≤ total_size steps.now.loaded.program.layout }
-    requires out { (O.Out.state out.old).failures < 2 ^ 62 }
     ensures told { (on : Terminal) → stepped.IsToldBy on steps.now (O.Out.state out.old) (O.Out.state out.new) result }
 {
     let outcome = write_page_of(alloc, steps, watch, out)?;

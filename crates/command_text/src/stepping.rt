@@ -119,7 +119,6 @@ fn stream_lines<'a, V: Watch, O: Out>(
     out: &mut O,
 ) -> Result<Outcome, Stop<'a>>
     requires fits { length steps.now.input.items ≤ total_size steps.now.loaded.program.layout }
-    requires out { (O.Out.state out.old).failures < 2 ^ 62 }
     ensures outcome { IfOk result (IsOutcomeOf steps.now) }
     ensures lines { OnOk result (O.Out.state out.new
         ≡ with_bytes (O.Out.state out.old) (stepped.lines_of steps.now telling.now (entries_of steps.now))) }
@@ -154,7 +153,6 @@ fn write_ending<'a, O: Out>(
     outcome: &Outcome,
     out: &mut O,
 ) -> Result<Status, Stop<'a>>
-    requires out { (O.Out.state out.old).failures < 2 ^ 62 }
     ensures written { Wrote (status_of outcome.now) (shown layout.now (verdict_of outcome.now))
         (O.Out.state out.old) (O.Out.state out.new) result }
 {
@@ -172,7 +170,6 @@ fn write_in_words<'a, V: Watch, O: Out>(
 ) -> Result<Outcome, Stop<'a>>
     requires form { steps.now.words.form ≡ Form.Words }
     requires fits { length steps.now.input.items ≤ total_size steps.now.loaded.program.layout }
-    requires out { (O.Out.state out.old).failures < 2 ^ 62 }
     ensures told { stepped.IsToldBy on steps.now (O.Out.state out.old) (O.Out.state out.new) result }
 {
     let text = steps.loaded.source.bytes.as_slice();
@@ -216,7 +213,6 @@ fn write_pictured<'a, O: Out>(
     excerpt: &Excerpt,
     from: usize,
 ) -> Result<Status, Stop<'a>>
-    requires out { (O.Out.state out.old).failures < 2 ^ 62 }
     ensures written { Wrote (status_of outcome.now)
         (picture layout.now text.now (part_of from excerpt.now.whole) (map entry_is excerpt.now.entries.items))
         (O.Out.state out.old) (O.Out.state out.new) result }
@@ -234,7 +230,6 @@ fn write_as_picture<'a, V: Watch, O: Out>(
 ) -> Result<Outcome, Stop<'a>>
     requires form { steps.now.words.form ≡ Form.Picture }
     requires fits { length steps.now.input.items ≤ total_size steps.now.loaded.program.layout }
-    requires out { (O.Out.state out.old).failures < 2 ^ 62 }
     ensures told { (on : Terminal) → stepped.IsToldBy on steps.now (O.Out.state out.old) (O.Out.state out.new) result }
 {
     let (outcome, excerpt) = excerpt_of(alloc, steps, watch)?;
@@ -254,7 +249,6 @@ fn write_flow_behind<'a, 'b, V: Watch, O: Out>(
 ) -> Result<FoundRun<'b>, Stop<'a>>
     requires form { steps.words.form ≡ Form.Flow }
     requires fits { length steps.input.items ≤ total_size steps.loaded.program.layout }
-    requires out { (O.Out.state out.old).failures < 2 ^ 62 }
     ensures told { (on : Terminal) → stepped.IsToldRun on steps.entry (O.Out.state out.old) (O.Out.state out.new) result }
 {
     let outcome = write_as_flow(alloc, &steps, watch, out)?;
@@ -270,7 +264,6 @@ fn write_page_behind<'a, 'b, V: Watch, O: Out>(
 ) -> Result<FoundRun<'b>, Stop<'a>>
     requires form { steps.words.form ≡ Form.Page }
     requires fits { length steps.input.items ≤ total_size steps.loaded.program.layout }
-    requires out { (O.Out.state out.old).failures < 2 ^ 62 }
     ensures told { (on : Terminal) → stepped.IsToldRun on steps.entry (O.Out.state out.old) (O.Out.state out.new) result }
 {
     let outcome = write_as_page(alloc, &steps, watch, out)?;
@@ -287,7 +280,6 @@ fn write_words_behind<'a, 'b, V: Watch, O: Out>(
 ) -> Result<FoundRun<'b>, Stop<'a>>
     requires form { steps.words.form ≡ Form.Words }
     requires fits { length steps.input.items ≤ total_size steps.loaded.program.layout }
-    requires out { (O.Out.state out.old).failures < 2 ^ 62 }
     ensures told { stepped.IsToldRun on steps.entry (O.Out.state out.old) (O.Out.state out.new) result }
 {
     let outcome = write_in_words(alloc, on, &steps, watch, out)?;
@@ -303,7 +295,6 @@ fn write_picture_behind<'a, 'b, V: Watch, O: Out>(
 ) -> Result<FoundRun<'b>, Stop<'a>>
     requires form { steps.words.form ≡ Form.Picture }
     requires fits { length steps.input.items ≤ total_size steps.loaded.program.layout }
-    requires out { (O.Out.state out.old).failures < 2 ^ 62 }
     ensures told { (on : Terminal) → stepped.IsToldRun on steps.entry (O.Out.state out.old) (O.Out.state out.new) result }
 {
     let outcome = write_as_picture(alloc, &steps, watch, out)?;
@@ -323,7 +314,6 @@ pub(crate) fn write_stepped<'a, 'b, V: Watch, O: Out>(
     out: &mut O,
 ) -> Result<FoundRun<'b>, Stop<'a>>
     requires fits { length steps.input.items ≤ total_size steps.loaded.program.layout }
-    requires out { (O.Out.state out.old).failures < 2 ^ 62 }
     ensures told { stepped.IsToldRun on steps.entry (O.Out.state out.old) (O.Out.state out.new) result }
 {
     match steps.words.form {

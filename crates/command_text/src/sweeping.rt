@@ -14,7 +14,6 @@ use text_out::{Out, WriteFault};
 
 // As values separated by commas, or a line each and how they grow.
 fn write_in_words<O: Out>(out: &mut O, swept: &FoundSweep) -> Result<(), WriteFault>
-    requires out { (O.Out.state out.old).failures < 2 ^ 62 }
     ensures written { Writes (O.Out.state out.old) (O.Out.state out.new) (table_text swept.now.csv swept.now) result }
 {
     let name = swept.sweep.name.as_slice();
@@ -26,7 +25,6 @@ fn write_in_words<O: Out>(out: &mut O, swept: &FoundSweep) -> Result<(), WriteFa
 }
 
 fn write_rows<O: Out>(out: &mut O, swept: &FoundSweep) -> Result<(), WriteFault>
-    requires out { (O.Out.state out.old).failures < 2 ^ 62 }
     ensures written { Writes (O.Out.state out.old) (O.Out.state out.new) (swept_text swept.now.form swept.now.csv swept.now) result }
 {
     match swept.form {
@@ -43,7 +41,6 @@ pub(crate) fn write_swept<'a, O: Out>(
     swept: &FoundSweep,
     status: Status,
 ) -> Result<Status, Stop<'a>>
-    requires out { (O.Out.state out.old).failures < 2 ^ 62 }
     ensures written { Wrote status (swept_text swept.now.form swept.now.csv swept.now) (O.Out.state out.old) (O.Out.state out.new) result }
 {
     write_rows(out, swept)?;

@@ -18,7 +18,6 @@ use text_out::Out;
 
 // A run of a program.
 fn write_run<'a, O: Out>(run: &FoundRun<'_>, out: &mut O) -> Result<Status, Stop<'a>>
-    requires out { (O.Out.state out.old).failures < 2 ^ 62 }
     ensures written { WroteSome (status_of run.now.outcome) ⊥ (spec.IsRunText run.now run.now.facts)
         (O.Out.state out.old) (O.Out.state out.new) result }
 {
@@ -32,7 +31,6 @@ fn write_run<'a, O: Out>(run: &FoundRun<'_>, out: &mut O) -> Result<Status, Stop
 
 /// Writes what was found, which takes no memory.
 pub(crate) fn write_found<'a, O: Out>(found: &Found<'_>, out: &mut O) -> Result<Status, Stop<'a>>
-    requires out { (O.Out.state out.old).failures < 2 ^ 62 }
     requires settled { IsSettled found.now }
     ensures written { WroteSome (status_of_found found.now) ⊥ (spec.IsTextOf found.now)
         (O.Out.state out.old) (O.Out.state out.new) result }

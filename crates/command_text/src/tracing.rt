@@ -25,7 +25,6 @@ fn write_cost<O: Out>(
     counts: &Counts,
     rates: Option<(u32, u32)>,
 ) -> Result<(), WriteFault>
-    requires out { (O.Out.state out.old).failures < 2 ^ 62 }
     ensures written { Writes (O.Out.state out.old) (O.Out.state out.new) (spec.rated_text rates counts.now) result }
 {
     match rates {
@@ -41,7 +40,6 @@ fn write_end<O: Out>(
     outcome: &Outcome,
     asked: bool,
 ) -> Result<(), WriteFault>
-    requires out { (O.Out.state out.old).failures < 2 ^ 62 }
     ensures written { Writes (O.Out.state out.old) (O.Out.state out.new)
         (if_asked asked (shown layout.now (verdict_of outcome.now))) result }
 {
@@ -60,7 +58,6 @@ fn write_behind<O: Out>(
     counts: &Counts,
     words: TraceWords,
 ) -> Result<(), WriteFault>
-    requires out { (O.Out.state out.old).failures < 2 ^ 62 }
     ensures written { Writes (O.Out.state out.old) (O.Out.state out.new)
         (spec.behind words (shown layout.now (verdict_of outcome.now)) counts.now) result }
 {
@@ -75,7 +72,6 @@ fn write_told<O: Out>(
     found: &FoundTrace,
     words: TraceWords,
 ) -> Result<(), WriteFault>
-    requires out { (O.Out.state out.old).failures < 2 ^ 62 }
     ensures written { Writes (O.Out.state out.old) (O.Out.state out.new)
         (spec.exchanges_text words (shown layout.now (verdict_of outcome.now)) found.now) result }
 {
@@ -91,7 +87,6 @@ fn write_exchanges<'a, O: Out>(
     found: &FoundTrace,
     words: TraceWords,
 ) -> Result<Status, Stop<'a>>
-    requires out { (O.Out.state out.old).failures < 2 ^ 62 }
     ensures written { Wrote (status_of outcome.now)
         (spec.exchanges_text words (shown layout.now (verdict_of outcome.now)) found.now)
         (O.Out.state out.old) (O.Out.state out.new) result }
@@ -106,7 +101,6 @@ fn write_drawn<'a, O: Out>(
     outcome: &Outcome,
     found: &FoundTrace,
 ) -> Result<Status, Stop<'a>>
-    requires out { (O.Out.state out.old).failures < 2 ^ 62 }
     ensures written { Wrote (status_of outcome.now) (picture found.now.lines.items found.now.ends.items found.now.counts)
         (O.Out.state out.old) (O.Out.state out.new) result }
 {
@@ -120,7 +114,6 @@ pub(crate) fn write_found_trace<'a, O: Out>(
     run: &FoundRun<'_>,
     found: &FoundTrace,
 ) -> Result<Status, Stop<'a>>
-    requires out { (O.Out.state out.old).failures < 2 ^ 62 }
     ensures written { Wrote (status_of run.now.outcome)
         (spec.counts_text run.now.words.form run.now.words.trace (spec.outcome_text run.now) found.now)
         (O.Out.state out.old) (O.Out.state out.new) result }

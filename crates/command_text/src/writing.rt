@@ -46,7 +46,6 @@ pub(crate) fn write_outcome<'a, O: Out>(
     outcome: &Outcome,
     choice: Choice<'_>,
 ) -> Result<Status, Stop<'a>>
-    requires out { (O.Out.state out.old).failures < 2 ^ 62 }
     ensures written { Wrote (status_of outcome.now) (shown_by choice.entry layout.now (verdict_of outcome.now))
         (O.Out.state out.old) (O.Out.state out.new) result }
 {
@@ -61,7 +60,6 @@ fn write_numbers<O: Out>(
     cost: &Cost,
     words: CostWords,
 ) -> Result<(), WriteFault>
-    requires out { (O.Out.state out.old).failures < 2 ^ 62 }
     ensures written { Writes (O.Out.state out.old) (O.Out.state out.new)
         (costs_text (verdict_of outcome.now) cost.now words.schedule words.lines) result }
 {
@@ -81,7 +79,6 @@ fn write_numbers_and_outcome<O: Out>(
     cost: &Cost,
     words: CostWords,
 ) -> Result<(), WriteFault>
-    requires out { (O.Out.state out.old).failures < 2 ^ 62 }
     ensures written { Writes (O.Out.state out.old) (O.Out.state out.new)
         (costs_text (verdict_of outcome.now) cost.now words.schedule words.lines ++ shown layout.now (verdict_of outcome.now)) result }
 {
@@ -97,7 +94,6 @@ pub(crate) fn write_costs<'a, O: Out>(
     cost: &Cost,
     words: CostWords,
 ) -> Result<Status, Stop<'a>>
-    requires out { (O.Out.state out.old).failures < 2 ^ 62 }
     ensures written { Wrote (status_of outcome.now) (costs_text (verdict_of outcome.now) cost.now words.schedule words.lines
         ++ shown layout.now (verdict_of outcome.now))
         (O.Out.state out.old) (O.Out.state out.new) result }
@@ -111,7 +107,6 @@ pub(crate) fn write_rules<'a, O: Out>(
     out: &mut O,
     comparison: &Comparison,
 ) -> Result<Status, Stop<'a>>
-    requires out { (O.Out.state out.old).failures < 2 ^ 62 }
     ensures written { Wrote Done (comparison_text comparison.now)
         (O.Out.state out.old) (O.Out.state out.new) result }
 {
@@ -121,7 +116,6 @@ pub(crate) fn write_rules<'a, O: Out>(
 
 /// Writes a text as it is.
 pub(crate) fn write_text<'a, O: Out>(out: &mut O, text: &[u8]) -> Result<Status, Stop<'a>>
-    requires out { (O.Out.state out.old).failures < 2 ^ 62 }
     ensures written { Wrote Done text.now (O.Out.state out.old) (O.Out.state out.new) result }
 {
     out.write_all(text)?;
@@ -130,7 +124,6 @@ pub(crate) fn write_text<'a, O: Out>(out: &mut O, text: &[u8]) -> Result<Status,
 
 /// Writes the listing of a program's code.
 pub(crate) fn write_plan<'a, O: Out>(out: &mut O, code: &Code) -> Result<Status, Stop<'a>>
-    requires out { (O.Out.state out.old).failures < 2 ^ 62 }
     ensures written { Wrote Done (spelling code.now)
         (O.Out.state out.old) (O.Out.state out.new) result }
 {
@@ -140,7 +133,6 @@ pub(crate) fn write_plan<'a, O: Out>(out: &mut O, code: &Code) -> Result<Status,
 
 /// Writes code as a program in C.
 pub(crate) fn write_export<'a, O: Out>(out: &mut O, code: &Code) -> Result<Status, Stop<'a>>
-    requires out { (O.Out.state out.old).failures < 2 ^ 62 }
     ensures written { Wrote Done (c_text code.now)
         (O.Out.state out.old) (O.Out.state out.new) result }
 {
@@ -155,7 +147,6 @@ pub(crate) fn write_exploration<'a, O: Out>(
     findings: &Findings,
     status: Status,
 ) -> Result<Status, Stop<'a>>
-    requires out { (O.Out.state out.old).failures < 2 ^ 62 }
     ensures written { Wrote status (findings_text layout.now (found_is findings.now))
         (O.Out.state out.old) (O.Out.state out.new) result }
 {
@@ -169,7 +160,6 @@ pub(crate) fn write_pair<'a, O: Out>(
     pair: &FoundPair,
     status: Status,
 ) -> Result<Status, Stop<'a>>
-    requires out { (O.Out.state out.old).failures < 2 ^ 62 }
     ensures written { Wrote status
         (pair_texts.comparison_text pair.now.first.layout pair.now.second.layout (pairs.found_is pair.now.comparison))
         (O.Out.state out.old) (O.Out.state out.new) result }
@@ -181,7 +171,6 @@ pub(crate) fn write_pair<'a, O: Out>(
 
 /// Writes what there is to say of a subject.
 pub(crate) fn write_subject<'a, O: Out>(out: &mut O, subject: Subject) -> Result<Status, Stop<'a>>
-    requires out { (O.Out.state out.old).failures < 2 ^ 62 }
     ensures written { Wrote Done (explanation subject)
         (O.Out.state out.old) (O.Out.state out.new) result }
 {
@@ -191,7 +180,6 @@ pub(crate) fn write_subject<'a, O: Out>(out: &mut O, subject: Subject) -> Result
 
 /// Writes the version.
 pub(crate) fn write_version<'a, O: Out>(out: &mut O) -> Result<Status, Stop<'a>>
-    requires out { (O.Out.state out.old).failures < 2 ^ 62 }
     ensures written { Wrote Done version_text
         (O.Out.state out.old) (O.Out.state out.new) result }
 {
@@ -200,7 +188,6 @@ pub(crate) fn write_version<'a, O: Out>(out: &mut O) -> Result<Status, Stop<'a>>
 }
 
 fn write_version_line<O: Out>(out: &mut O) -> Result<(), WriteFault>
-    requires out { (O.Out.state out.old).failures < 2 ^ 62 }
     ensures written { Writes (O.Out.state out.old) (O.Out.state out.new) version_text result }
 {
     out.write_parts(&[b"pramc ", VERSION.as_bytes(), b"\n"])
@@ -208,7 +195,6 @@ fn write_version_line<O: Out>(out: &mut O) -> Result<(), WriteFault>
 
 /// Writes that a program is accepted.
 pub(crate) fn write_accepted<'a, O: Out>(out: &mut O, program: &Program) -> Result<Status, Stop<'a>>
-    requires out { (O.Out.state out.old).failures < 2 ^ 62 }
     ensures written { Wrote Done (accepted_line program.now)
         (O.Out.state out.old) (O.Out.state out.new) result }
 {
@@ -217,7 +203,6 @@ pub(crate) fn write_accepted<'a, O: Out>(out: &mut O, program: &Program) -> Resu
 }
 
 fn write_accepted_line<O: Out>(out: &mut O, program: &Program) -> Result<(), WriteFault>
-    requires out { (O.Out.state out.old).failures < 2 ^ 62 }
     ensures written { Writes (O.Out.state out.old) (O.Out.state out.new) (accepted_line program.now) result }
 {
     let mut cells = Buffer::new();

@@ -14,7 +14,6 @@ use text_out::{Out, WriteFault};
 
 // How many inputs there are, and on how many both programs come to the same.
 fn write_counts<W: Out>(out: &mut W, comparison: &Comparison) -> Result<(), WriteFault>
-    requires counted { (W.Out.state out.old).failures < 2 ^ 63 }
     ensures written { Writes (W.Out.state out.old) (W.Out.state out.new) (spec.counts_line (found_is comparison.now)) result }
 {
     let mut inputs = Buffer::new();
@@ -35,7 +34,6 @@ fn write_found<W: Out>(
     second: &Layout,
     found: &FoundDifference,
 ) -> Result<(), WriteFault>
-    requires counted { (W.Out.state out.old).failures < 2 ^ 63 }
     ensures written { Writes (W.Out.state out.old) (W.Out.state out.new)
         (spec.differing_line first.now second.now (differing_is found.now)) result }
 {
@@ -52,7 +50,6 @@ fn write_first<W: Out>(
     second: &Layout,
     told: &[FoundDifference],
 ) -> Result<(), WriteFault>
-    requires counted { (W.Out.state out.old).failures < 2 ^ 63 }
     ensures written { Writes (W.Out.state out.old) (W.Out.state out.new)
         (spec.first_line first.now second.now (map differing_is told.now)) result }
 {
@@ -71,7 +68,6 @@ pub fn write_comparison<W: Out>(
     second: &Layout,
     comparison: &Comparison,
 ) -> Result<(), WriteFault>
-    requires counted { (W.Out.state out.old).failures < 2 ^ 63 }
     ensures written { Writes (W.Out.state out.old) (W.Out.state out.new)
         (spec.comparison_text first.now second.now (found_is comparison.now)) result }
 {

@@ -11,7 +11,6 @@ use program_texts::{write_cell, write_fault_text};
 use text_out::{Out, WriteFault};
 
 fn write_value<W: Out>(out: &mut W, value: Option<i64>) -> Result<(), WriteFault>
-    requires counted { (W.Out.state out.old).failures < 2 ^ 63 }
     ensures written { Writes (W.Out.state out.old) (W.Out.state out.new) (spec.value_text value) result }
 {
     match value {
@@ -29,7 +28,6 @@ fn write_values<W: Out>(
     first: Option<i64>,
     second: Option<i64>,
 ) -> Result<(), WriteFault>
-    requires counted { (W.Out.state out.old).failures < 2 ^ 63 }
     ensures written { Writes (W.Out.state out.old) (W.Out.state out.new) (spec.values_text first second) result }
 {
     write_value(out, first)?;
@@ -38,7 +36,6 @@ fn write_values<W: Out>(
 }
 
 fn write_ending<W: Out>(out: &mut W, layout: &Layout, ending: Ending) -> Result<(), WriteFault>
-    requires counted { (W.Out.state out.old).failures < 2 ^ 63 }
     ensures written { Writes (W.Out.state out.old) (W.Out.state out.new) (spec.ending_text layout.now ending) result }
 {
     match ending {
@@ -55,7 +52,6 @@ fn write_endings<W: Out>(
     second_layout: &Layout,
     second: Ending,
 ) -> Result<(), WriteFault>
-    requires counted { (W.Out.state out.old).failures < 2 ^ 63 }
     ensures written { Writes (W.Out.state out.old) (W.Out.state out.new)
         (spec.endings_text first_layout.now first second_layout.now second) result }
 {
@@ -66,7 +62,6 @@ fn write_endings<W: Out>(
 
 // Which item it is that differs, as `output item 1 is `.
 fn write_item<W: Out>(out: &mut W, item: u64) -> Result<(), WriteFault>
-    requires counted { (W.Out.state out.old).failures < 2 ^ 63 }
     ensures written { Writes (W.Out.state out.old) (W.Out.state out.new) (spec.item_text item) result }
 {
     let mut digits = Buffer::new();
@@ -79,7 +74,6 @@ fn write_output<W: Out>(
     first: Option<i64>,
     second: Option<i64>,
 ) -> Result<(), WriteFault>
-    requires counted { (W.Out.state out.old).failures < 2 ^ 63 }
     ensures written { Writes (W.Out.state out.old) (W.Out.state out.new) (spec.output_text item first second) result }
 {
     write_item(out, item)?;
@@ -93,7 +87,6 @@ fn write_unequal_cell<W: Out>(
     first: Option<i64>,
     second: Option<i64>,
 ) -> Result<(), WriteFault>
-    requires counted { (W.Out.state out.old).failures < 2 ^ 63 }
     ensures written { Writes (W.Out.state out.old) (W.Out.state out.new) (spec.unequal_cell_text layout.now cell first second) result }
 {
     write_cell(out, layout, cell as usize)?;
@@ -102,7 +95,6 @@ fn write_unequal_cell<W: Out>(
 }
 
 fn write_excess<W: Out>(out: &mut W, words: &[u8], taken: u64, limit: u64) -> Result<(), WriteFault>
-    requires counted { (W.Out.state out.old).failures < 2 ^ 63 }
     ensures written { Writes (W.Out.state out.old) (W.Out.state out.new) (spec.excess_text words.now taken limit) result }
 {
     let mut more = Buffer::new();
@@ -125,7 +117,6 @@ pub fn write_difference<W: Out>(
     second_layout: &Layout,
     difference: &Difference,
 ) -> Result<(), WriteFault>
-    requires counted { (W.Out.state out.old).failures < 2 ^ 63 }
     ensures written { Writes (W.Out.state out.old) (W.Out.state out.new)
         (spec.difference_text first_layout.now second_layout.now difference.now) result }
 {

@@ -21,7 +21,6 @@ pub fn write_cost<W: Out>(
     schedule: Option<u32>,
     out: &mut W,
 ) -> Result<(), WriteFault>
-    requires counted { (W.Out.state out.old).failures < 2 ^ 63 }
     ensures written { Writes (W.Out.state out.old) (W.Out.state out.new)
         (spec.cost_text (verdict_of outcome.now) cost.now schedule) result }
 {
@@ -36,7 +35,6 @@ pub fn write_cost<W: Out>(
 
 // Time, work and width.
 fn write_work<W: Out>(cost: &Cost, out: &mut W) -> Result<(), WriteFault>
-    requires counted { (W.Out.state out.old).failures < 2 ^ 63 }
     ensures written { Writes (W.Out.state out.old) (W.Out.state out.new) (spec.work_lines cost.now) result }
 {
     let mut time = Buffer::new();
@@ -55,7 +53,6 @@ fn write_work<W: Out>(cost: &Cost, out: &mut W) -> Result<(), WriteFault>
 
 // Reads and writes.
 fn write_accesses<W: Out>(cost: &Cost, out: &mut W) -> Result<(), WriteFault>
-    requires counted { (W.Out.state out.old).failures < 2 ^ 63 }
     ensures written { Writes (W.Out.state out.old) (W.Out.state out.new) (spec.access_lines cost.now) result }
 {
     let mut reads = Buffer::new();
@@ -71,7 +68,6 @@ fn write_accesses<W: Out>(cost: &Cost, out: &mut W) -> Result<(), WriteFault>
 
 // The most exchanges and words, where the run doesn't fault.
 fn write_bound<W: Out>(outcome: &Outcome, cost: &Cost, out: &mut W) -> Result<(), WriteFault>
-    requires counted { (W.Out.state out.old).failures < 2 ^ 63 }
     ensures written { Writes (W.Out.state out.old) (W.Out.state out.new) (spec.bound_lines (verdict_of outcome.now) cost.now) result }
 {
     match outcome {
@@ -82,7 +78,6 @@ fn write_bound<W: Out>(outcome: &Outcome, cost: &Cost, out: &mut W) -> Result<()
 }
 
 fn write_most<W: Out>(cost: &Cost, out: &mut W) -> Result<(), WriteFault>
-    requires counted { (W.Out.state out.old).failures < 2 ^ 63 }
     ensures written { Writes (W.Out.state out.old) (W.Out.state out.new) (spec.most_lines cost.now) result }
 {
     write_exchanges(cost, out)?;
@@ -90,7 +85,6 @@ fn write_most<W: Out>(cost: &Cost, out: &mut W) -> Result<(), WriteFault>
 }
 
 fn write_words<W: Out>(words: Option<u128>, out: &mut W) -> Result<(), WriteFault>
-    requires counted { (W.Out.state out.old).failures < 2 ^ 63 }
     ensures written { Writes (W.Out.state out.old) (W.Out.state out.new) (spec.words_line words) result }
 {
     match words {
@@ -103,7 +97,6 @@ fn write_words<W: Out>(words: Option<u128>, out: &mut W) -> Result<(), WriteFaul
 }
 
 fn write_exchanges<W: Out>(cost: &Cost, out: &mut W) -> Result<(), WriteFault>
-    requires counted { (W.Out.state out.old).failures < 2 ^ 63 }
     ensures written { Writes (W.Out.state out.old) (W.Out.state out.new)
         (spec.fact (codes "exchanges at most ") cost.now.most_exchanges) result }
 {
@@ -117,7 +110,6 @@ fn write_exchanges<W: Out>(cost: &Cost, out: &mut W) -> Result<(), WriteFault>
 
 // The rounds on so many processors.
 fn write_rounds<W: Out>(cost: &Cost, processors: u32, out: &mut W) -> Result<(), WriteFault>
-    requires counted { (W.Out.state out.old).failures < 2 ^ 63 }
     ensures written { Writes (W.Out.state out.old) (W.Out.state out.new) (spec.round_lines cost.now processors) result }
 {
     let mut on = Buffer::new();

@@ -10,7 +10,6 @@ use work_time::LineCost;
 
 // What one line costs.
 fn write_line<W: Out>(out: &mut W, cost: &LineCost) -> Result<(), WriteFault>
-    requires counted { (W.Out.state out.old).failures < 2 ^ 63 }
     ensures written { Writes (W.Out.state out.old) (W.Out.state out.new) (spec.line_text cost.now) result }
 {
     let mut line = Buffer::new();
@@ -36,7 +35,6 @@ fn write_line<W: Out>(out: &mut W, cost: &LineCost) -> Result<(), WriteFault>
 /// Writes what each of these lines costs, as `line 4 times 2 work 9 reads 8 writes 8`. The error is
 /// that the writer failed (E17).
 pub fn write_lines<W: Out>(lines: &[LineCost], out: &mut W) -> Result<(), WriteFault>
-    requires counted { (W.Out.state out.old).failures < 2 ^ 63 }
     ensures written { Writes (W.Out.state out.old) (W.Out.state out.new) (spec.lines_text lines.now) result }
 {
     for cost in lines {

@@ -105,7 +105,6 @@ fn write_declared<W: Out>(
     sort: Sort,
     line: u32,
 ) -> Result<(), WriteFault>
-    requires counted { (W.Out.state out.old).failures < 2 ^ 63 }
     ensures written { Writes (W.Out.state out.old) (W.Out.state out.new) (spec.declared_text cause sort line) result }
 {
     let mut digits = Digits::new();
@@ -120,7 +119,6 @@ fn write_declared<W: Out>(
 }
 
 fn write_misplaced<W: Out>(out: &mut W, sort: Sort, line: u32, role: Role) -> Result<(), WriteFault>
-    requires counted { (W.Out.state out.old).failures < 2 ^ 63 }
     ensures written { Writes (W.Out.state out.old) (W.Out.state out.new) (spec.misplaced_text sort line role) result }
 {
     let mut digits = Digits::new();
@@ -135,7 +133,6 @@ fn write_misplaced<W: Out>(out: &mut W, sort: Sort, line: u32, role: Role) -> Re
 }
 
 fn write_elsewhere<W: Out>(out: &mut W, sort: Sort, line: u32) -> Result<(), WriteFault>
-    requires counted { (W.Out.state out.old).failures < 2 ^ 63 }
     ensures written { Writes (W.Out.state out.old) (W.Out.state out.new) (spec.elsewhere_text sort line) result }
 {
     let mut digits = Digits::new();
@@ -155,7 +152,6 @@ fn write_remarked<W: Out>(
     cause: Cause,
     remark: &Remark,
 ) -> Result<(), WriteFault>
-    requires counted { (W.Out.state out.old).failures < 2 ^ 63 }
     ensures written { Writes (W.Out.state out.old) (W.Out.state out.new) (spec.remarked word.now cause (remark_is remark.now)) result }
 {
     match remark {
@@ -193,7 +189,6 @@ fn write_named<W: Out>(
     cause: Cause,
     remark: &Remark,
 ) -> Result<(), WriteFault>
-    requires counted { (W.Out.state out.old).failures < 2 ^ 63 }
     ensures written { Writes (W.Out.state out.old) (W.Out.state out.new) (spec.named_sentence word.now cause (remark_is remark.now)) result }
 {
     write_quoted(out, word)?;
@@ -206,7 +201,6 @@ fn write_sentence<W: Out>(
     cause: Cause,
     remark: &Remark,
 ) -> Result<(), WriteFault>
-    requires counted { (W.Out.state out.old).failures < 2 ^ 63 }
     ensures written { Writes (W.Out.state out.old) (W.Out.state out.new) (spec.breach_sentence word.now cause (remark_is remark.now)) result }
 {
     match cause {
@@ -217,7 +211,6 @@ fn write_sentence<W: Out>(
 
 // What is said of a name in a memory.
 fn write_unnamed<W: Out>(out: &mut W, word: &[u8]) -> Result<(), WriteFault>
-    requires counted { (W.Out.state out.old).failures < 2 ^ 63 }
     ensures written { Writes (W.Out.state out.old) (W.Out.state out.new) (spec.unnamed word.now) result }
 {
     write_quoted(out, word)?;
@@ -232,7 +225,6 @@ fn write_said<W: Out>(
     cause: Cause,
     remark: &Remark,
 ) -> Result<(), WriteFault>
-    requires counted { (W.Out.state out.old).failures < 2 ^ 63 }
     ensures written { Writes (W.Out.state out.old) (W.Out.state out.new) (spec.said_of kind word.now cause (remark_is remark.now)) result }
 {
     match kind {

@@ -49,7 +49,6 @@ fn write_between<W: Out>(
     operator: Binary,
     right: i64,
 ) -> Result<(), WriteFault>
-    requires counted { (W.Out.state out.old).failures < 2 ^ 63 }
     ensures written { Writes (W.Out.state out.old) (W.Out.state out.new) (spec.between_text kind left operator right) result }
 {
     let mut first = Buffer::new();
@@ -73,7 +72,6 @@ fn write_before<W: Out>(
     operator: Prefix,
     operand: i64,
 ) -> Result<(), WriteFault>
-    requires counted { (W.Out.state out.old).failures < 2 ^ 63 }
     ensures written { Writes (W.Out.state out.old) (W.Out.state out.new) (spec.before_text kind operator operand) result }
 {
     let mut digits = Buffer::new();
@@ -88,7 +86,6 @@ fn write_before<W: Out>(
 
 // The name of an array, with a subscript that it has not.
 fn write_named<W: Out>(out: &mut W, name: &[u8], subscript: &i64) -> Result<(), WriteFault>
-    requires counted { (W.Out.state out.old).failures < 2 ^ 63 }
     ensures written { Writes (W.Out.state out.old) (W.Out.state out.new) (spec.named_text name.now subscript.now) result }
 {
     let mut digits = Buffer::new();
@@ -102,7 +99,6 @@ fn write_named<W: Out>(out: &mut W, name: &[u8], subscript: &i64) -> Result<(), 
 
 // The name of an array, with its bounds.
 fn write_bounds<W: Out>(out: &mut W, name: &[u8], range: &Range) -> Result<(), WriteFault>
-    requires counted { (W.Out.state out.old).failures < 2 ^ 63 }
     ensures written { Writes (W.Out.state out.old) (W.Out.state out.new)
         (spec.bounds_text name.now range.now.low range.now.high) result }
 {
@@ -125,7 +121,6 @@ fn write_outside<W: Out>(
     subscript: &i64,
     range: &Range,
 ) -> Result<(), WriteFault>
-    requires counted { (W.Out.state out.old).failures < 2 ^ 63 }
     ensures written { Writes (W.Out.state out.old) (W.Out.state out.new)
         (spec.outside_text name.now subscript.now range.now.low range.now.high) result }
 {
@@ -140,7 +135,6 @@ fn write_subscript<W: Out>(
     entry: usize,
     subscript: &i64,
 ) -> Result<(), WriteFault>
-    requires counted { (W.Out.state out.old).failures < 2 ^ 63 }
     requires entry { entry < length layout.now }
     ensures written { IfSome (slice_get layout.now entry) (λ e. Writes (W.Out.state out.old) (W.Out.state out.new)
         (spec.subscript_text subscript.now e) result) }
@@ -156,7 +150,6 @@ fn write_beyond<W: Out>(
     entry: usize,
     subscript: &i64,
 ) -> Result<(), WriteFault>
-    requires counted { (W.Out.state out.old).failures < 2 ^ 63 }
     ensures written { Writes (W.Out.state out.old) (W.Out.state out.new)
         (spec.beyond_text subscript.now (slice_get layout.now entry)) result }
 {
@@ -179,7 +172,6 @@ fn indices(low: i64, high: i64) -> u128
 }
 
 fn write_wide<W: Out>(out: &mut W, low: i64, high: i64, procs: u32) -> Result<(), WriteFault>
-    requires counted { (W.Out.state out.old).failures < 2 ^ 63 }
     ensures written { Writes (W.Out.state out.old) (W.Out.state out.new) (spec.wide_text low high procs) result }
 {
     let mut first = Buffer::new();
@@ -200,7 +192,6 @@ fn write_wide<W: Out>(out: &mut W, low: i64, high: i64, procs: u32) -> Result<()
 
 // A write, behind this mark.
 fn write_one<W: Out>(out: &mut W, mark: &[u8], write: &Write) -> Result<(), WriteFault>
-    requires counted { (W.Out.state out.old).failures < 2 ^ 63 }
     ensures written { Writes (W.Out.state out.old) (W.Out.state out.new) (spec.write_text mark.now write.now) result }
 {
     let mut processor = Buffer::new();
@@ -216,7 +207,6 @@ fn write_one<W: Out>(out: &mut W, mark: &[u8], write: &Write) -> Result<(), Writ
 
 // Writes, each behind a comma.
 fn write_others<W: Out>(out: &mut W, writes: &[Write]) -> Result<(), WriteFault>
-    requires counted { (W.Out.state out.old).failures < 2 ^ 63 }
     ensures written { Writes (W.Out.state out.old) (W.Out.state out.new) (spec.writes_text (codes ",") writes.now) result }
 {
     for write in writes {
@@ -227,7 +217,6 @@ fn write_others<W: Out>(out: &mut W, writes: &[Write]) -> Result<(), WriteFault>
 
 // A first write behind a semicolon, and those behind it.
 fn write_first<W: Out>(out: &mut W, first: &Write, rest: &[Write]) -> Result<(), WriteFault>
-    requires counted { (W.Out.state out.old).failures < 2 ^ 63 }
     ensures written { Writes (W.Out.state out.old) (W.Out.state out.new) (spec.writes_text (codes ";") (first.now ∷ rest.now)) result }
 {
     write_one(out, b";", first)?;
@@ -236,7 +225,6 @@ fn write_first<W: Out>(out: &mut W, first: &Write, rest: &[Write]) -> Result<(),
 
 // Writes, the first behind a semicolon.
 fn write_listed<W: Out>(out: &mut W, writes: &[Write]) -> Result<(), WriteFault>
-    requires counted { (W.Out.state out.old).failures < 2 ^ 63 }
     ensures written { Writes (W.Out.state out.old) (W.Out.state out.new) (spec.writes_text (codes ";") writes.now) result }
 {
     match writes.split_first() {
@@ -247,7 +235,6 @@ fn write_listed<W: Out>(out: &mut W, writes: &[Write]) -> Result<(), WriteFault>
 
 // How many writes there are more.
 fn write_more<W: Out>(out: &mut W, more: usize) -> Result<(), WriteFault>
-    requires counted { (W.Out.state out.old).failures < 2 ^ 63 }
     ensures written { Writes (W.Out.state out.old) (W.Out.state out.new) (spec.more_text more) result }
 {
     if more == 0 {
@@ -275,7 +262,6 @@ fn more_writes(writes: &[Write]) -> usize
 }
 
 fn write_writers<W: Out>(out: &mut W, writes: &[Write]) -> Result<(), WriteFault>
-    requires counted { (W.Out.state out.old).failures < 2 ^ 63 }
     ensures written { Writes (W.Out.state out.old) (W.Out.state out.new) (spec.writers_text writes.now) result }
 {
     write_listed(out, first_writes(writes))?;
@@ -283,7 +269,6 @@ fn write_writers<W: Out>(out: &mut W, writes: &[Write]) -> Result<(), WriteFault
 }
 
 fn write_writing<W: Out>(out: &mut W, kind: Kind, writes: &[Write]) -> Result<(), WriteFault>
-    requires counted { (W.Out.state out.old).failures < 2 ^ 63 }
     ensures written { Writes (W.Out.state out.old) (W.Out.state out.new) (spec.writing_text kind writes.now) result }
 {
     out.write_all(kind_sentence(kind))?;
@@ -298,7 +283,6 @@ pub(crate) fn write_cause<W: Out>(
     who: &[i64],
     cause: &Cause,
 ) -> Result<(), WriteFault>
-    requires counted { (W.Out.state out.old).failures < 2 ^ 63 }
     ensures written { Writes (W.Out.state out.old) (W.Out.state out.new)
         (spec.cause_text layout.now kind who.now (cause_is cause.now)) result }
 {

@@ -47,7 +47,6 @@ fn more_met(who: &[i64]) -> usize
 
 // How many there are more.
 fn write_count<W: Out>(out: &mut W, more: usize) -> Result<(), WriteFault>
-    requires counted { (W.Out.state out.old).failures < 2 ^ 63 }
     ensures written { Writes (W.Out.state out.old) (W.Out.state out.new) (spec.others_text more) result }
 {
     if more == 0 {
@@ -63,7 +62,6 @@ fn write_count<W: Out>(out: &mut W, more: usize) -> Result<(), WriteFault>
 }
 
 fn write_those<W: Out>(out: &mut W, who: &[i64]) -> Result<(), WriteFault>
-    requires counted { (W.Out.state out.old).failures < 2 ^ 63 }
     ensures written { Writes (W.Out.state out.old) (W.Out.state out.new) (spec.those_text who.now) result }
 {
     write_values(out, first_met(who))?;
@@ -71,7 +69,6 @@ fn write_those<W: Out>(out: &mut W, who: &[i64]) -> Result<(), WriteFault>
 }
 
 fn write_some<W: Out>(out: &mut W, who: &[i64]) -> Result<(), WriteFault>
-    requires counted { (W.Out.state out.old).failures < 2 ^ 63 }
     ensures written { Writes (W.Out.state out.old) (W.Out.state out.new) (spec.some_text who.now) result }
 {
     out.write_all(b"; processors")?;
@@ -80,7 +77,6 @@ fn write_some<W: Out>(out: &mut W, who: &[i64]) -> Result<(), WriteFault>
 
 // Those that met, if they are known.
 fn write_met<W: Out>(out: &mut W, who: &[i64]) -> Result<(), WriteFault>
-    requires counted { (W.Out.state out.old).failures < 2 ^ 63 }
     ensures written { Writes (W.Out.state out.old) (W.Out.state out.new) (spec.met_text who.now) result }
 {
     if who.is_empty() {
@@ -92,7 +88,6 @@ fn write_met<W: Out>(out: &mut W, who: &[i64]) -> Result<(), WriteFault>
 
 /// Writes what happened in a fault of this kind, and who met, if they are known.
 pub(crate) fn write_event<W: Out>(out: &mut W, kind: Kind, who: &[i64]) -> Result<(), WriteFault>
-    requires counted { (W.Out.state out.old).failures < 2 ^ 63 }
     ensures written { Writes (W.Out.state out.old) (W.Out.state out.new) (spec.event_text kind who.now) result }
 {
     out.write_all(kind_sentence(kind))?;

@@ -18,7 +18,6 @@ use text_places::{write_excerpt, write_line_excerpt};
 use write_rules::Fault;
 
 fn write_cell_prefix<W: Out>(out: &mut W, layout: &Layout, cell: usize) -> Result<(), WriteFault>
-    requires counted { (W.Out.state out.old).failures < 2 ^ 63 }
     ensures written { Writes (W.Out.state out.old) (W.Out.state out.new) (spec.cell_prefix layout.now cell) result }
 {
     write_cell(out, layout, cell)?;
@@ -27,7 +26,6 @@ fn write_cell_prefix<W: Out>(out: &mut W, layout: &Layout, cell: usize) -> Resul
 
 // Where it happened.
 fn write_prefix<W: Out>(out: &mut W, layout: &Layout, place: Place) -> Result<(), WriteFault>
-    requires counted { (W.Out.state out.old).failures < 2 ^ 63 }
     ensures written { Writes (W.Out.state out.old) (W.Out.state out.new) (spec.place_prefix layout.now place) result }
 {
     match place {
@@ -47,7 +45,6 @@ fn write_known<W: Out>(
     kind: Kind,
     reason: &Reason,
 ) -> Result<(), WriteFault>
-    requires counted { (W.Out.state out.old).failures < 2 ^ 63 }
     ensures written { Writes (W.Out.state out.old) (W.Out.state out.new)
         (spec.known_text layout.now kind (reason_is reason.now).met (reason_is reason.now).cause) result }
 {
@@ -64,7 +61,6 @@ pub fn write_fault_sentence<W: Out>(
     fault: &Fault,
     reason: &Reason,
 ) -> Result<(), WriteFault>
-    requires counted { (W.Out.state out.old).failures < 2 ^ 63 }
     ensures written { Writes (W.Out.state out.old) (W.Out.state out.new)
         (spec.fault_sentence layout.now fault.now (reason_is reason.now)) result }
 {
@@ -79,7 +75,6 @@ fn write_fault_place<W: Out>(
     line: usize,
     at: Option<u32>,
 ) -> Result<(), WriteFault>
-    requires counted { (W.Out.state out.old).failures < 2 ^ 63 }
     ensures written { Writes (W.Out.state out.old) (W.Out.state out.new) (spec.fault_place source.now line at) result }
 {
     let (name, text) = (source.name.as_bytes(), source.bytes.as_slice());
@@ -98,7 +93,6 @@ pub fn write_run_fault<W: Out>(
     fault: &Fault,
     reason: &Reason,
 ) -> Result<(), WriteFault>
-    requires counted { (W.Out.state out.old).failures < 2 ^ 63 }
     ensures written { Writes (W.Out.state out.old) (W.Out.state out.new)
         (spec.fault_diagnosis source.now layout.now fault.now (reason_is reason.now)) result }
 {

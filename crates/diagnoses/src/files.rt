@@ -14,7 +14,6 @@ use text_out::{Buffer, Out, WriteFault};
 use text_places::write_escaped;
 
 fn write_name_end<W: Out>(out: &mut W, name: &[u8]) -> Result<(), WriteFault>
-    requires counted { (W.Out.state out.old).failures < 2 ^ 63 }
     ensures written { Writes (W.Out.state out.old) (W.Out.state out.new) (spec.guess_end name.now) result }
 {
     write_escaped(out, name)?;
@@ -22,7 +21,6 @@ fn write_name_end<W: Out>(out: &mut W, name: &[u8]) -> Result<(), WriteFault>
 }
 
 fn write_guess<W: Out>(out: &mut W, name: &[u8]) -> Result<(), WriteFault>
-    requires counted { (W.Out.state out.old).failures < 2 ^ 63 }
     ensures written { Writes (W.Out.state out.old) (W.Out.state out.new) (spec.guess name.now) result }
 {
     out.write_all(b"did you mean \"")?;

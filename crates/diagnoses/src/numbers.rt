@@ -104,7 +104,6 @@ pub fn write_gnu_about<W: Out>(
     about: &About<'_>,
     message: &Message,
 ) -> Result<(), WriteFault>
-    requires counted { (W.Out.state out.old).failures < 2 ^ 63 }
     ensures written { Writes (W.Out.state out.old) (W.Out.state out.new)
         (spec.gnu_about stop.now about.now (message_is message.now)) result }
 {

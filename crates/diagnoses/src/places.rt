@@ -94,7 +94,6 @@ pub(crate) fn token_at(text: &[u8], at: usize) -> &[u8]
 
 // A text behind a quotation mark.
 fn write_opened<W: Out>(out: &mut W, text: &[u8]) -> Result<(), WriteFault>
-    requires counted { (W.Out.state out.old).failures < 2 ^ 63 }
     ensures written { Writes (W.Out.state out.old) (W.Out.state out.new) (spec.opened text.now) result }
 {
     out.write_all(b"\"")?;
@@ -103,7 +102,6 @@ fn write_opened<W: Out>(out: &mut W, text: &[u8]) -> Result<(), WriteFault>
 
 /// A text in quotation marks.
 pub(crate) fn write_quoted<W: Out>(out: &mut W, text: &[u8]) -> Result<(), WriteFault>
-    requires counted { (W.Out.state out.old).failures < 2 ^ 63 }
     ensures written { Writes (W.Out.state out.old) (W.Out.state out.new) (spec.quoted text.now) result }
 {
     write_opened(out, text)?;

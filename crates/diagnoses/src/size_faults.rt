@@ -38,7 +38,6 @@ fn size_sentence(reason: Reason) -> &'static [u8]
 }
 
 fn write_unknown_size<W: Out>(out: &mut W, word: &[u8]) -> Result<(), WriteFault>
-    requires counted { (W.Out.state out.old).failures < 2 ^ 63 }
     ensures written { Writes (W.Out.state out.old) (W.Out.state out.new) (spec.unknown_size word.now) result }
 {
     write_quoted(out, word)?;
@@ -47,7 +46,6 @@ fn write_unknown_size<W: Out>(out: &mut W, word: &[u8]) -> Result<(), WriteFault
 
 // Why, where that word stands.
 fn write_reason<W: Out>(out: &mut W, word: &[u8], reason: Reason) -> Result<(), WriteFault>
-    requires counted { (W.Out.state out.old).failures < 2 ^ 63 }
     ensures written { Writes (W.Out.state out.old) (W.Out.state out.new) (spec.reason_text word.now reason) result }
 {
     match reason {

@@ -91,7 +91,6 @@ pub fn write_refused_line<W: Out>(
     stop: &Stop<'_>,
     about: &About<'_>,
 ) -> Result<(), WriteFault>
-    requires counted { (W.Out.state out.old).failures < 2 ^ 63 }
     ensures written { Writes (W.Out.state out.old) (W.Out.state out.new) (spec.stop_line stop.now about.now) result }
 {
     match refusal_as_it_stands(stop, about) {

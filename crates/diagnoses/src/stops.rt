@@ -60,7 +60,6 @@ fn of_program(
 }
 
 fn write_too_many<W: Out>(out: &mut W, values: usize, cells: u32) -> Result<(), WriteFault>
-    requires counted { (W.Out.state out.old).failures < 2 ^ 63 }
     ensures written { Writes (W.Out.state out.old) (W.Out.state out.new) (spec.too_many values cells) result }
 {
     let mut count = Digits::new();
@@ -171,7 +170,6 @@ fn reason_sentence(word: &[u8]) -> &'static [u8]
 }
 
 fn write_instruction_fault<W: Out>(out: &mut W, at: u32, word: &[u8]) -> Result<(), WriteFault>
-    requires counted { (W.Out.state out.old).failures < 2 ^ 63 }
     ensures written { Writes (W.Out.state out.old) (W.Out.state out.new) (spec.instruction_fault at word.now) result }
 {
     let mut digits = Digits::new();
@@ -329,7 +327,6 @@ pub fn write_message_about<W: Out>(
     about: &About<'_>,
     message: &Message,
 ) -> Result<(), WriteFault>
-    requires counted { (W.Out.state out.old).failures < 2 ^ 63 }
     ensures written { Writes (W.Out.state out.old) (W.Out.state out.new) (spec.text_about about.now (message_is message.now)) result }
 {
     write_message(out, name_in(about), bytes_in(about), message)
@@ -344,7 +341,6 @@ pub fn write_stop_diagnosis<W: Out>(
     stop: &Stop<'_>,
     about: &About<'_>,
 ) -> Result<(), WriteFault>
-    requires counted { (W.Out.state out.old).failures < 2 ^ 63 }
     ensures written { (text : List ℕ) × spec.IsSaid stop.now about.now text
         × Writes (W.Out.state out.old) (W.Out.state out.new) text result }
 {

@@ -13,7 +13,6 @@ use text_out::{Out, WriteFault};
 use token_choices::{Choice, write_choice, write_choices};
 
 fn write_stranger<W: Out>(out: &mut W, token: &[u8]) -> Result<(), WriteFault>
-    requires counted { (W.Out.state out.old).failures < 2 ^ 63 }
     ensures written { Writes (W.Out.state out.old) (W.Out.state out.new) (spec.stranger token.now) result }
 {
     write_quoted(out, token)?;
@@ -21,7 +20,6 @@ fn write_stranger<W: Out>(out: &mut W, token: &[u8]) -> Result<(), WriteFault>
 }
 
 fn write_could_stand<W: Out>(out: &mut W, found: &[Choice]) -> Result<(), WriteFault>
-    requires counted { (W.Out.state out.old).failures < 2 ^ 63 }
     ensures written { Writes (W.Out.state out.old) (W.Out.state out.new) (spec.could_stand found.now) result }
 {
     out.write_all(b"here could stand ")?;
@@ -30,7 +28,6 @@ fn write_could_stand<W: Out>(out: &mut W, found: &[Choice]) -> Result<(), WriteF
 
 // What could stand there, if that is known.
 fn write_expected<W: Out>(out: &mut W, remark: &Remark) -> Result<(), WriteFault>
-    requires counted { (W.Out.state out.old).failures < 2 ^ 63 }
     ensures written { Writes (W.Out.state out.old) (W.Out.state out.new) (spec.expected (remark_is remark.now)) result }
 {
     match remark {
@@ -44,7 +41,6 @@ fn write_expected<W: Out>(out: &mut W, remark: &Remark) -> Result<(), WriteFault
 }
 
 fn write_open_end<W: Out>(out: &mut W, found: &[Choice]) -> Result<(), WriteFault>
-    requires counted { (W.Out.state out.old).failures < 2 ^ 63 }
     ensures written { Writes (W.Out.state out.old) (W.Out.state out.new) (spec.open_end found.now) result }
 {
     out.write_all(b"the text ends here; ")?;
@@ -52,7 +48,6 @@ fn write_open_end<W: Out>(out: &mut W, found: &[Choice]) -> Result<(), WriteFaul
 }
 
 fn write_bare_end<W: Out>(out: &mut W) -> Result<(), WriteFault>
-    requires counted { (W.Out.state out.old).failures < 2 ^ 63 }
     ensures written { Writes (W.Out.state out.old) (W.Out.state out.new) spec.bare_end result }
 {
     out.write_all(b"the text ends here, and the program does not")
@@ -60,7 +55,6 @@ fn write_bare_end<W: Out>(out: &mut W) -> Result<(), WriteFault>
 
 // The end of a text whose program goes on.
 fn write_ended<W: Out>(out: &mut W, remark: &Remark) -> Result<(), WriteFault>
-    requires counted { (W.Out.state out.old).failures < 2 ^ 63 }
     ensures written { Writes (W.Out.state out.old) (W.Out.state out.new) (spec.ended (remark_is remark.now)) result }
 {
     match remark {
@@ -80,7 +74,6 @@ pub(crate) fn write_bad_sentence<W: Out>(
     at: usize,
     remark: &Remark,
 ) -> Result<(), WriteFault>
-    requires counted { (W.Out.state out.old).failures < 2 ^ 63 }
     ensures written { Writes (W.Out.state out.old) (W.Out.state out.new) (spec.bad_sentence text.now at (remark_is remark.now)) result }
 {
     if text.len() <= at {
@@ -97,7 +90,6 @@ pub(crate) fn write_bad_more<W: Out>(
     at: usize,
     remark: &Remark,
 ) -> Result<(), WriteFault>
-    requires counted { (W.Out.state out.old).failures < 2 ^ 63 }
     ensures written { Writes (W.Out.state out.old) (W.Out.state out.new) (spec.bad_more text.now at (remark_is remark.now)) result }
 {
     if text.len() <= at {
@@ -113,7 +105,6 @@ pub(crate) fn write_named_habit<W: Out>(
     word: &[u8],
     habit: Habit,
 ) -> Result<(), WriteFault>
-    requires counted { (W.Out.state out.old).failures < 2 ^ 63 }
     ensures written { Writes (W.Out.state out.old) (W.Out.state out.new) (spec.named_habit word.now habit) result }
 {
     write_quoted(out, word)?;
@@ -121,7 +112,6 @@ pub(crate) fn write_named_habit<W: Out>(
 }
 
 fn write_kind_here<W: Out>(out: &mut W, choice: Choice) -> Result<(), WriteFault>
-    requires counted { (W.Out.state out.old).failures < 2 ^ 63 }
     ensures written { Writes (W.Out.state out.old) (W.Out.state out.new) (spec.kind_here choice) result }
 {
     write_choice(out, choice)?;
@@ -130,7 +120,6 @@ fn write_kind_here<W: Out>(out: &mut W, choice: Choice) -> Result<(), WriteFault
 
 /// Writes which kind of token is missing.
 pub(crate) fn write_missing_kind<W: Out>(out: &mut W, choice: Choice) -> Result<(), WriteFault>
-    requires counted { (W.Out.state out.old).failures < 2 ^ 63 }
     ensures written { Writes (W.Out.state out.old) (W.Out.state out.new) (spec.missing_sentence choice) result }
 {
     out.write_all(b"expected ")?;
@@ -143,7 +132,6 @@ pub(crate) fn write_open_sentence<W: Out>(
     word: &[u8],
     line: usize,
 ) -> Result<(), WriteFault>
-    requires counted { (W.Out.state out.old).failures < 2 ^ 63 }
     ensures written { Writes (W.Out.state out.old) (W.Out.state out.new) (spec.open_sentence word.now line) result }
 {
     let mut digits = Buffer::new();
@@ -163,7 +151,6 @@ pub(crate) fn write_taken_sentence<W: Out>(
     line: usize,
     by: usize,
 ) -> Result<(), WriteFault>
-    requires counted { (W.Out.state out.old).failures < 2 ^ 63 }
     ensures written { Writes (W.Out.state out.old) (W.Out.state out.new) (spec.taken_sentence word.now line by) result }
 {
     let mut ends = Buffer::new();
@@ -179,7 +166,6 @@ pub(crate) fn write_taken_sentence<W: Out>(
 }
 
 fn write_ended_line<W: Out>(out: &mut W, line: usize) -> Result<(), WriteFault>
-    requires counted { (W.Out.state out.old).failures < 2 ^ 63 }
     ensures written { Writes (W.Out.state out.old) (W.Out.state out.new) (spec.ended_line line) result }
 {
     let mut digits = Buffer::new();
@@ -195,7 +181,6 @@ pub(crate) fn write_behind_end<W: Out>(
     word: &[u8],
     line: usize,
 ) -> Result<(), WriteFault>
-    requires counted { (W.Out.state out.old).failures < 2 ^ 63 }
     ensures written { Writes (W.Out.state out.old) (W.Out.state out.new) (spec.behind_end word.now line) result }
 {
     write_quoted(out, word)?;

@@ -21,7 +21,6 @@ use syntax_hints::stray_sentence;
 use text_out::{Buffer, Out, WriteFault};
 
 fn write_not_ascii<W: Out>(out: &mut W, byte: u8) -> Result<(), WriteFault>
-    requires counted { (W.Out.state out.old).failures < 2 ^ 63 }
     ensures written { Writes (W.Out.state out.old) (W.Out.state out.new) (spec.not_ascii byte) result }
 {
     let mut digits = Digits::new();

@@ -13,7 +13,6 @@ use text_out::{Out, WriteFault};
 
 // How many inputs there are, and how many runs end, fault and go on.
 fn write_counts<W: Out>(out: &mut W, findings: &Findings) -> Result<(), WriteFault>
-    requires counted { (W.Out.state out.old).failures < 2 ^ 63 }
     ensures written { Writes (W.Out.state out.old) (W.Out.state out.new) (spec.counts_text (found_is findings.now)) result }
 {
     let mut inputs = Buffer::new();
@@ -35,7 +34,6 @@ fn write_counts<W: Out>(out: &mut W, findings: &Findings) -> Result<(), WriteFau
 
 // A fault, and the input on which it was met.
 fn write_met<W: Out>(out: &mut W, layout: &Layout, found: &FoundFault) -> Result<(), WriteFault>
-    requires counted { (W.Out.state out.old).failures < 2 ^ 63 }
     ensures written { Writes (W.Out.state out.old) (W.Out.state out.new) (spec.met_line layout.now (met_is found.now)) result }
 {
     write_fault_text(out, layout, &found.fault)?;
@@ -49,7 +47,6 @@ fn write_all_met<W: Out>(
     layout: &Layout,
     faults: &[FoundFault],
 ) -> Result<(), WriteFault>
-    requires counted { (W.Out.state out.old).failures < 2 ^ 63 }
     ensures written { Writes (W.Out.state out.old) (W.Out.state out.new) (spec.met_lines layout.now (map met_is faults.now)) result }
 {
     for found in faults {
@@ -60,7 +57,6 @@ fn write_all_met<W: Out>(
 
 // From the least to the greatest, where there are any.
 fn write_span<W: Out>(out: &mut W, words: &[u8], span: Option<Span>) -> Result<(), WriteFault>
-    requires counted { (W.Out.state out.old).failures < 2 ^ 63 }
     ensures written { Writes (W.Out.state out.old) (W.Out.state out.new) (spec.span_line words.now span) result }
 {
     match span {
@@ -70,7 +66,6 @@ fn write_span<W: Out>(out: &mut W, words: &[u8], span: Option<Span>) -> Result<(
 }
 
 fn write_some_span<W: Out>(out: &mut W, words: &[u8], span: Span) -> Result<(), WriteFault>
-    requires counted { (W.Out.state out.old).failures < 2 ^ 63 }
     ensures written { Writes (W.Out.state out.old) (W.Out.state out.new) (spec.some_span words.now span) result }
 {
     let mut least = Buffer::new();
@@ -92,7 +87,6 @@ pub fn write_findings<W: Out>(
     layout: &Layout,
     findings: &Findings,
 ) -> Result<(), WriteFault>
-    requires counted { (W.Out.state out.old).failures < 2 ^ 63 }
     ensures written { Writes (W.Out.state out.old) (W.Out.state out.new)
         (spec.findings_text layout.now (found_is findings.now)) result }
 {

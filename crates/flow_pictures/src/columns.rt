@@ -20,7 +20,6 @@ use text_out::{Out, WriteFault};
 
 // The number of a statement and its line.
 fn write_number<W: Out>(out: &mut W, x: u128, number: usize, line: u32) -> Result<(), WriteFault>
-    requires counted { (W.Out.state out.old).failures < 2 ^ 63 }
     ensures written { Writes (W.Out.state out.old) (W.Out.state out.new) (spec.number_text x number line) result }
 {
     let mut across = Buffer::new();
@@ -41,7 +40,6 @@ fn write_number<W: Out>(out: &mut W, x: u128, number: usize, line: u32) -> Resul
 }
 
 fn write_place<W: Out>(out: &mut W, x: u128, number: usize, entry: &Entry) -> Result<(), WriteFault>
-    requires counted { (W.Out.state out.old).failures < 2 ^ 63 }
     ensures written { Writes (W.Out.state out.old) (W.Out.state out.new) (spec.place_text x number (entry_is entry.now)) result }
 {
     write_number(out, x, number, location_in(entry).line)
@@ -53,7 +51,6 @@ fn write_line_source<W: Out>(
     x: u128,
     entry: &Entry,
 ) -> Result<(), WriteFault>
-    requires counted { (W.Out.state out.old).failures < 2 ^ 63 }
     requires near { x < 2 ^ 100 }
     ensures written { Writes (W.Out.state out.old) (W.Out.state out.new) (spec.line_source text.now x (entry_is entry.now)) result }
 {
@@ -67,7 +64,6 @@ fn write_heading_at<W: Out>(
     number: usize,
     entry: &Entry,
 ) -> Result<(), WriteFault>
-    requires counted { (W.Out.state out.old).failures < 2 ^ 63 }
     requires near { x < 2 ^ 100 }
     ensures written { Writes (W.Out.state out.old) (W.Out.state out.new) (spec.heading_at text.now x number (entry_is entry.now)) result }
 {
@@ -83,7 +79,6 @@ fn write_heading<W: Out>(
     number: usize,
     entry: &Entry,
 ) -> Result<(), WriteFault>
-    requires counted { (W.Out.state out.old).failures < 2 ^ 63 }
     ensures written { Writes (W.Out.state out.old) (W.Out.state out.new)
         (spec.heading text.now column number (entry_is entry.now)) result }
 {
@@ -105,7 +100,6 @@ fn write_column_fault<W: Out>(
     column: usize,
     entry: &Entry,
 ) -> Result<(), WriteFault>
-    requires counted { (W.Out.state out.old).failures < 2 ^ 63 }
     ensures written { Writes (W.Out.state out.old) (W.Out.state out.new)
         (spec.column_fault layout.now rows.now column (entry_is entry.now)) result }
 {
@@ -120,7 +114,6 @@ fn write_column<W: Out>(
     column: usize,
     drawn: &Column,
 ) -> Result<(), WriteFault>
-    requires counted { (W.Out.state out.old).failures < 2 ^ 63 }
     ensures written { Writes (W.Out.state out.old) (W.Out.state out.new)
         (spec.column_text layout.now text.now rows.now column (column_is drawn.now)) result }
 {
@@ -137,7 +130,6 @@ pub(crate) fn write_columns<W: Out>(
     rows: &[u32],
     columns: &[Column],
 ) -> Result<(), WriteFault>
-    requires counted { (W.Out.state out.old).failures < 2 ^ 63 }
     ensures written { Writes (W.Out.state out.old) (W.Out.state out.new)
         (picture.columns layout.now text.now rows.now 1 (map column_is columns.now)) result }
 {

@@ -22,7 +22,6 @@ use write_rules::Fault;
 const MOST_NAMED: usize = 12;
 
 fn write_heavy<W: Out>(out: &mut W, area: Area) -> Result<(), WriteFault>
-    requires counted { (W.Out.state out.old).failures < 2 ^ 63 }
     ensures written { Writes (W.Out.state out.old) (W.Out.state out.new)
         (texts.rectangle area.left area.top area.wide area.tall spec.heavy) result }
 {
@@ -35,7 +34,6 @@ fn write_heavy<W: Out>(out: &mut W, area: Area) -> Result<(), WriteFault>
 
 // A frame in the row of a cell, where it has one.
 fn write_cell_frame<W: Out>(out: &mut W, rows: &[u32], x: u128, cell: u32) -> Result<(), WriteFault>
-    requires counted { (W.Out.state out.old).failures < 2 ^ 63 }
     ensures written { Writes (W.Out.state out.old) (W.Out.state out.new) (spec.cell_frame rows.now x cell) result }
 {
     if has_read(rows, cell) {
@@ -59,7 +57,6 @@ fn write_place_frame<W: Out>(
     x: u128,
     place: Place,
 ) -> Result<(), WriteFault>
-    requires counted { (W.Out.state out.old).failures < 2 ^ 63 }
     ensures written { Writes (W.Out.state out.old) (W.Out.state out.new) (spec.place_frame rows.now x place) result }
 {
     match place {
@@ -70,7 +67,6 @@ fn write_place_frame<W: Out>(
 }
 
 fn write_fault_rest<W: Out>(out: &mut W, layout: &Layout, fault: &Fault) -> Result<(), WriteFault>
-    requires counted { (W.Out.state out.old).failures < 2 ^ 63 }
     ensures written { Writes (W.Out.state out.old) (W.Out.state out.new) (spec.fault_rest layout.now fault.now) result }
 {
     write_fault_text(out, layout, fault)?;
@@ -83,7 +79,6 @@ fn write_fault_line<W: Out>(
     y: u128,
     fault: &Fault,
 ) -> Result<(), WriteFault>
-    requires counted { (W.Out.state out.old).failures < 2 ^ 63 }
     ensures written { Writes (W.Out.state out.old) (W.Out.state out.new) (spec.fault_line layout.now y fault.now) result }
 {
     write_line_front(out, y)?;
@@ -92,7 +87,6 @@ fn write_fault_line<W: Out>(
 
 // How many more met than are named.
 fn write_met_cut<W: Out>(out: &mut W, met: &[i64]) -> Result<(), WriteFault>
-    requires counted { (W.Out.state out.old).failures < 2 ^ 63 }
     ensures written { Writes (W.Out.state out.old) (W.Out.state out.new) (spec.met_cut met.now) result }
 {
     if met.len() > MOST_NAMED {
@@ -119,14 +113,12 @@ fn named(met: &[i64]) -> &[i64]
 }
 
 fn write_named<W: Out>(out: &mut W, met: &[i64]) -> Result<(), WriteFault>
-    requires counted { (W.Out.state out.old).failures < 2 ^ 63 }
     ensures written { Writes (W.Out.state out.old) (W.Out.state out.new) (spaced (take 12 met.now)) result }
 {
     write_values(out, named(met))
 }
 
 fn write_some_met<W: Out>(out: &mut W, y: u128, met: &[i64]) -> Result<(), WriteFault>
-    requires counted { (W.Out.state out.old).failures < 2 ^ 63 }
     ensures written { Writes (W.Out.state out.old) (W.Out.state out.new) (spec.some_met y met.now) result }
 {
     write_line_front(out, y)?;
@@ -137,7 +129,6 @@ fn write_some_met<W: Out>(out: &mut W, y: u128, met: &[i64]) -> Result<(), Write
 
 // Who met, below the fault.
 fn write_met<W: Out>(out: &mut W, y: u128, met: &[i64]) -> Result<(), WriteFault>
-    requires counted { (W.Out.state out.old).failures < 2 ^ 63 }
     ensures written { Writes (W.Out.state out.old) (W.Out.state out.new) (spec.met_text y met.now) result }
 {
     if met.is_empty() {
@@ -149,7 +140,6 @@ fn write_met<W: Out>(out: &mut W, y: u128, met: &[i64]) -> Result<(), WriteFault
 
 // A frame around the head of a column.
 fn write_head_frame<W: Out>(out: &mut W, x: u128) -> Result<(), WriteFault>
-    requires counted { (W.Out.state out.old).failures < 2 ^ 63 }
     ensures written { Writes (W.Out.state out.old) (W.Out.state out.new) (spec.head_frame x) result }
 {
     let area = Area {
@@ -170,7 +160,6 @@ fn write_fault_marks<W: Out>(
     fault: &Fault,
     met: &[i64],
 ) -> Result<(), WriteFault>
-    requires counted { (W.Out.state out.old).failures < 2 ^ 63 }
     requires near { y < 2 ^ 100 }
     ensures written { Writes (W.Out.state out.old) (W.Out.state out.new)
         (spec.fault_marks layout.now rows.now x y fault.now met.now) result }
@@ -190,7 +179,6 @@ pub(crate) fn write_fault_part<W: Out>(
     y: u128,
     entry: &Entry,
 ) -> Result<(), WriteFault>
-    requires counted { (W.Out.state out.old).failures < 2 ^ 63 }
     requires near { y < 2 ^ 100 }
     ensures written { Writes (W.Out.state out.old) (W.Out.state out.new)
         (spec.fault_part layout.now rows.now x y (entry_is entry.now)) result }

@@ -16,7 +16,6 @@ fn write_range<W: Out>(
     to: usize,
     statements: usize,
 ) -> Result<(), WriteFault>
-    requires counted { (W.Out.state out.old).failures < 2 ^ 63 }
     ensures written { Writes (W.Out.state out.old) (W.Out.state out.new) (spec.range_text from to statements) result }
 {
     if from <= 1 && statements <= to {
@@ -38,7 +37,6 @@ fn write_statement_cut<W: Out>(
     columns: usize,
     touching: usize,
 ) -> Result<(), WriteFault>
-    requires counted { (W.Out.state out.old).failures < 2 ^ 63 }
     ensures written { Writes (W.Out.state out.old) (W.Out.state out.new) (spec.statement_cut columns touching) result }
 {
     if touching > columns {
@@ -58,7 +56,6 @@ fn write_statements<W: Out>(
     statements: usize,
     columns: usize,
 ) -> Result<(), WriteFault>
-    requires counted { (W.Out.state out.old).failures < 2 ^ 63 }
     ensures written { Writes (W.Out.state out.old) (W.Out.state out.new) (spec.statements_text statements columns) result }
 {
     let mut all = Buffer::new();
@@ -80,7 +77,6 @@ fn write_statement_line<W: Out>(
     columns: usize,
     touching: usize,
 ) -> Result<(), WriteFault>
-    requires counted { (W.Out.state out.old).failures < 2 ^ 63 }
     ensures written { Writes (W.Out.state out.old) (W.Out.state out.new)
         (spec.statement_line from to statements columns touching) result }
 {
@@ -106,7 +102,6 @@ fn write_cell_line<W: Out>(
     rows: usize,
     found: usize,
 ) -> Result<(), WriteFault>
-    requires counted { (W.Out.state out.old).failures < 2 ^ 63 }
     ensures written { Writes (W.Out.state out.old) (W.Out.state out.new) (spec.cell_line cells rows found) result }
 {
     let mut all = Buffer::new();
@@ -127,7 +122,6 @@ fn write_cell_line<W: Out>(
 }
 
 fn write_some_only<W: Out>(out: &mut W, only: usize, declarations: usize) -> Result<(), WriteFault>
-    requires counted { (W.Out.state out.old).failures < 2 ^ 63 }
     ensures written { Writes (W.Out.state out.old) (W.Out.state out.new)
         (codes ", in " ++ (decimal only ++ (codes " of " ++ (decimal declarations ++ codes " declarations</text>\n")))) result }
 {
@@ -144,7 +138,6 @@ fn write_some_only<W: Out>(out: &mut W, only: usize, declarations: usize) -> Res
 
 // That cells of some declarations alone are drawn.
 fn write_only<W: Out>(out: &mut W, only: &[CellSpan], declarations: usize) -> Result<(), WriteFault>
-    requires counted { (W.Out.state out.old).failures < 2 ^ 63 }
     ensures written { Writes (W.Out.state out.old) (W.Out.state out.new) (spec.only_text only.now declarations) result }
 {
     if only.is_empty() {
@@ -162,7 +155,6 @@ fn write_cells<W: Out>(
     rows: usize,
     found: usize,
 ) -> Result<(), WriteFault>
-    requires counted { (W.Out.state out.old).failures < 2 ^ 63 }
     ensures written { Writes (W.Out.state out.old) (W.Out.state out.new) (spec.cells_text layout.now only.now rows found) result }
 {
     let cells = layout.cells();
@@ -173,7 +165,6 @@ fn write_cells<W: Out>(
 
 // What is what.
 fn write_key<W: Out>(out: &mut W) -> Result<(), WriteFault>
-    requires counted { (W.Out.state out.old).failures < 2 ^ 63 }
     ensures written { Writes (W.Out.state out.old) (W.Out.state out.new) (spec.key_text) result }
 {
     out.write_parts(&[
@@ -200,7 +191,6 @@ pub(crate) fn write_head<W: Out>(
     rows: usize,
     found: usize,
 ) -> Result<(), WriteFault>
-    requires counted { (W.Out.state out.old).failures < 2 ^ 63 }
     ensures written { Writes (W.Out.state out.old) (W.Out.state out.new)
         (spec.head layout.now only.now statements from to columns touching rows found) result }
 {

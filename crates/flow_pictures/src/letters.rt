@@ -43,7 +43,6 @@ fn front(source: &[u8]) -> &[u8]
 }
 
 fn write_shown<W: Out>(out: &mut W, source: &[u8]) -> Result<(), WriteFault>
-    requires counted { (W.Out.state out.old).failures < 2 ^ 63 }
     ensures written { Writes (W.Out.state out.old) (W.Out.state out.new) (svg.letters (take 24 source.now)) result }
 {
     write_letters(out, front(source))
@@ -51,7 +50,6 @@ fn write_shown<W: Out>(out: &mut W, source: &[u8]) -> Result<(), WriteFault>
 
 // That more stands there than has room.
 fn write_source_cut<W: Out>(out: &mut W, source: &[u8]) -> Result<(), WriteFault>
-    requires counted { (W.Out.state out.old).failures < 2 ^ 63 }
     ensures written { Writes (W.Out.state out.old) (W.Out.state out.new) (spec.source_cut source.now) result }
 {
     if source.len() > MOST {
@@ -62,7 +60,6 @@ fn write_source_cut<W: Out>(out: &mut W, source: &[u8]) -> Result<(), WriteFault
 }
 
 fn write_source_front<W: Out>(out: &mut W, x: u128) -> Result<(), WriteFault>
-    requires counted { (W.Out.state out.old).failures < 2 ^ 63 }
     requires near { x < 2 ^ 100 }
     ensures written { Writes (W.Out.state out.old) (W.Out.state out.new) (spec.source_front x) result }
 {
@@ -76,7 +73,6 @@ fn write_source_front<W: Out>(out: &mut W, x: u128) -> Result<(), WriteFault>
 
 /// Writes what stands in the line of a statement, upwards.
 pub(crate) fn write_source<W: Out>(out: &mut W, x: u128, source: &[u8]) -> Result<(), WriteFault>
-    requires counted { (W.Out.state out.old).failures < 2 ^ 63 }
     requires near { x < 2 ^ 100 }
     ensures written { Writes (W.Out.state out.old) (W.Out.state out.new) (spec.source_text x source.now) result }
 {

@@ -24,7 +24,6 @@ fn write_node<W: Out>(
     cell: u32,
     value: &i64,
 ) -> Result<(), WriteFault>
-    requires counted { (W.Out.state out.old).failures < 2 ^ 63 }
     ensures written { Writes (W.Out.state out.old) (W.Out.state out.new)
         (texts.node_text rows.now record { cell = cell; column = column; value = value.now }) result }
 {
@@ -41,7 +40,6 @@ fn write_node_if<W: Out>(
     written: &[i64],
     acts: &[Act],
 ) -> Result<(), WriteFault>
-    requires counted { (W.Out.state out.old).failures < 2 ^ 63 }
     ensures written { Writes (W.Out.state out.old) (W.Out.state out.new)
         (if spec.writes (map act_is acts.now) cell
         then texts.node_text rows.now (spec.node column (spec.value_in (map act_is acts.now) written.now) cell)
@@ -62,7 +60,6 @@ fn write_nodes<W: Out>(
     written: &[i64],
     acts: &[Act],
 ) -> Result<(), WriteFault>
-    requires counted { (W.Out.state out.old).failures < 2 ^ 63 }
     ensures written { Writes (W.Out.state out.old) (W.Out.state out.new) (flat_map (texts.node_text rows.now)
         (spec.nodes rows.now column (spec.value_in (map act_is acts.now) written.now)
         (map act_is acts.now))) result }
@@ -93,7 +90,6 @@ fn write_arrow<W: Out>(
     from: u32,
     dashed: bool,
 ) -> Result<(), WriteFault>
-    requires counted { (W.Out.state out.old).failures < 2 ^ 63 }
     ensures written { Writes (W.Out.state out.old) (W.Out.state out.new)
         (texts.arrow_text rows.now (spec.arrow column to from dashed)) result }
 {
@@ -118,7 +114,6 @@ fn write_arrow_by<W: Out>(
     to: u32,
     from: u32,
 ) -> Result<(), WriteFault>
-    requires counted { (W.Out.state out.old).failures < 2 ^ 63 }
     ensures written { Writes (W.Out.state out.old) (W.Out.state out.new)
         (texts.arrow_text rows.now (spec.arrow_by column aside.now (map act_is acts.now) to from)) result }
 {
@@ -135,7 +130,6 @@ fn write_arrow_if<W: Out>(
     from: u32,
     acts: &[Act],
 ) -> Result<(), WriteFault>
-    requires counted { (W.Out.state out.old).failures < 2 ^ 63 }
     ensures written { Writes (W.Out.state out.old) (W.Out.state out.new)
         (if spec.carries (map act_is acts.now) from (Some to)
         then texts.arrow_text rows.now (spec.arrow_by column aside.now (map act_is acts.now) to from) else []) result }
@@ -155,7 +149,6 @@ fn write_arrows_to<W: Out>(
     acts: &[Act],
     to: u32,
 ) -> Result<(), WriteFault>
-    requires counted { (W.Out.state out.old).failures < 2 ^ 63 }
     ensures written { Writes (W.Out.state out.old) (W.Out.state out.new)
         (flat_map (texts.arrow_text rows.now) (spec.arrows_to rows.now column aside.now (map act_is acts.now) to)) result }
 {
@@ -174,7 +167,6 @@ fn write_arrows_if<W: Out>(
     acts: &[Act],
     to: u32,
 ) -> Result<(), WriteFault>
-    requires counted { (W.Out.state out.old).failures < 2 ^ 63 }
     ensures written { Writes (W.Out.state out.old) (W.Out.state out.new)
         (if spec.writes (map act_is acts.now) to
         then flat_map (texts.arrow_text rows.now) (spec.arrows_to rows.now column aside.now (map act_is acts.now) to) else []) result }
@@ -193,7 +185,6 @@ fn write_arrows<W: Out>(
     aside: &[bool],
     acts: &[Act],
 ) -> Result<(), WriteFault>
-    requires counted { (W.Out.state out.old).failures < 2 ^ 63 }
     ensures written { Writes (W.Out.state out.old) (W.Out.state out.new)
         (flat_map (texts.arrow_text rows.now) (spec.arrows rows.now column aside.now (map act_is acts.now))) result }
 {
@@ -211,7 +202,6 @@ fn write_reading_if<W: Out>(
     cell: u32,
     acts: &[Act],
 ) -> Result<(), WriteFault>
-    requires counted { (W.Out.state out.old).failures < 2 ^ 63 }
     ensures written { Writes (W.Out.state out.old) (W.Out.state out.new)
         (if spec.carries (map act_is acts.now) cell None
         then texts.reading_text rows.now (spec.reading column cell) else []) result }
@@ -229,7 +219,6 @@ fn write_readings<W: Out>(
     column: usize,
     acts: &[Act],
 ) -> Result<(), WriteFault>
-    requires counted { (W.Out.state out.old).failures < 2 ^ 63 }
     ensures written { Writes (W.Out.state out.old) (W.Out.state out.new)
         (flat_map (texts.reading_text rows.now) (spec.readings rows.now column (map act_is acts.now))) result }
 {
@@ -247,7 +236,6 @@ fn write_acts<W: Out>(
     written: &[i64],
     acts: &[Act],
 ) -> Result<(), WriteFault>
-    requires counted { (W.Out.state out.old).failures < 2 ^ 63 }
     ensures written { Writes (W.Out.state out.old) (W.Out.state out.new) (texts.marks_of rows.now column aside.now
         (spec.value_in (map act_is acts.now) written.now) (map act_is acts.now)) result }
 {
@@ -263,7 +251,6 @@ pub(crate) fn write_marks<W: Out>(
     column: usize,
     drawn: &Column,
 ) -> Result<(), WriteFault>
-    requires counted { (W.Out.state out.old).failures < 2 ^ 63 }
     ensures written { Writes (W.Out.state out.old) (W.Out.state out.new)
         (texts.marks_text rows.now column (column_is drawn.now)) result }
 {

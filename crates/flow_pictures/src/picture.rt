@@ -23,7 +23,6 @@ use text_out::{Out, WriteFault};
 
 // The opening of a picture of that size.
 fn write_opening<W: Out>(out: &mut W, wide: u128, tall: u128) -> Result<(), WriteFault>
-    requires counted { (W.Out.state out.old).failures < 2 ^ 63 }
     ensures written { Writes (W.Out.state out.old) (W.Out.state out.new) (spec.opening_text wide tall) result }
 {
     let mut digits = Buffer::new();
@@ -45,7 +44,6 @@ fn write_opening<W: Out>(out: &mut W, wide: u128, tall: u128) -> Result<(), Writ
 
 // A line along a row.
 fn write_wire<W: Out>(out: &mut W, y: u128, wide: u128) -> Result<(), WriteFault>
-    requires counted { (W.Out.state out.old).failures < 2 ^ 63 }
     ensures written { Writes (W.Out.state out.old) (W.Out.state out.new) (spec.wire y wide) result }
 {
     let mut down = Buffer::new();
@@ -68,7 +66,6 @@ fn write_row_head<W: Out>(
     cell: u32,
     value: &i64,
 ) -> Result<(), WriteFault>
-    requires counted { (W.Out.state out.old).failures < 2 ^ 63 }
     requires near { y < 2 ^ 100 }
     ensures written { Writes (W.Out.state out.old) (W.Out.state out.new) (spec.row_head layout.now wide y cell value.now) result }
 {
@@ -88,7 +85,6 @@ fn write_row<W: Out>(
     row: usize,
     cell: u32,
 ) -> Result<(), WriteFault>
-    requires counted { (W.Out.state out.old).failures < 2 ^ 63 }
     ensures written { Writes (W.Out.state out.old) (W.Out.state out.new) (spec.row_head layout.now wide (places.y_at row) cell
         (values.value_at before.now cell)) result }
 {
@@ -104,7 +100,6 @@ fn write_row_heads<W: Out>(
     before: &[i64],
     rows: &[u32],
 ) -> Result<(), WriteFault>
-    requires counted { (W.Out.state out.old).failures < 2 ^ 63 }
     ensures written { Writes (W.Out.state out.old) (W.Out.state out.new)
         (spec.row_heads layout.now wide (values.value_at before.now) 0 rows.now) result }
 {
@@ -126,7 +121,6 @@ fn write_table<W: Out>(
     columns: &[Column],
     rows: &[u32],
 ) -> Result<(), WriteFault>
-    requires counted { (W.Out.state out.old).failures < 2 ^ 63 }
     ensures written { Writes (W.Out.state out.old) (W.Out.state out.new)
         (spec.table layout.now text.now wide (values.value_at before.now) (map column_is columns.now) rows.now) result }
 {
@@ -136,7 +130,6 @@ fn write_table<W: Out>(
 }
 
 fn write_size<W: Out>(out: &mut W, drawing: &Drawing, found: &[u32]) -> Result<(), WriteFault>
-    requires counted { (W.Out.state out.old).failures < 2 ^ 63 }
     ensures written { Writes (W.Out.state out.old) (W.Out.state out.new)
         (spec.size_text (drawing_is drawing.now) found.now) result }
 {
@@ -151,7 +144,6 @@ fn write_counts<W: Out>(
     drawing: &Drawing,
     found: &[u32],
 ) -> Result<(), WriteFault>
-    requires counted { (W.Out.state out.old).failures < 2 ^ 63 }
     ensures written { Writes (W.Out.state out.old) (W.Out.state out.new)
         (spec.counts_text layout.now only.now (drawing_is drawing.now) found.now) result }
 {
@@ -176,7 +168,6 @@ fn write_drawn<W: Out>(
     drawing: &Drawing,
     found: &[u32],
 ) -> Result<(), WriteFault>
-    requires counted { (W.Out.state out.old).failures < 2 ^ 63 }
     ensures written { Writes (W.Out.state out.old) (W.Out.state out.new)
         (spec.drawn_text layout.now text.now (drawing_is drawing.now) found.now) result }
 {
@@ -195,7 +186,6 @@ fn write_found<W: Out>(
     drawing: &Drawing,
     found: &[u32],
 ) -> Result<(), WriteFault>
-    requires counted { (W.Out.state out.old).failures < 2 ^ 63 }
     ensures written { Writes (W.Out.state out.old) (W.Out.state out.new)
         (spec.picture_of layout.now text.now only.now (drawing_is drawing.now) found.now) result }
 {
@@ -218,7 +208,6 @@ pub fn write_flow<W: Out>(
     only: &[CellSpan],
     drawing: &Drawing,
 ) -> Result<(), WriteFault>
-    requires counted { (W.Out.state out.old).failures < 2 ^ 63 }
     ensures written { Writes (W.Out.state out.old) (W.Out.state out.new)
         (spec.picture layout.now text.now only.now (drawing_is drawing.now)) result }
 {

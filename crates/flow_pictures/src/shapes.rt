@@ -19,7 +19,6 @@ pub(crate) struct Area {
 
 /// Writes a rectangle, and how it is drawn.
 pub(crate) fn write_rectangle<W: Out>(out: &mut W, area: Area, how: &[u8]) -> Result<(), WriteFault>
-    requires counted { (W.Out.state out.old).failures < 2 ^ 63 }
     ensures written { Writes (W.Out.state out.old) (W.Out.state out.new) (spec.rectangle area.left area.top area.wide area.tall how.now) result }
 {
     let mut left = Buffer::new();
@@ -51,7 +50,6 @@ fn squeeze(value: &i64) -> &'static [u8]
 }
 
 fn write_value_front<W: Out>(out: &mut W, x: u128, y: u128, anchor: &[u8]) -> Result<(), WriteFault>
-    requires counted { (W.Out.state out.old).failures < 2 ^ 63 }
     ensures written { Writes (W.Out.state out.old) (W.Out.state out.new) (spec.value_front x y anchor.now) result }
 {
     let mut across = Buffer::new();
@@ -68,7 +66,6 @@ fn write_value_front<W: Out>(out: &mut W, x: u128, y: u128, anchor: &[u8]) -> Re
 }
 
 fn write_digits<W: Out>(out: &mut W, value: &i64) -> Result<(), WriteFault>
-    requires counted { (W.Out.state out.old).failures < 2 ^ 63 }
     ensures written { Writes (W.Out.state out.old) (W.Out.state out.new) (spec.digits value.now) result }
 {
     let mut digits = Buffer::new();
@@ -83,7 +80,6 @@ pub(crate) fn write_value<W: Out>(
     anchor: &[u8],
     value: &i64,
 ) -> Result<(), WriteFault>
-    requires counted { (W.Out.state out.old).failures < 2 ^ 63 }
     ensures written { Writes (W.Out.state out.old) (W.Out.state out.new) (spec.value_text x y anchor.now value.now) result }
 {
     write_value_front(out, x, y, anchor)?;
@@ -91,7 +87,6 @@ pub(crate) fn write_value<W: Out>(
 }
 
 fn write_outline<W: Out>(out: &mut W, x: u128, y: u128, wide: u128) -> Result<(), WriteFault>
-    requires counted { (W.Out.state out.old).failures < 2 ^ 63 }
     ensures written { Writes (W.Out.state out.old) (W.Out.state out.new) (spec.outline x y wide) result }
 {
     let area = Area {
@@ -111,7 +106,6 @@ pub(crate) fn write_box<W: Out>(
     wide: u128,
     value: &i64,
 ) -> Result<(), WriteFault>
-    requires counted { (W.Out.state out.old).failures < 2 ^ 63 }
     requires near { y < 2 ^ 100 }
     ensures written { Writes (W.Out.state out.old) (W.Out.state out.new) (spec.box x y wide value.now) result }
 {
@@ -128,7 +122,6 @@ pub(crate) fn write_line<W: Out>(
     to_y: u128,
     how: &[u8],
 ) -> Result<(), WriteFault>
-    requires counted { (W.Out.state out.old).failures < 2 ^ 63 }
     ensures written { Writes (W.Out.state out.old) (W.Out.state out.new) (spec.line_between x y to_x to_y how.now) result }
 {
     let mut across = Buffer::new();
@@ -150,7 +143,6 @@ pub(crate) fn write_line<W: Out>(
 
 /// Writes a small ring.
 pub(crate) fn write_ring<W: Out>(out: &mut W, x: u128, y: u128) -> Result<(), WriteFault>
-    requires counted { (W.Out.state out.old).failures < 2 ^ 63 }
     ensures written { Writes (W.Out.state out.old) (W.Out.state out.new) (spec.ring x y) result }
 {
     let mut across = Buffer::new();
@@ -166,7 +158,6 @@ pub(crate) fn write_ring<W: Out>(out: &mut W, x: u128, y: u128) -> Result<(), Wr
 
 /// Writes the beginning of a line of text.
 pub(crate) fn write_line_front<W: Out>(out: &mut W, y: u128) -> Result<(), WriteFault>
-    requires counted { (W.Out.state out.old).failures < 2 ^ 63 }
     ensures written { Writes (W.Out.state out.old) (W.Out.state out.new) (spec.line_front y) result }
 {
     let mut down = Buffer::new();

@@ -25,7 +25,6 @@ fn sign(first: bool, coefficient: i128) -> &'static [u8]
 
 // A coefficient's size in front of a symbol: none where it is 1.
 fn write_factor<W: Out>(size: u128, out: &mut W) -> Result<(), WriteFault>
-    requires counted { (W.Out.state out.old).failures < 2 ^ 63 }
     ensures written { Writes (W.Out.state out.old) (W.Out.state out.new) (spec.factor_text size) result }
 {
     if size == 1 {
@@ -38,7 +37,6 @@ fn write_factor<W: Out>(size: u128, out: &mut W) -> Result<(), WriteFault>
 
 // A coefficient's size and a symbol, in parts.
 fn write_times<W: Out>(size: u128, symbol: &[&[u8]], out: &mut W) -> Result<(), WriteFault>
-    requires counted { (W.Out.state out.old).failures < 2 ^ 63 }
     ensures written { Writes (W.Out.state out.old) (W.Out.state out.new) (spec.factor_text size ++ joined symbol.now) result }
 {
     write_factor(size, out)?;
@@ -46,7 +44,6 @@ fn write_times<W: Out>(size: u128, symbol: &[&[u8]], out: &mut W) -> Result<(), 
 }
 
 fn write_constant<W: Out>(size: u128, out: &mut W) -> Result<(), WriteFault>
-    requires counted { (W.Out.state out.old).failures < 2 ^ 63 }
     ensures written { Writes (W.Out.state out.old) (W.Out.state out.new) (decimal size) result }
 {
     let mut digits = Buffer::new();
@@ -60,7 +57,6 @@ fn write_product<W: Out>(
     term: Term,
     out: &mut W,
 ) -> Result<(), WriteFault>
-    requires counted { (W.Out.state out.old).failures < 2 ^ 63 }
     ensures written { Writes (W.Out.state out.old) (W.Out.state out.new) (spec.product_text variable.now size term) result }
 {
     match term {
@@ -80,7 +76,6 @@ fn write_signed<W: Out>(
     term: Term,
     out: &mut W,
 ) -> Result<(), WriteFault>
-    requires counted { (W.Out.state out.old).failures < 2 ^ 63 }
     ensures written { Writes (W.Out.state out.old) (W.Out.state out.new)
         (spec.signed_text variable.now first coefficient term) result }
 {
@@ -96,7 +91,6 @@ fn write_term<W: Out>(
     term: Term,
     out: &mut W,
 ) -> Result<(), WriteFault>
-    requires counted { (W.Out.state out.old).failures < 2 ^ 63 }
     ensures written { Writes (W.Out.state out.old) (W.Out.state out.new)
         (spec.term_text variable.now first coefficient term) result }
 {
@@ -116,7 +110,6 @@ fn is_still_first(first: bool, coefficient: i128) -> bool
 
 // What stands behind the terms: a 0 where none was written.
 fn write_rest<W: Out>(first: bool, out: &mut W) -> Result<(), WriteFault>
-    requires counted { (W.Out.state out.old).failures < 2 ^ 63 }
     ensures written { Writes (W.Out.state out.old) (W.Out.state out.new) (spec.rest_text first) result }
 {
     if first { out.write_all(b"0") } else { Ok(()) }
@@ -124,7 +117,6 @@ fn write_rest<W: Out>(first: bool, out: &mut W) -> Result<(), WriteFault>
 
 // The terms of a formula.
 fn write_terms<W: Out>(variable: &[u8], formula: &Formula, out: &mut W) -> Result<(), WriteFault>
-    requires counted { (W.Out.state out.old).failures < 2 ^ 63 }
     ensures written { Writes (W.Out.state out.old) (W.Out.state out.new) (spec.formula_text variable.now formula.now) result }
 {
     let mut first = true;
@@ -138,7 +130,6 @@ fn write_terms<W: Out>(variable: &[u8], formula: &Formula, out: &mut W) -> Resul
 
 // How a number grows by a step at each doubling.
 fn write_doubling<W: Out>(step: i128, out: &mut W) -> Result<(), WriteFault>
-    requires counted { (W.Out.state out.old).failures < 2 ^ 63 }
     ensures written { Writes (W.Out.state out.old) (W.Out.state out.new) (spec.doubling_text step) result }
 {
     let mut digits = Buffer::new();
@@ -156,7 +147,6 @@ pub fn write_growth_words<W: Out>(
     growth: &Growth,
     out: &mut W,
 ) -> Result<(), WriteFault>
-    requires counted { (W.Out.state out.old).failures < 2 ^ 63 }
     ensures written { Writes (W.Out.state out.old) (W.Out.state out.new) (spec.growth_words variable.now growth.now) result }
 {
     match growth {
@@ -173,7 +163,6 @@ fn write_line<W: Out>(
     growth: &Growth,
     out: &mut W,
 ) -> Result<(), WriteFault>
-    requires counted { (W.Out.state out.old).failures < 2 ^ 63 }
     ensures written { Writes (W.Out.state out.old) (W.Out.state out.new)
         (spec.growth_line label.now variable.now growth.now) result }
 {
@@ -190,7 +179,6 @@ pub fn write_growth<W: Out>(
     growth: &Growth,
     out: &mut W,
 ) -> Result<(), WriteFault>
-    requires counted { (W.Out.state out.old).failures < 2 ^ 63 }
     ensures written { Writes (W.Out.state out.old) (W.Out.state out.new)
         (spec.growth_text label.now variable.now growth.now) result }
 {

@@ -4,7 +4,7 @@ ghost use Rattle.std.proofs.Common.{◌∙◌};
 ghost use Rattle.std.specs.Prelude.{◌≡◌, ◌<◌, ◌+◌, ◌^◌, ◌-◌, ◌∷◌, [], List, IfOk, OnOk, OnErr, refl, string_bytes, true, ℕ};
 ghost use Rattle.json_lines.specs.Lines.{IsJson};
 ghost use Rattle.json_texts.specs.StepFacts.{step_facts};
-ghost use Rattle.text_out.specs.Printing.{MayFail, Prints, printing};
+ghost use Rattle.text_out.specs.Printing.{Prints, printing};
 ghost use Rattle.step_entries.specs.Entries.{entry_is};
 ghost use Rattle.step_texts.specs.Passing.{is_told, one_more};
 ghost use Rattle.json_streams.specs.StreamLaws.{streams_nothing, streams_on};
@@ -26,7 +26,6 @@ pub(crate) struct Stream<'a, W: Out> {
     pub(crate) out: &'a mut W,
     pub(crate) count: usize,
     pub(crate) failed: bool,
-    ghost may_fail: { MayFail (W.Out.state out.now) failed },
 }
 
 impl<'a, W: Out> Stream<'a, W> {

@@ -68,7 +68,6 @@ pub fn stream_json<W: Out, V: Watch>(
     watch: &mut V,
     out: &mut W,
 ) -> Result<Outcome, StreamFailure>
-    requires counted { (W.Out.state out.old).failures < 2 ^ 63 }
     ensures outcome { IfOk result (λ o. IsOutcome program.now input.now bound (verdict_of o)) }
     ensures fits { OnOk result (length input.now ≤ total_size program.now.layout) }
     ensures too_long { (result ≡ Err StreamFailure.InputTooLong) ↔ (total_size program.now.layout < length input.now) }

@@ -30,7 +30,6 @@ fn kind_word(kind: Kind) -> &'static str
 }
 
 fn write_place<W: Out>(out: &mut W, layout: &Layout, place: Place) -> Result<(), WriteFault>
-    requires counted { (W.Out.state out.old).failures < 2 ^ 63 }
     ensures written { Writes (W.Out.state out.old) (W.Out.state out.new) (texts.place_text layout.now place) result }
 {
     match place {

@@ -20,7 +20,6 @@ fn write_if_chosen<W: Out>(
     bounds: &Option<(i64, i64)>,
     values: &[i64],
 ) -> Result<(), WriteFault>
-    requires counted { (W.Out.state out.old).failures < 2 ^ 63 }
     ensures written { Writes (W.Out.state out.old) (W.Out.state out.new)
         (spec.line_if_chosen choice.entry record { name = name.now; bounds = bounds.now } values.now) result }
 {
@@ -49,7 +48,6 @@ fn write_chosen<W: Out>(
     choice: Choice<'_>,
     memory: &[i64],
 ) -> Result<(), WriteFault>
-    requires counted { (W.Out.state out.old).failures < 2 ^ 63 }
     ensures written { Writes (W.Out.state out.old) (W.Out.state out.new) (spec.chosen_lines choice.entry layout.now memory.now) result }
 {
     let mut rest = memory;
@@ -64,7 +62,6 @@ fn write_chosen<W: Out>(
 
 // The end of a run, without its memory.
 fn write_end<W: Out>(out: &mut W, output: &[i64]) -> Result<(), WriteFault>
-    requires counted { (W.Out.state out.old).failures < 2 ^ 63 }
     ensures written { Writes (W.Out.state out.old) (W.Out.state out.new) (item_lines output.now ++ line (codes "ended")) result }
 {
     write_items(out, output)?;
@@ -80,7 +77,6 @@ pub fn show_chosen<W: Out>(
     choice: Choice<'_>,
     out: &mut W,
 ) -> Result<(), WriteFault>
-    requires counted { (W.Out.state out.old).failures < 2 ^ 63 }
     ensures written { Writes (W.Out.state out.old) (W.Out.state out.new)
         (spec.shown_by choice.entry layout.now (verdict_of outcome.now)) result }
 {

@@ -2,7 +2,7 @@
 
 ghost use Rattle.std.specs.Prelude.{◌≡◌, ◌<◌, ◌≤◌, ◌++◌, codes, length, map, slice_get, IfSome, None, Some};
 ghost use Rattle.std.specs.List.{flat_map};
-ghost use Rattle.text_out.specs.Printing.{MayFail, Prints, printing};
+ghost use Rattle.text_out.specs.Printing.{Prints, printing};
 ghost use Rattle.mpi_export.specs.Program as spec;
 
 use crate::exchange_text::{EXCHANGE, HELD, JOINS, MODULE, SENDING};
@@ -20,7 +20,6 @@ use text_out::Out;
 pub(crate) struct Printer<'a, W: Out> {
     pub(crate) out: &'a mut W,
     pub(crate) failed: bool,
-    ghost may_fail: { MayFail (W.Out.state out.now) failed },
 }
 
 impl<'a, W: Out> Printer<'a, W> {

@@ -304,7 +304,6 @@ impl<'a, W: Out> Printer<'a, W> {
 ///
 /// `WriteFault` (E17) says that the writer failed. What it took is a beginning of the spelling.
 pub fn print_tree<W: Out>(tree: &Tree, out: &mut W) -> Result<(), WriteFault>
-    requires counted { (W.Out.state out.old).failures < 2 ^ 63 }
     ensures written { Writes (W.Out.state out.old) (W.Out.state out.new)
         (spelling (program_tokens tree.now)) result }
 {

@@ -2,7 +2,7 @@
 
 ghost use Rattle.std.specs.Prelude.{◌≡◌, ◌++◌, ◌∷◌, []};
 ghost use Rattle.pram_trees.specs.Grammar.{prefix_token};
-ghost use Rattle.text_out.specs.Printing.{MayFail, Prints, printing};
+ghost use Rattle.text_out.specs.Printing.{Prints, printing};
 ghost use Rattle.pram_printer.specs.Spelling.{opening_text, spelled};
 
 use crate::spell::{binary_text, mark_end, mark_text, opening_text};
@@ -16,7 +16,6 @@ use text_out::Out;
 pub(crate) struct Printer<'a, W: Out> {
     pub(crate) out: &'a mut W,
     pub(crate) failed: bool,
-    ghost may_fail: { MayFail (W.Out.state out.now) failed },
 }
 
 impl<'a, W: Out> Printer<'a, W> {

@@ -10,7 +10,6 @@ use text_out::{Out, OutFailed};
 
 /// Has the writer give on what it still holds, and answers the status; or the writer failed (E17).
 pub fn finish<'a, O: Out>(out: &mut O, status: Status) -> Result<Status, Stop<'a>>
-    requires out { (O.Out.state out.old).failures < 2 ^ 63 }
     ensures ok { IfOk result (λ s. (s ≡ status) × (O.Out.state out.new ≡ O.Out.state out.old)) }
     ensures failed { IfErr result (λ stop. (stop ≡ WriteFailed) × (O.Out.state out.new ≡ with_failure (O.Out.state out.old))) }
 {

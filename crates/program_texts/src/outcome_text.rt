@@ -18,7 +18,6 @@ use write_rules::{Fault, Outcome};
 /// cells, as `s = 7` or `a[1..4] = 4 3 2 1`; at a fault a line as `fault read-conflict a[1] line 4`;
 /// and `goes on` where the bound was met. The error is that the writer failed (E17).
 pub fn show<W: Out>(layout: &Layout, outcome: &Outcome, out: &mut W) -> Result<(), WriteFault>
-    requires counted { (W.Out.state out.old).failures < 2 ^ 63 }
     ensures written { Writes (W.Out.state out.old) (W.Out.state out.new) (shown.shown layout.now (verdict_of outcome.now)) result }
 {
     match outcome {
@@ -34,7 +33,6 @@ fn show_end<W: Out>(
     memory: &[i64],
     out: &mut W,
 ) -> Result<(), WriteFault>
-    requires counted { (W.Out.state out.old).failures < 2 ^ 63 }
     ensures written { Writes (W.Out.state out.old) (W.Out.state out.new) (shown.shown layout.now (Ended output.now memory.now)) result }
 {
     write_items(out, output)?;
@@ -48,7 +46,6 @@ fn show_fault<W: Out>(
     fault: &Fault,
     out: &mut W,
 ) -> Result<(), WriteFault>
-    requires counted { (W.Out.state out.old).failures < 2 ^ 63 }
     ensures written { Writes (W.Out.state out.old) (W.Out.state out.new) (shown.shown layout.now (Faulted fault.now output.now)) result }
 {
     write_items(out, output)?;
@@ -56,7 +53,6 @@ fn show_fault<W: Out>(
 }
 
 fn show_front<W: Out>(output: &[i64], out: &mut W) -> Result<(), WriteFault>
-    requires counted { (W.Out.state out.old).failures < 2 ^ 63 }
     ensures written { Writes (W.Out.state out.old) (W.Out.state out.new) (shown.item_lines output.now ++ shown.line (codes "goes on")) result }
 {
     write_items(out, output)?;
@@ -66,7 +62,6 @@ fn show_front<W: Out>(output: &[i64], out: &mut W) -> Result<(), WriteFault>
 /// Writes the line of a fault, as `fault read-conflict a[1] line 4`. The error is that the writer
 /// failed (E17).
 pub fn write_fault<W: Out>(out: &mut W, layout: &Layout, fault: &Fault) -> Result<(), WriteFault>
-    requires counted { (W.Out.state out.old).failures < 2 ^ 63 }
     ensures written { Writes (W.Out.state out.old) (W.Out.state out.new) (shown.line (shown.fault_text layout.now fault.now)) result }
 {
     write_fault_text(out, layout, fault)?;
@@ -80,7 +75,6 @@ pub fn write_fault_text<W: Out>(
     layout: &Layout,
     fault: &Fault,
 ) -> Result<(), WriteFault>
-    requires counted { (W.Out.state out.old).failures < 2 ^ 63 }
     ensures written { Writes (W.Out.state out.old) (W.Out.state out.new) (shown.fault_text layout.now fault.now) result }
 {
     let mut digits = Buffer::new();
@@ -90,7 +84,6 @@ pub fn write_fault_text<W: Out>(
 }
 
 fn write_place<W: Out>(out: &mut W, layout: &Layout, place: Place) -> Result<(), WriteFault>
-    requires counted { (W.Out.state out.old).failures < 2 ^ 63 }
     ensures written { Writes (W.Out.state out.old) (W.Out.state out.new) (shown.place_text layout.now place) result }
 {
     match place {

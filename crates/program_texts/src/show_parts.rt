@@ -19,7 +19,6 @@ pub(crate) fn decimal<'a>(digits: &'a mut Buffer, number: &i64) -> &'a [u8]
 
 /// Writes output items in decimal, each on a line. The error is that the writer failed (E17).
 pub fn write_items<W: Out>(out: &mut W, items: &[i64]) -> Result<(), WriteFault>
-    requires counted { (W.Out.state out.old).failures < 2 ^ 63 }
     ensures written { Writes (W.Out.state out.old) (W.Out.state out.new) (shown.item_lines items.now) result }
 {
     for item in items {
@@ -31,7 +30,6 @@ pub fn write_items<W: Out>(out: &mut W, items: &[i64]) -> Result<(), WriteFault>
 
 /// Writes values in decimal, each behind a space. The error is that the writer failed (E17).
 pub fn write_values<W: Out>(out: &mut W, values: &[i64]) -> Result<(), WriteFault>
-    requires counted { (W.Out.state out.old).failures < 2 ^ 63 }
     ensures written { Writes (W.Out.state out.old) (W.Out.state out.new) (shown.spaced values.now) result }
 {
     for value in values {
@@ -47,7 +45,6 @@ fn write_entry_name<W: Out>(
     name: &[u8],
     bounds: &Option<(i64, i64)>,
 ) -> Result<(), WriteFault>
-    requires counted { (W.Out.state out.old).failures < 2 ^ 63 }
     ensures written { Writes (W.Out.state out.old) (W.Out.state out.new) (name.now ++ shown.bounds_text bounds.now) result }
 {
     match bounds {
@@ -74,7 +71,6 @@ pub fn write_entry<W: Out>(
     bounds: &Option<(i64, i64)>,
     values: &[i64],
 ) -> Result<(), WriteFault>
-    requires counted { (W.Out.state out.old).failures < 2 ^ 63 }
     ensures written { Writes (W.Out.state out.old) (W.Out.state out.new)
         (shown.entry_line record { name = name.now; bounds = bounds.now } values.now) result }
 {
@@ -102,7 +98,6 @@ pub(crate) fn write_memory<W: Out>(
     layout: &Layout,
     memory: &[i64],
 ) -> Result<(), WriteFault>
-    requires counted { (W.Out.state out.old).failures < 2 ^ 63 }
     ensures written { Writes (W.Out.state out.old) (W.Out.state out.new) (shown.memory_lines layout.now memory.now) result }
 {
     let mut rest = memory;
@@ -122,7 +117,6 @@ fn write_cell_of<W: Out>(
     i: usize,
     number: u32,
 ) -> Result<(), WriteFault>
-    requires counted { (W.Out.state out.old).failures < 2 ^ 63 }
     requires entry { i < length layout.now }
     requires inside { IfSome (slice_get layout.now i) (λ e. number < size e.bounds) }
     ensures written { IfSome (slice_get layout.now i) (λ e. Writes (W.Out.state out.old) (W.Out.state out.new)
@@ -141,7 +135,6 @@ fn write_cell_of<W: Out>(
 /// Writes a cell by its number among those of all declarations, counted from 0: `s`, or `a[2]`. The
 /// error is that the writer failed (E17).
 pub fn write_cell<W: Out>(out: &mut W, layout: &Layout, cell: usize) -> Result<(), WriteFault>
-    requires counted { (W.Out.state out.old).failures < 2 ^ 63 }
     ensures written { Writes (W.Out.state out.old) (W.Out.state out.new) (shown.cell_text layout.now cell) result }
 {
     let mut rest = cell;

@@ -77,7 +77,6 @@ impl<'a> From<WriteFault> for Stop<'a> {
 
 /// Writes the line that says why, or the text of the parser of command lines.
 pub fn write_stop<W: Out>(out: &mut W, stop: &Stop<'_>) -> Result<(), WriteFault>
-    requires counted { (W.Out.state out.old).failures < 2 ^ 63 }
     ensures written { Writes (W.Out.state out.old) (W.Out.state out.new) (stop_text stop.now) result }
 {
     match stop {
@@ -93,7 +92,6 @@ pub fn write_stop<W: Out>(out: &mut W, stop: &Stop<'_>) -> Result<(), WriteFault
 }
 
 fn write_name<W: Out>(out: &mut W, name: &[u8]) -> Result<(), WriteFault>
-    requires counted { (W.Out.state out.old).failures < 2 ^ 63 }
     ensures written { Writes (W.Out.state out.old) (W.Out.state out.new) (name_end name.now) result }
 {
     write_escaped(out, name)?;
@@ -102,7 +100,6 @@ fn write_name<W: Out>(out: &mut W, name: &[u8]) -> Result<(), WriteFault>
 
 // `refused P2 sum.pram`, on one line whatever stands in the name.
 fn write_named<W: Out>(out: &mut W, front: &[u8], name: &[u8]) -> Result<(), WriteFault>
-    requires counted { (W.Out.state out.old).failures < 2 ^ 63 }
     ensures written { Writes (W.Out.state out.old) (W.Out.state out.new) (named_line front.now name.now) result }
 {
     out.write_all(front)?;
@@ -111,7 +108,6 @@ fn write_named<W: Out>(out: &mut W, front: &[u8], name: &[u8]) -> Result<(), Wri
 
 // `refused E14 NotVerified at 0 exchange`.
 fn write_unverified<W: Out>(out: &mut W, at: u32, reason: &str) -> Result<(), WriteFault>
-    requires counted { (W.Out.state out.old).failures < 2 ^ 63 }
     ensures written { Writes (W.Out.state out.old) (W.Out.state out.new) (unverified_line at reason.now) result }
 {
     let mut digits = Buffer::new();
@@ -126,7 +122,6 @@ fn write_unverified<W: Out>(out: &mut W, at: u32, reason: &str) -> Result<(), Wr
 
 // `refused E19 BadSize at 12 unknown`.
 fn write_bad_size<W: Out>(out: &mut W, at: u32, reason: Reason) -> Result<(), WriteFault>
-    requires counted { (W.Out.state out.old).failures < 2 ^ 63 }
     ensures written { Writes (W.Out.state out.old) (W.Out.state out.new) (bad_size_line at reason) result }
 {
     let mut digits = Buffer::new();
@@ -140,7 +135,6 @@ fn write_bad_size<W: Out>(out: &mut W, at: u32, reason: Reason) -> Result<(), Wr
 }
 
 fn write_refusal<W: Out>(out: &mut W, refusal: Refusal) -> Result<(), WriteFault>
-    requires counted { (W.Out.state out.old).failures < 2 ^ 63 }
     ensures written { Writes (W.Out.state out.old) (W.Out.state out.new)
         (stopped.refused_line (stopped.refusal_words refusal) (stopped.refusal_place refusal)) result }
 {
@@ -150,7 +144,6 @@ fn write_refusal<W: Out>(out: &mut W, refusal: Refusal) -> Result<(), WriteFault
 
 // `refused E6 UnknownName at 57`, or the same without a place.
 fn write_refused<W: Out>(out: &mut W, words: &str, place: Option<u32>) -> Result<(), WriteFault>
-    requires counted { (W.Out.state out.old).failures < 2 ^ 63 }
     ensures written { Writes (W.Out.state out.old) (W.Out.state out.new) (stopped.refused_line words.now place) result }
 {
     match place {

@@ -11,7 +11,6 @@ use text_out::{Out, WriteFault};
 use text_places::{Place, place_of, write_escaped, write_shown};
 
 fn write_file<W: Out>(out: &mut W, name: &[u8]) -> Result<(), WriteFault>
-    requires counted { (W.Out.state out.old).failures < 2 ^ 63 }
     ensures written { Writes (W.Out.state out.old) (W.Out.state out.new) (spec.file name.now) result }
 {
     write_escaped(out, name)?;
@@ -19,7 +18,6 @@ fn write_file<W: Out>(out: &mut W, name: &[u8]) -> Result<(), WriteFault>
 }
 
 fn write_number<W: Out>(out: &mut W, number: usize) -> Result<(), WriteFault>
-    requires counted { (W.Out.state out.old).failures < 2 ^ 63 }
     ensures written { Writes (W.Out.state out.old) (W.Out.state out.new) (spec.number number) result }
 {
     let mut digits = Buffer::new();
@@ -27,7 +25,6 @@ fn write_number<W: Out>(out: &mut W, number: usize) -> Result<(), WriteFault>
 }
 
 fn write_numbers<W: Out>(out: &mut W, place: Place) -> Result<(), WriteFault>
-    requires counted { (W.Out.state out.old).failures < 2 ^ 63 }
     ensures written { Writes (W.Out.state out.old) (W.Out.state out.new) (spec.numbers place) result }
 {
     write_number(out, place.line)?;
@@ -36,7 +33,6 @@ fn write_numbers<W: Out>(out: &mut W, place: Place) -> Result<(), WriteFault>
 
 // The line and the column, or the line alone, or neither.
 fn write_point<W: Out>(out: &mut W, bytes: &[u8], place: Option<Point>) -> Result<(), WriteFault>
-    requires counted { (W.Out.state out.old).failures < 2 ^ 63 }
     ensures written { Writes (W.Out.state out.old) (W.Out.state out.new) (spec.point bytes.now place) result }
 {
     match place {
@@ -47,7 +43,6 @@ fn write_point<W: Out>(out: &mut W, bytes: &[u8], place: Option<Point>) -> Resul
 }
 
 fn write_spaced<W: Out>(out: &mut W, bytes: &[u8], place: Option<Point>) -> Result<(), WriteFault>
-    requires counted { (W.Out.state out.old).failures < 2 ^ 63 }
     ensures written { Writes (W.Out.state out.old) (W.Out.state out.new) (spec.spaced bytes.now place) result }
 {
     write_point(out, bytes, place)?;
@@ -61,7 +56,6 @@ fn write_place<W: Out>(
     bytes: &[u8],
     place: Option<Point>,
 ) -> Result<(), WriteFault>
-    requires counted { (W.Out.state out.old).failures < 2 ^ 63 }
     ensures written { Writes (W.Out.state out.old) (W.Out.state out.new) (spec.place name.now bytes.now place) result }
 {
     write_file(out, name)?;
@@ -69,7 +63,6 @@ fn write_place<W: Out>(
 }
 
 fn write_code<W: Out>(out: &mut W, code: &[u8]) -> Result<(), WriteFault>
-    requires counted { (W.Out.state out.old).failures < 2 ^ 63 }
     ensures written { Writes (W.Out.state out.old) (W.Out.state out.new) (spec.bracketed code.now) result }
 {
     write_shown(out, code)?;
@@ -77,7 +70,6 @@ fn write_code<W: Out>(out: &mut W, code: &[u8]) -> Result<(), WriteFault>
 }
 
 fn write_coded<W: Out>(out: &mut W, code: &[u8]) -> Result<(), WriteFault>
-    requires counted { (W.Out.state out.old).failures < 2 ^ 63 }
     ensures written { Writes (W.Out.state out.old) (W.Out.state out.new) (spec.coded code.now) result }
 {
     out.write_all(b" [")?;
@@ -85,7 +77,6 @@ fn write_coded<W: Out>(out: &mut W, code: &[u8]) -> Result<(), WriteFault>
 }
 
 fn write_sentence<W: Out>(out: &mut W, sentence: &[u8], code: &[u8]) -> Result<(), WriteFault>
-    requires counted { (W.Out.state out.old).failures < 2 ^ 63 }
     ensures written { Writes (W.Out.state out.old) (W.Out.state out.new) (spec.with_code sentence.now code.now) result }
 {
     write_shown(out, sentence)?;
@@ -94,7 +85,6 @@ fn write_sentence<W: Out>(out: &mut W, sentence: &[u8], code: &[u8]) -> Result<(
 
 // `error: SENTENCE [E6]`
 fn write_error<W: Out>(out: &mut W, sentence: &[u8], code: &[u8]) -> Result<(), WriteFault>
-    requires counted { (W.Out.state out.old).failures < 2 ^ 63 }
     ensures written { Writes (W.Out.state out.old) (W.Out.state out.new) (spec.error sentence.now code.now) result }
 {
     out.write_all(b"error: ")?;
@@ -103,7 +93,6 @@ fn write_error<W: Out>(out: &mut W, sentence: &[u8], code: &[u8]) -> Result<(), 
 
 // `note: SENTENCE`
 fn write_note<W: Out>(out: &mut W, sentence: &[u8]) -> Result<(), WriteFault>
-    requires counted { (W.Out.state out.old).failures < 2 ^ 63 }
     ensures written { Writes (W.Out.state out.old) (W.Out.state out.new) (spec.note sentence.now) result }
 {
     out.write_all(b"note: ")?;
@@ -118,7 +107,6 @@ fn write_error_line<W: Out>(
     sentence: &[u8],
     code: &[u8],
 ) -> Result<(), WriteFault>
-    requires counted { (W.Out.state out.old).failures < 2 ^ 63 }
     ensures written { Writes (W.Out.state out.old) (W.Out.state out.new)
         (spec.error_line name.now bytes.now place sentence.now code.now) result }
 {
@@ -133,7 +121,6 @@ fn write_note_line<W: Out>(
     place: Option<Point>,
     sentence: &[u8],
 ) -> Result<(), WriteFault>
-    requires counted { (W.Out.state out.old).failures < 2 ^ 63 }
     ensures written { Writes (W.Out.state out.old) (W.Out.state out.new)
         (spec.note_line name.now bytes.now place sentence.now) result }
 {
@@ -149,7 +136,6 @@ fn write_whole_error<W: Out>(
     sentence: &[u8],
     code: &[u8],
 ) -> Result<(), WriteFault>
-    requires counted { (W.Out.state out.old).failures < 2 ^ 63 }
     ensures written { Writes (W.Out.state out.old) (W.Out.state out.new)
         (spec.whole_error name.now bytes.now place sentence.now code.now) result }
 {
@@ -164,7 +150,6 @@ fn write_whole_note<W: Out>(
     place: Option<Point>,
     sentence: &[u8],
 ) -> Result<(), WriteFault>
-    requires counted { (W.Out.state out.old).failures < 2 ^ 63 }
     ensures written { Writes (W.Out.state out.old) (W.Out.state out.new)
         (spec.whole_note name.now bytes.now place sentence.now) result }
 {
@@ -181,7 +166,6 @@ fn write_first<W: Out>(
     sentence: &[u8],
     code: &[u8],
 ) -> Result<(), WriteFault>
-    requires counted { (W.Out.state out.old).failures < 2 ^ 63 }
     ensures written { Writes (W.Out.state out.old) (W.Out.state out.new)
         (spec.error_text name.now bytes.now place sentence.now code.now) result }
 {
@@ -200,7 +184,6 @@ fn write_more<W: Out>(
     place: Option<Point>,
     sentence: &[u8],
 ) -> Result<(), WriteFault>
-    requires counted { (W.Out.state out.old).failures < 2 ^ 63 }
     ensures written { Writes (W.Out.state out.old) (W.Out.state out.new)
         (spec.more_text name.now bytes.now place sentence.now) result }
 {
@@ -236,7 +219,6 @@ fn write_other<W: Out>(
     bytes: &[u8],
     other: Option<Other>,
 ) -> Result<(), WriteFault>
-    requires counted { (W.Out.state out.old).failures < 2 ^ 63 }
     ensures written { Writes (W.Out.state out.old) (W.Out.state out.new)
         (spec.other_text name.now bytes.now other) result }
 {
@@ -255,7 +237,6 @@ fn write_notes<W: Out>(
     bytes: &[u8],
     message: &Message,
 ) -> Result<(), WriteFault>
-    requires counted { (W.Out.state out.old).failures < 2 ^ 63 }
     ensures written { Writes (W.Out.state out.old) (W.Out.state out.new)
         (spec.notes_text name.now bytes.now (message_is message.now)) result }
 {
@@ -273,7 +254,6 @@ pub fn write_gnu<W: Out>(
     message: &Message,
     code: &[u8],
 ) -> Result<(), WriteFault>
-    requires counted { (W.Out.state out.old).failures < 2 ^ 63 }
     ensures written { Writes (W.Out.state out.old) (W.Out.state out.new)
         (spec.gnu_text name.now bytes.now (message_is message.now) code.now) result }
 {

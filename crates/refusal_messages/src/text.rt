@@ -15,7 +15,6 @@ fn write_place<W: Out>(
     bytes: &[u8],
     place: Option<Point>,
 ) -> Result<(), WriteFault>
-    requires counted { (W.Out.state out.old).failures < 2 ^ 63 }
     ensures written { Writes (W.Out.state out.old) (W.Out.state out.new) (spec.place_text name.now bytes.now place) result }
 {
     match place {
@@ -31,7 +30,6 @@ fn write_other<W: Out>(
     bytes: &[u8],
     other: Option<Other>,
 ) -> Result<(), WriteFault>
-    requires counted { (W.Out.state out.old).failures < 2 ^ 63 }
     ensures written { Writes (W.Out.state out.old) (W.Out.state out.new) (spec.other_text name.now bytes.now other) result }
 {
     match other {
@@ -51,7 +49,6 @@ fn line_end(other: Option<Other>) -> &'static [u8]
 }
 
 fn write_whole<W: Out>(out: &mut W, sentence: &[u8], other: Option<Other>) -> Result<(), WriteFault>
-    requires counted { (W.Out.state out.old).failures < 2 ^ 63 }
     ensures written { Writes (W.Out.state out.old) (W.Out.state out.new) (spec.whole_line sentence.now other) result }
 {
     out.write_all(sentence)?;
@@ -64,7 +61,6 @@ fn write_sentence<W: Out>(
     sentence: &[u8],
     other: Option<Other>,
 ) -> Result<(), WriteFault>
-    requires counted { (W.Out.state out.old).failures < 2 ^ 63 }
     ensures written { Writes (W.Out.state out.old) (W.Out.state out.new) (spec.sentence_line sentence.now other) result }
 {
     if sentence.is_empty() {
@@ -81,7 +77,6 @@ fn write_rest<W: Out>(
     bytes: &[u8],
     message: &Message,
 ) -> Result<(), WriteFault>
-    requires counted { (W.Out.state out.old).failures < 2 ^ 63 }
     ensures written { Writes (W.Out.state out.old) (W.Out.state out.new)
         (spec.rest_text name.now bytes.now (spec.message_is message.now)) result }
 {
@@ -96,7 +91,6 @@ fn write_said<W: Out>(
     bytes: &[u8],
     message: &Message,
 ) -> Result<(), WriteFault>
-    requires counted { (W.Out.state out.old).failures < 2 ^ 63 }
     ensures written { Writes (W.Out.state out.old) (W.Out.state out.new)
         (spec.said_text name.now bytes.now (spec.message_is message.now)) result }
 {
@@ -112,7 +106,6 @@ pub fn write_message<W: Out>(
     bytes: &[u8],
     message: &Message,
 ) -> Result<(), WriteFault>
-    requires counted { (W.Out.state out.old).failures < 2 ^ 63 }
     ensures written { Writes (W.Out.state out.old) (W.Out.state out.new)
         (spec.message_text name.now bytes.now (spec.message_is message.now)) result }
 {

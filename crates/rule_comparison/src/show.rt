@@ -21,7 +21,6 @@ const RULES: [Rule; 5] = [
 ];
 
 fn write_finding<W: Out>(out: &mut W, layout: &Layout, finding: Finding) -> Result<(), WriteFault>
-    requires counted { (W.Out.state out.old).failures < 2 ^ 63 }
     ensures written { Writes (W.Out.state out.old) (W.Out.state out.new) (line (finding_text layout.now finding)) result }
 {
     match finding {
@@ -34,7 +33,6 @@ fn write_finding<W: Out>(out: &mut W, layout: &Layout, finding: Finding) -> Resu
 
 // What is found under the declared rule, which is told where all others are beside it.
 fn write_declared<W: Out>(out: &mut W, layout: &Layout, finding: Finding) -> Result<(), WriteFault>
-    requires counted { (W.Out.state out.old).failures < 2 ^ 63 }
     ensures written { Writes (W.Out.state out.old) (W.Out.state out.new) (line (declared_text layout.now finding)) result }
 {
     match finding {
@@ -51,7 +49,6 @@ fn write_told<W: Out>(
     layout: &Layout,
     finding: Finding,
 ) -> Result<(), WriteFault>
-    requires counted { (W.Out.state out.old).failures < 2 ^ 63 }
     ensures written { Writes (W.Out.state out.old) (W.Out.state out.new) (line (told declared layout.now finding)) result }
 {
     if declared {
@@ -62,7 +59,6 @@ fn write_told<W: Out>(
 }
 
 fn write_line<W: Out>(out: &mut W, comparison: &Comparison, rule: Rule) -> Result<(), WriteFault>
-    requires counted { (W.Out.state out.old).failures < 2 ^ 63 }
     ensures written { Writes (W.Out.state out.old) (W.Out.state out.new) (rule_line comparison.now rule) result }
 {
     out.write_parts(&[rule_word(rule), b" "])?;
@@ -74,7 +70,6 @@ fn write_line<W: Out>(out: &mut W, comparison: &Comparison, rule: Rule) -> Resul
 /// the program ends under the rule that it declares, the line of that says so: `common ended same (declared)`.
 /// The error is that the writer failed (E17).
 pub fn show_comparison<W: Out>(comparison: &Comparison, out: &mut W) -> Result<(), WriteFault>
-    requires counted { (W.Out.state out.old).failures < 2 ^ 63 }
     ensures written { Writes (W.Out.state out.old) (W.Out.state out.new) (comparison_text comparison.now) result }
 {
     for rule in RULES {

@@ -10,7 +10,6 @@ use text_out::{Out, WriteFault};
 
 // A byte of the facts. A `<` would be a tag, and the end of a line stands between two facts of a list.
 fn write_byte<W: Out>(out: &mut W, byte: u8) -> Result<(), WriteFault>
-    requires counted { (W.Out.state out.old).failures < 2 ^ 63 }
     ensures written { Writes (W.Out.state out.old) (W.Out.state out.new) (spec.embedded_byte byte) result }
 {
     match byte {
@@ -22,7 +21,6 @@ fn write_byte<W: Out>(out: &mut W, byte: u8) -> Result<(), WriteFault>
 
 // Some lines of facts.
 fn write_lines<W: Out>(out: &mut W, facts: &[u8]) -> Result<(), WriteFault>
-    requires counted { (W.Out.state out.old).failures < 2 ^ 63 }
     ensures written { Writes (W.Out.state out.old) (W.Out.state out.new) (spec.embedded facts.now) result }
 {
     for byte in facts {
@@ -47,7 +45,6 @@ pub(crate) fn line_count(text: &[u8]) -> usize
 
 // Which lines are left out: behind how many, and how many.
 fn write_gap<W: Out>(out: &mut W, behind: usize, left: usize) -> Result<(), WriteFault>
-    requires counted { (W.Out.state out.old).failures < 2 ^ 63 }
     ensures written { Writes (W.Out.state out.old) (W.Out.state out.new) (spec.gap_text behind left) result }
 {
     let mut first = Buffer::new();
@@ -93,7 +90,6 @@ fn write_last<W: Out>(
     behind: usize,
     left: usize,
 ) -> Result<(), WriteFault>
-    requires counted { (W.Out.state out.old).failures < 2 ^ 63 }
     ensures written { Writes (W.Out.state out.old) (W.Out.state out.new) (spec.last_text last.now behind left) result }
 {
     write_lines(out, last)?;
@@ -108,7 +104,6 @@ fn write_behind<W: Out>(
     behind: usize,
     left: usize,
 ) -> Result<(), WriteFault>
-    requires counted { (W.Out.state out.old).failures < 2 ^ 63 }
     ensures written { Writes (W.Out.state out.old) (W.Out.state out.new) (spec.behind_text state.now last.now behind left) result }
 {
     write_lines(out, state)?;
@@ -123,7 +118,6 @@ pub(crate) fn write_both<W: Out>(
     last: &[u8],
     left: usize,
 ) -> Result<(), WriteFault>
-    requires counted { (W.Out.state out.old).failures < 2 ^ 63 }
     ensures written { Writes (W.Out.state out.old) (W.Out.state out.new) (spec.both_text first.now state.now last.now left) result }
 {
     write_lines(out, first)?;

@@ -12,7 +12,6 @@ use crate::page_parts::{write_script, write_style};
 use text_out::{Out, WriteFault};
 
 fn write_front<W: Out>(out: &mut W) -> Result<(), WriteFault>
-    requires counted { (W.Out.state out.old).failures < 2 ^ 63 }
     ensures written { Writes (W.Out.state out.old) (W.Out.state out.new) spec.front result }
 {
     write_style(out)?;
@@ -20,7 +19,6 @@ fn write_front<W: Out>(out: &mut W) -> Result<(), WriteFault>
 }
 
 fn write_back<W: Out>(out: &mut W) -> Result<(), WriteFault>
-    requires counted { (W.Out.state out.old).failures < 2 ^ 63 }
     ensures written { Writes (W.Out.state out.old) (W.Out.state out.new) spec.back result }
 {
     write_script(out)?;
@@ -34,7 +32,6 @@ fn write_rest<W: Out>(
     last: &[u8],
     left: usize,
 ) -> Result<(), WriteFault>
-    requires counted { (W.Out.state out.old).failures < 2 ^ 63 }
     ensures written { Writes (W.Out.state out.old) (W.Out.state out.new) (spec.rest_of first.now state.now last.now left) result }
 {
     write_both(out, first, state, last, left)?;
@@ -48,7 +45,6 @@ fn write_of<W: Out>(
     last: &[u8],
     left: usize,
 ) -> Result<(), WriteFault>
-    requires counted { (W.Out.state out.old).failures < 2 ^ 63 }
     ensures written { Writes (W.Out.state out.old) (W.Out.state out.new) (spec.page_of first.now state.now last.now left) result }
 {
     write_front(out)?;
@@ -65,7 +61,6 @@ pub fn write_page<W: Out>(
     kept: Kept,
     state: &[u8],
 ) -> Result<(), WriteFault>
-    requires counted { (W.Out.state out.old).failures < 2 ^ 63 }
     requires front_within { kept.front ≤ length lines.now.first.items }
     requires back_within { kept.back ≤ length lines.now.last.items }
     ensures written { (text : List ℕ) → Holds lines.now text → Writes (W.Out.state out.old) (W.Out.state out.new)

@@ -13,7 +13,6 @@ use text_out::{Out, WriteFault};
 
 /// How the page looks.
 pub(crate) fn write_style<W: Out>(out: &mut W) -> Result<(), WriteFault>
-    requires counted { (W.Out.state out.old).failures < 2 ^ 63 }
     ensures written { Writes (W.Out.state out.old) (W.Out.state out.new) spec.style result }
 {
     out.write_all(&STYLE)?;
@@ -21,7 +20,6 @@ pub(crate) fn write_style<W: Out>(out: &mut W) -> Result<(), WriteFault>
 }
 
 fn write_reading<W: Out>(out: &mut W) -> Result<(), WriteFault>
-    requires counted { (W.Out.state out.old).failures < 2 ^ 63 }
     ensures written { Writes (W.Out.state out.old) (W.Out.state out.new) spec.reading result }
 {
     out.write_all(&READING)?;
@@ -29,7 +27,6 @@ fn write_reading<W: Out>(out: &mut W) -> Result<(), WriteFault>
 }
 
 fn write_drawing<W: Out>(out: &mut W) -> Result<(), WriteFault>
-    requires counted { (W.Out.state out.old).failures < 2 ^ 63 }
     ensures written { Writes (W.Out.state out.old) (W.Out.state out.new) spec.drawing result }
 {
     out.write_all(&PLACING)?;
@@ -37,7 +34,6 @@ fn write_drawing<W: Out>(out: &mut W) -> Result<(), WriteFault>
 }
 
 fn write_telling<W: Out>(out: &mut W) -> Result<(), WriteFault>
-    requires counted { (W.Out.state out.old).failures < 2 ^ 63 }
     ensures written { Writes (W.Out.state out.old) (W.Out.state out.new) spec.telling result }
 {
     out.write_all(&TELLING)?;
@@ -45,7 +41,6 @@ fn write_telling<W: Out>(out: &mut W) -> Result<(), WriteFault>
 }
 
 fn write_stepping<W: Out>(out: &mut W) -> Result<(), WriteFault>
-    requires counted { (W.Out.state out.old).failures < 2 ^ 63 }
     ensures written { Writes (W.Out.state out.old) (W.Out.state out.new) spec.stepping result }
 {
     out.write_all(&STEPPING)?;
@@ -53,7 +48,6 @@ fn write_stepping<W: Out>(out: &mut W) -> Result<(), WriteFault>
 }
 
 fn write_earlier<W: Out>(out: &mut W) -> Result<(), WriteFault>
-    requires counted { (W.Out.state out.old).failures < 2 ^ 63 }
     ensures written { Writes (W.Out.state out.old) (W.Out.state out.new) spec.earlier result }
 {
     write_reading(out)?;
@@ -61,7 +55,6 @@ fn write_earlier<W: Out>(out: &mut W) -> Result<(), WriteFault>
 }
 
 fn write_later<W: Out>(out: &mut W) -> Result<(), WriteFault>
-    requires counted { (W.Out.state out.old).failures < 2 ^ 63 }
     ensures written { Writes (W.Out.state out.old) (W.Out.state out.new) spec.later result }
 {
     write_telling(out)?;
@@ -70,7 +63,6 @@ fn write_later<W: Out>(out: &mut W) -> Result<(), WriteFault>
 
 /// The script that steps through the run.
 pub(crate) fn write_script<W: Out>(out: &mut W) -> Result<(), WriteFault>
-    requires counted { (W.Out.state out.old).failures < 2 ^ 63 }
     ensures written { Writes (W.Out.state out.old) (W.Out.state out.new) spec.script result }
 {
     write_earlier(out)?;

@@ -15,7 +15,6 @@ use text_out::{Out, WriteFault};
 
 // The titles of the axes, and the name of the first row.
 fn write_titles<W: Out>(out: &mut W, top: usize) -> Result<(), WriteFault>
-    requires counted { (W.Out.state out.old).failures < 2 ^ 63 }
     requires some { 42 ≤ top }
     requires near { top ≤ 20000 }
     ensures written { Writes (W.Out.state out.old) (W.Out.state out.new) (spec.titles top) result }
@@ -36,7 +35,6 @@ fn write_titles<W: Out>(out: &mut W, top: usize) -> Result<(), WriteFault>
 
 // A processor's name in front of its row.
 fn write_label<W: Out>(out: &mut W, y: usize, index: &i64) -> Result<(), WriteFault>
-    requires counted { (W.Out.state out.old).failures < 2 ^ 63 }
     ensures written { Writes (W.Out.state out.old) (W.Out.state out.new) (spec.label y index.now) result }
 {
     let mut down = Buffer::new();
@@ -60,7 +58,6 @@ fn label_line(top: usize, before: usize) -> usize
 }
 
 fn write_labels<W: Out>(out: &mut W, top: usize, rows: &[i64]) -> Result<(), WriteFault>
-    requires counted { (W.Out.state out.old).failures < 2 ^ 63 }
     requires near { top ≤ 20000 }
     requires few { length rows.now ≤ 64 }
     ensures written { Writes (W.Out.state out.old) (W.Out.state out.new) (spec.labels_from top 1 rows.now) result }
@@ -75,7 +72,6 @@ fn write_labels<W: Out>(out: &mut W, top: usize, rows: &[i64]) -> Result<(), Wri
 
 // What a band begins with.
 fn write_band_front<W: Out>(out: &mut W, rows: &[i64], top: usize) -> Result<(), WriteFault>
-    requires counted { (W.Out.state out.old).failures < 2 ^ 63 }
     requires some { 42 ≤ top }
     requires near { top ≤ 20000 }
     requires few { length rows.now ≤ 64 }
@@ -86,7 +82,6 @@ fn write_band_front<W: Out>(out: &mut W, rows: &[i64], top: usize) -> Result<(),
 }
 
 fn write_front<W: Out>(out: &mut W, frame: &Frame<'_>, before: usize) -> Result<(), WriteFault>
-    requires counted { (W.Out.state out.old).failures < 2 ^ 63 }
     requires few { before < 112 }
     ensures written { Writes (W.Out.state out.old) (W.Out.state out.new) (spec.front_of (frame_is frame.now) before) result }
 {
@@ -117,7 +112,6 @@ fn write_with_front<W: Out>(
     number: usize,
     entry: &Entry,
 ) -> Result<(), WriteFault>
-    requires counted { (W.Out.state out.old).failures < 2 ^ 63 }
     requires few { before < 112 }
     ensures written { Writes (W.Out.state out.old) (W.Out.state out.new)
         (spec.with_front (frame_is frame.now) before number (entry_is entry.now)) result }
@@ -134,7 +128,6 @@ pub(crate) fn write_columns<W: Out>(
     number: usize,
     entries: &[Entry],
 ) -> Result<(), WriteFault>
-    requires counted { (W.Out.state out.old).failures < 2 ^ 63 }
     requires few { first + length entries.now ≤ 112 }
     requires number { number + length entries.now < 2 ^ 64 }
     ensures written { Writes (W.Out.state out.old) (W.Out.state out.new)

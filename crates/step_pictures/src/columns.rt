@@ -19,7 +19,6 @@ use text_out::{Out, WriteFault};
 
 // The number of a statement and its line.
 fn write_numbers<W: Out>(out: &mut W, at: Column, line: u32) -> Result<(), WriteFault>
-    requires counted { (W.Out.state out.old).failures < 2 ^ 63 }
     ensures written { Writes (W.Out.state out.old) (W.Out.state out.new) (spec.numbers_text (column_is at) line) result }
 {
     let mut left = Buffer::new();
@@ -46,7 +45,6 @@ fn write_numbers<W: Out>(out: &mut W, at: Column, line: u32) -> Result<(), Write
 }
 
 fn write_heading<W: Out>(out: &mut W, text: &[u8], at: Column, line: u32) -> Result<(), WriteFault>
-    requires counted { (W.Out.state out.old).failures < 2 ^ 63 }
     ensures written { Writes (W.Out.state out.old) (W.Out.state out.new) (spec.heading text.now (column_is at) line) result }
 {
     write_code(out, at.x, at.y - 42, code_of(text, line))?;
@@ -62,7 +60,6 @@ fn write_act_at<W: Out>(
     before: usize,
     act: &Act,
 ) -> Result<(), WriteFault>
-    requires counted { (W.Out.state out.old).failures < 2 ^ 63 }
     requires few { length rows.now ≤ 64 }
     ensures written { Writes (W.Out.state out.old) (W.Out.state out.new)
         (spec.act_at layout.now rows.now (column_is at) before (act_is act.now)) result }
@@ -82,7 +79,6 @@ fn write_outside<W: Out>(
     at: Column,
     act: &Act,
 ) -> Result<(), WriteFault>
-    requires counted { (W.Out.state out.old).failures < 2 ^ 63 }
     ensures written { Writes (W.Out.state out.old) (W.Out.state out.new) (spec.outside layout.now (column_is at) (act_is act.now)) result }
 {
     let y = row_top(at.y, 0);
@@ -96,7 +92,6 @@ fn write_act<W: Out>(
     at: Column,
     act: &Act,
 ) -> Result<(), WriteFault>
-    requires counted { (W.Out.state out.old).failures < 2 ^ 63 }
     requires few { length rows.now ≤ 64 }
     ensures written { Writes (W.Out.state out.old) (W.Out.state out.new)
         (spec.act_drawn layout.now rows.now (column_is at) (act_is act.now)) result }
@@ -114,7 +109,6 @@ fn write_acts<W: Out>(
     at: Column,
     acts: &[Act],
 ) -> Result<(), WriteFault>
-    requires counted { (W.Out.state out.old).failures < 2 ^ 63 }
     requires few { length rows.now ≤ 64 }
     ensures written { Writes (W.Out.state out.old) (W.Out.state out.new)
         (spec.acts_drawn layout.now rows.now (column_is at) (map act_is acts.now)) result }
@@ -133,7 +127,6 @@ fn write_met_at<W: Out>(
     before: usize,
     index: i64,
 ) -> Result<(), WriteFault>
-    requires counted { (W.Out.state out.old).failures < 2 ^ 63 }
     requires few { length rows.now ≤ 64 }
     ensures written { Writes (W.Out.state out.old) (W.Out.state out.new) (spec.met_at rows.now (column_is at) before index) result }
 {
@@ -146,7 +139,6 @@ fn write_met_at<W: Out>(
 }
 
 fn write_met<W: Out>(out: &mut W, rows: &[i64], at: Column, index: &i64) -> Result<(), WriteFault>
-    requires counted { (W.Out.state out.old).failures < 2 ^ 63 }
     requires few { length rows.now ≤ 64 }
     ensures written { Writes (W.Out.state out.old) (W.Out.state out.new) (spec.met_drawn rows.now (column_is at) index.now) result }
 {
@@ -159,7 +151,6 @@ fn write_all_met<W: Out>(
     at: Column,
     met: &[i64],
 ) -> Result<(), WriteFault>
-    requires counted { (W.Out.state out.old).failures < 2 ^ 63 }
     requires few { length rows.now ≤ 64 }
     ensures written { Writes (W.Out.state out.old) (W.Out.state out.new) (spec.all_met rows.now (column_is at) met.now) result }
 {
@@ -170,7 +161,6 @@ fn write_all_met<W: Out>(
 }
 
 fn write_more_at<W: Out>(out: &mut W, x: usize, y: usize, count: usize) -> Result<(), WriteFault>
-    requires counted { (W.Out.state out.old).failures < 2 ^ 63 }
     ensures written { Writes (W.Out.state out.old) (W.Out.state out.new) (spec.more_at x y count) result }
 {
     let mut left = Buffer::new();
@@ -189,7 +179,6 @@ fn write_more_at<W: Out>(out: &mut W, x: usize, y: usize, count: usize) -> Resul
 
 // How many more act, below the rows.
 fn write_more<W: Out>(out: &mut W, rows: usize, at: Column, count: usize) -> Result<(), WriteFault>
-    requires counted { (W.Out.state out.old).failures < 2 ^ 63 }
     requires few { rows ≤ 64 }
     ensures written { Writes (W.Out.state out.old) (W.Out.state out.new) (spec.more_text rows (column_is at) count) result }
 {
@@ -207,7 +196,6 @@ fn write_missing<W: Out>(
     at: Column,
     acts: &[Act],
 ) -> Result<(), WriteFault>
-    requires counted { (W.Out.state out.old).failures < 2 ^ 63 }
     requires few { length rows.now ≤ 64 }
     ensures written { Writes (W.Out.state out.old) (W.Out.state out.new)
         (spec.missing_text rows.now (column_is at) (map act_is acts.now)) result }
@@ -224,7 +212,6 @@ fn write_processors<W: Out>(
     acts: &[Act],
     met: &[i64],
 ) -> Result<(), WriteFault>
-    requires counted { (W.Out.state out.old).failures < 2 ^ 63 }
     requires few { length rows.now ≤ 64 }
     ensures written { Writes (W.Out.state out.old) (W.Out.state out.new)
         (spec.processors layout.now rows.now (column_is at) (map act_is acts.now) met.now) result }
@@ -241,7 +228,6 @@ pub(crate) fn write_column<W: Out>(
     at: Column,
     entry: &Entry,
 ) -> Result<(), WriteFault>
-    requires counted { (W.Out.state out.old).failures < 2 ^ 63 }
     ensures written { Writes (W.Out.state out.old) (W.Out.state out.new)
         (spec.column (frame_is frame.now) (column_is at) (entry_is entry.now)) result }
 {

@@ -16,7 +16,6 @@ use write_rules::Fault;
 const MOST_NAMED: usize = 8;
 
 fn write_line_front<W: Out>(out: &mut W, y: usize) -> Result<(), WriteFault>
-    requires counted { (W.Out.state out.old).failures < 2 ^ 63 }
     ensures written { Writes (W.Out.state out.old) (W.Out.state out.new) (spec.line_front y) result }
 {
     let mut down = Buffer::new();
@@ -29,7 +28,6 @@ fn write_fault_line<W: Out>(
     y: usize,
     fault: &Fault,
 ) -> Result<(), WriteFault>
-    requires counted { (W.Out.state out.old).failures < 2 ^ 63 }
     ensures written { Writes (W.Out.state out.old) (W.Out.state out.new) (spec.fault_line layout.now y fault.now) result }
 {
     write_line_front(out, y)?;
@@ -39,7 +37,6 @@ fn write_fault_line<W: Out>(
 
 // An index, behind a blank.
 fn write_index<W: Out>(out: &mut W, index: &i64) -> Result<(), WriteFault>
-    requires counted { (W.Out.state out.old).failures < 2 ^ 63 }
     ensures written { Writes (W.Out.state out.old) (W.Out.state out.new) (spec.behind_blank index.now) result }
 {
     let mut digits = Buffer::new();
@@ -47,7 +44,6 @@ fn write_index<W: Out>(out: &mut W, index: &i64) -> Result<(), WriteFault>
 }
 
 fn write_indices<W: Out>(out: &mut W, indices: &[i64]) -> Result<(), WriteFault>
-    requires counted { (W.Out.state out.old).failures < 2 ^ 63 }
     ensures written { Writes (W.Out.state out.old) (W.Out.state out.new) (spec.indices_text indices.now) result }
 {
     for index in indices {
@@ -68,7 +64,6 @@ fn named(met: &[i64]) -> &[i64]
 }
 
 fn write_and_more<W: Out>(out: &mut W, count: usize) -> Result<(), WriteFault>
-    requires counted { (W.Out.state out.old).failures < 2 ^ 63 }
     ensures written { Writes (W.Out.state out.old) (W.Out.state out.new) (spec.and_more count) result }
 {
     let mut digits = Buffer::new();
@@ -77,7 +72,6 @@ fn write_and_more<W: Out>(out: &mut W, count: usize) -> Result<(), WriteFault>
 
 // How many more met.
 fn write_more_met<W: Out>(out: &mut W, count: usize) -> Result<(), WriteFault>
-    requires counted { (W.Out.state out.old).failures < 2 ^ 63 }
     ensures written { Writes (W.Out.state out.old) (W.Out.state out.new) (spec.more_met count) result }
 {
     if count > MOST_NAMED {
@@ -89,7 +83,6 @@ fn write_more_met<W: Out>(out: &mut W, count: usize) -> Result<(), WriteFault>
 
 // Who met.
 fn write_met_words<W: Out>(out: &mut W, met: &[i64]) -> Result<(), WriteFault>
-    requires counted { (W.Out.state out.old).failures < 2 ^ 63 }
     ensures written { Writes (W.Out.state out.old) (W.Out.state out.new) (spec.met_words met.now) result }
 {
     out.write_all(b"met: processors")?;
@@ -98,7 +91,6 @@ fn write_met_words<W: Out>(out: &mut W, met: &[i64]) -> Result<(), WriteFault>
 }
 
 fn write_some_met<W: Out>(out: &mut W, y: usize, met: &[i64]) -> Result<(), WriteFault>
-    requires counted { (W.Out.state out.old).failures < 2 ^ 63 }
     ensures written { Writes (W.Out.state out.old) (W.Out.state out.new) (spec.some_met y met.now) result }
 {
     write_line_front(out, y)?;
@@ -107,7 +99,6 @@ fn write_some_met<W: Out>(out: &mut W, y: usize, met: &[i64]) -> Result<(), Writ
 }
 
 fn write_met_line<W: Out>(out: &mut W, y: usize, met: &[i64]) -> Result<(), WriteFault>
-    requires counted { (W.Out.state out.old).failures < 2 ^ 63 }
     ensures written { Writes (W.Out.state out.old) (W.Out.state out.new) (spec.met_line y met.now) result }
 {
     if met.is_empty() {
@@ -124,7 +115,6 @@ fn write_fault_lines<W: Out>(
     fault: &Fault,
     met: &[i64],
 ) -> Result<(), WriteFault>
-    requires counted { (W.Out.state out.old).failures < 2 ^ 63 }
     requires near { y ≤ 20000 }
     ensures written { Writes (W.Out.state out.old) (W.Out.state out.new) (spec.fault_lines layout.now y fault.now met.now) result }
 {
@@ -138,7 +128,6 @@ fn write_ending_of<W: Out>(
     y: usize,
     entry: &Entry,
 ) -> Result<(), WriteFault>
-    requires counted { (W.Out.state out.old).failures < 2 ^ 63 }
     requires near { y ≤ 20000 }
     ensures written { Writes (W.Out.state out.old) (W.Out.state out.new) (spec.ending_of layout.now y (entry_is entry.now)) result }
 {
@@ -155,7 +144,6 @@ pub(crate) fn write_ending<W: Out>(
     y: usize,
     entries: &[Entry],
 ) -> Result<(), WriteFault>
-    requires counted { (W.Out.state out.old).failures < 2 ^ 63 }
     requires near { y ≤ 20000 }
     ensures written { Writes (W.Out.state out.old) (W.Out.state out.new)
         (spec.ending layout.now y (map entry_is entries.now)) result }

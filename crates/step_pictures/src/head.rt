@@ -14,7 +14,6 @@ pub(crate) fn write_opening<W: Out>(
     width: usize,
     height: usize,
 ) -> Result<(), WriteFault>
-    requires counted { (W.Out.state out.old).failures < 2 ^ 63 }
     ensures written { Writes (W.Out.state out.old) (W.Out.state out.new) (spec.opening_text width height) result }
 {
     let mut digits = Buffer::new();
@@ -36,7 +35,6 @@ pub(crate) fn write_opening<W: Out>(
 
 // Those of a part of a run: `5 to 9 of 30`.
 fn write_between<W: Out>(out: &mut W, part: Part, statements: usize) -> Result<(), WriteFault>
-    requires counted { (W.Out.state out.old).failures < 2 ^ 63 }
     ensures written { Writes (W.Out.state out.old) (W.Out.state out.new)
         (decimal (part.skipped + 1) ++ (codes " to " ++ (decimal (part.skipped + statements)
         ++ (codes " of " ++ decimal part.whole)))) result }
@@ -55,7 +53,6 @@ fn write_between<W: Out>(out: &mut W, part: Part, statements: usize) -> Result<(
 }
 
 fn write_whole<W: Out>(out: &mut W, statements: usize) -> Result<(), WriteFault>
-    requires counted { (W.Out.state out.old).failures < 2 ^ 63 }
     ensures written { Writes (W.Out.state out.old) (W.Out.state out.new) (decimal statements) result }
 {
     let mut digits = Buffer::new();
@@ -64,7 +61,6 @@ fn write_whole<W: Out>(out: &mut W, statements: usize) -> Result<(), WriteFault>
 
 // Of how many statements.
 fn write_count<W: Out>(out: &mut W, part: Part, statements: usize) -> Result<(), WriteFault>
-    requires counted { (W.Out.state out.old).failures < 2 ^ 63 }
     ensures written { Writes (W.Out.state out.old) (W.Out.state out.new) (spec.count_text part statements) result }
 {
     if part.whole == statements {
@@ -79,7 +75,6 @@ fn write_statements_front<W: Out>(
     part: Part,
     statements: usize,
 ) -> Result<(), WriteFault>
-    requires counted { (W.Out.state out.old).failures < 2 ^ 63 }
     ensures written { Writes (W.Out.state out.old) (W.Out.state out.new) (spec.statements_front part statements) result }
 {
     out.write_all(b"<text x='12' y='20'>statements ")?;
@@ -88,7 +83,6 @@ fn write_statements_front<W: Out>(
 
 // Which of them are not drawn.
 fn write_gap<W: Out>(out: &mut W, part: Part, statements: usize) -> Result<(), WriteFault>
-    requires counted { (W.Out.state out.old).failures < 2 ^ 63 }
     requires many { 112 < statements }
     ensures written { Writes (W.Out.state out.old) (W.Out.state out.new) (spec.gap_text part statements) result }
 {
@@ -108,7 +102,6 @@ fn write_gap<W: Out>(out: &mut W, part: Part, statements: usize) -> Result<(), W
 }
 
 fn write_rest<W: Out>(out: &mut W, part: Part, statements: usize) -> Result<(), WriteFault>
-    requires counted { (W.Out.state out.old).failures < 2 ^ 63 }
     ensures written { Writes (W.Out.state out.old) (W.Out.state out.new) (spec.rest_text part statements) result }
 {
     if statements > 112 {
@@ -119,7 +112,6 @@ fn write_rest<W: Out>(out: &mut W, part: Part, statements: usize) -> Result<(), 
 }
 
 fn write_statements<W: Out>(out: &mut W, part: Part, statements: usize) -> Result<(), WriteFault>
-    requires counted { (W.Out.state out.old).failures < 2 ^ 63 }
     ensures written { Writes (W.Out.state out.old) (W.Out.state out.new) (spec.statements_text part statements) result }
 {
     write_statements_front(out, part, statements)?;
@@ -127,7 +119,6 @@ fn write_statements<W: Out>(out: &mut W, part: Part, statements: usize) -> Resul
 }
 
 fn write_some_rows<W: Out>(out: &mut W, rows: usize) -> Result<(), WriteFault>
-    requires counted { (W.Out.state out.old).failures < 2 ^ 63 }
     ensures written { Writes (W.Out.state out.old) (W.Out.state out.new) (spec.some_rows rows) result }
 {
     let mut digits = Buffer::new();
@@ -140,7 +131,6 @@ fn write_some_rows<W: Out>(out: &mut W, rows: usize) -> Result<(), WriteFault>
 
 // How many processors have a row, and which, where there may be more.
 fn write_rows<W: Out>(out: &mut W, rows: usize) -> Result<(), WriteFault>
-    requires counted { (W.Out.state out.old).failures < 2 ^ 63 }
     ensures written { Writes (W.Out.state out.old) (W.Out.state out.new) (spec.rows_text rows) result }
 {
     if rows == 0 {
@@ -156,7 +146,6 @@ fn write_rows<W: Out>(out: &mut W, rows: usize) -> Result<(), WriteFault>
 
 // What is what.
 fn write_key<W: Out>(out: &mut W) -> Result<(), WriteFault>
-    requires counted { (W.Out.state out.old).failures < 2 ^ 63 }
     ensures written { Writes (W.Out.state out.old) (W.Out.state out.new) spec.key_text result }
 {
     out.write_parts(&[
@@ -176,7 +165,6 @@ pub(crate) fn write_head<W: Out>(
     statements: usize,
     rows: usize,
 ) -> Result<(), WriteFault>
-    requires counted { (W.Out.state out.old).failures < 2 ^ 63 }
     ensures written { Writes (W.Out.state out.old) (W.Out.state out.new) (spec.head part statements rows) result }
 {
     write_statements(out, part, statements)?;

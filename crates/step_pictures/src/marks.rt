@@ -13,7 +13,6 @@ use text_out::{Out, WriteFault};
 
 // Which processor it is.
 fn write_who<W: Out>(out: &mut W, processor: Option<i64>) -> Result<(), WriteFault>
-    requires counted { (W.Out.state out.old).failures < 2 ^ 63 }
     ensures written { Writes (W.Out.state out.old) (W.Out.state out.new) (spec.who_text processor) result }
 {
     match processor {
@@ -27,7 +26,6 @@ fn write_who<W: Out>(out: &mut W, processor: Option<i64>) -> Result<(), WriteFau
 
 // A cell, behind a space.
 fn write_behind<W: Out>(out: &mut W, layout: &Layout, cell: u32) -> Result<(), WriteFault>
-    requires counted { (W.Out.state out.old).failures < 2 ^ 63 }
     ensures written { Writes (W.Out.state out.old) (W.Out.state out.new) (spec.cell_behind layout.now cell) result }
 {
     out.write_all(b" ")?;
@@ -35,7 +33,6 @@ fn write_behind<W: Out>(out: &mut W, layout: &Layout, cell: u32) -> Result<(), W
 }
 
 fn write_cells<W: Out>(out: &mut W, layout: &Layout, cells: &[u32]) -> Result<(), WriteFault>
-    requires counted { (W.Out.state out.old).failures < 2 ^ 63 }
     ensures written { Writes (W.Out.state out.old) (W.Out.state out.new) (spec.cells_text layout.now cells.now) result }
 {
     for cell in cells {
@@ -46,7 +43,6 @@ fn write_cells<W: Out>(out: &mut W, layout: &Layout, cells: &[u32]) -> Result<()
 
 // Which cells it read.
 fn write_reads<W: Out>(out: &mut W, layout: &Layout, cells: &[u32]) -> Result<(), WriteFault>
-    requires counted { (W.Out.state out.old).failures < 2 ^ 63 }
     ensures written { Writes (W.Out.state out.old) (W.Out.state out.new) (spec.reads_text layout.now cells.now) result }
 {
     if cells.is_empty() {
@@ -57,7 +53,6 @@ fn write_reads<W: Out>(out: &mut W, layout: &Layout, cells: &[u32]) -> Result<()
 }
 
 fn write_written<W: Out>(out: &mut W, layout: &Layout, cell: u32) -> Result<(), WriteFault>
-    requires counted { (W.Out.state out.old).failures < 2 ^ 63 }
     ensures written { Writes (W.Out.state out.old) (W.Out.state out.new) (spec.written_text layout.now cell) result }
 {
     out.write_all(b" writes ")?;
@@ -66,7 +61,6 @@ fn write_written<W: Out>(out: &mut W, layout: &Layout, cell: u32) -> Result<(), 
 
 // Which cell it wrote.
 fn write_write<W: Out>(out: &mut W, layout: &Layout, cell: Option<u32>) -> Result<(), WriteFault>
-    requires counted { (W.Out.state out.old).failures < 2 ^ 63 }
     ensures written { Writes (W.Out.state out.old) (W.Out.state out.new) (spec.write_text layout.now cell) result }
 {
     match cell {
@@ -76,7 +70,6 @@ fn write_write<W: Out>(out: &mut W, layout: &Layout, cell: Option<u32>) -> Resul
 }
 
 fn write_accesses<W: Out>(out: &mut W, layout: &Layout, act: &Act) -> Result<(), WriteFault>
-    requires counted { (W.Out.state out.old).failures < 2 ^ 63 }
     ensures written { Writes (W.Out.state out.old) (W.Out.state out.new) (spec.accesses_text layout.now (act_is act.now)) result }
 {
     write_reads(out, layout, &act.reads)?;
@@ -85,7 +78,6 @@ fn write_accesses<W: Out>(out: &mut W, layout: &Layout, act: &Act) -> Result<(),
 
 // What the box of a processor says where it is pointed at.
 fn write_title<W: Out>(out: &mut W, layout: &Layout, act: &Act) -> Result<(), WriteFault>
-    requires counted { (W.Out.state out.old).failures < 2 ^ 63 }
     ensures written { Writes (W.Out.state out.old) (W.Out.state out.new) (spec.title_text layout.now (act_is act.now)) result }
 {
     write_who(out, act.processor)?;
@@ -116,7 +108,6 @@ fn write_mark<W: Out>(
     colour: &[u8],
     letter: &[u8],
 ) -> Result<(), WriteFault>
-    requires counted { (W.Out.state out.old).failures < 2 ^ 63 }
     ensures written { Writes (W.Out.state out.old) (W.Out.state out.new)
         (spec.mark field.left field.top field.letter field.line colour.now letter.now) result }
 {
@@ -141,7 +132,6 @@ fn write_mark<W: Out>(
 
 // That it read.
 fn write_read_mark<W: Out>(out: &mut W, at: Corner) -> Result<(), WriteFault>
-    requires counted { (W.Out.state out.old).failures < 2 ^ 63 }
     ensures written { Writes (W.Out.state out.old) (W.Out.state out.new) (spec.read_mark at.x at.y) result }
 {
     let field = Field {
@@ -155,7 +145,6 @@ fn write_read_mark<W: Out>(out: &mut W, at: Corner) -> Result<(), WriteFault>
 
 // That it wrote.
 fn write_write_mark<W: Out>(out: &mut W, at: Corner) -> Result<(), WriteFault>
-    requires counted { (W.Out.state out.old).failures < 2 ^ 63 }
     ensures written { Writes (W.Out.state out.old) (W.Out.state out.new) (spec.write_mark at.x at.y) result }
 {
     let field = Field {
@@ -168,7 +157,6 @@ fn write_write_mark<W: Out>(out: &mut W, at: Corner) -> Result<(), WriteFault>
 }
 
 fn write_read_part<W: Out>(out: &mut W, at: Corner, cells: &[u32]) -> Result<(), WriteFault>
-    requires counted { (W.Out.state out.old).failures < 2 ^ 63 }
     ensures written { Writes (W.Out.state out.old) (W.Out.state out.new) (spec.read_part at.x at.y cells.now) result }
 {
     if cells.is_empty() {
@@ -179,7 +167,6 @@ fn write_read_part<W: Out>(out: &mut W, at: Corner, cells: &[u32]) -> Result<(),
 }
 
 fn write_write_part<W: Out>(out: &mut W, at: Corner, cell: Option<u32>) -> Result<(), WriteFault>
-    requires counted { (W.Out.state out.old).failures < 2 ^ 63 }
     ensures written { Writes (W.Out.state out.old) (W.Out.state out.new) (spec.write_part at.x at.y cell) result }
 {
     match cell {
@@ -189,7 +176,6 @@ fn write_write_part<W: Out>(out: &mut W, at: Corner, cell: Option<u32>) -> Resul
 }
 
 fn write_marks<W: Out>(out: &mut W, at: Corner, act: &Act) -> Result<(), WriteFault>
-    requires counted { (W.Out.state out.old).failures < 2 ^ 63 }
     ensures written { Writes (W.Out.state out.old) (W.Out.state out.new) (spec.marks at.x at.y (act_is act.now)) result }
 {
     write_read_part(out, at, &act.reads)?;
@@ -197,7 +183,6 @@ fn write_marks<W: Out>(out: &mut W, at: Corner, act: &Act) -> Result<(), WriteFa
 }
 
 fn write_ground<W: Out>(out: &mut W, at: Corner) -> Result<(), WriteFault>
-    requires counted { (W.Out.state out.old).failures < 2 ^ 63 }
     ensures written { Writes (W.Out.state out.old) (W.Out.state out.new) (spec.ground_text at.x at.y) result }
 {
     let mut left = Buffer::new();
@@ -212,7 +197,6 @@ fn write_ground<W: Out>(out: &mut W, at: Corner) -> Result<(), WriteFault>
 }
 
 fn write_box_rest<W: Out>(out: &mut W, at: Corner, act: &Act) -> Result<(), WriteFault>
-    requires counted { (W.Out.state out.old).failures < 2 ^ 63 }
     ensures written { Writes (W.Out.state out.old) (W.Out.state out.new) (spec.box_rest at.x at.y (act_is act.now)) result }
 {
     out.write_all(b"</title></rect>\n")?;
@@ -226,7 +210,6 @@ pub(crate) fn write_box<W: Out>(
     at: Corner,
     act: &Act,
 ) -> Result<(), WriteFault>
-    requires counted { (W.Out.state out.old).failures < 2 ^ 63 }
     ensures written { Writes (W.Out.state out.old) (W.Out.state out.new) (spec.box layout.now at.x at.y (act_is act.now)) result }
 {
     write_ground(out, at)?;
@@ -236,7 +219,6 @@ pub(crate) fn write_box<W: Out>(
 
 // The word beside it.
 fn write_met_word<W: Out>(out: &mut W, x: usize, y: usize) -> Result<(), WriteFault>
-    requires counted { (W.Out.state out.old).failures < 2 ^ 63 }
     ensures written { Writes (W.Out.state out.old) (W.Out.state out.new) (spec.met_word x y) result }
 {
     let mut left = Buffer::new();
@@ -252,7 +234,6 @@ fn write_met_word<W: Out>(out: &mut W, x: usize, y: usize) -> Result<(), WriteFa
 
 // The outline itself.
 fn write_frame<W: Out>(out: &mut W, at: Corner, index: i64) -> Result<(), WriteFault>
-    requires counted { (W.Out.state out.old).failures < 2 ^ 63 }
     ensures written { Writes (W.Out.state out.old) (W.Out.state out.new) (spec.frame at.x at.y index) result }
 {
     let mut left = Buffer::new();
@@ -271,7 +252,6 @@ fn write_frame<W: Out>(out: &mut W, at: Corner, index: i64) -> Result<(), WriteF
 
 /// Writes the outline of a processor that met others, and that word in it.
 pub(crate) fn write_outline<W: Out>(out: &mut W, at: Corner, index: i64) -> Result<(), WriteFault>
-    requires counted { (W.Out.state out.old).failures < 2 ^ 63 }
     ensures written { Writes (W.Out.state out.old) (W.Out.state out.new) (spec.outline at.x at.y index) result }
 {
     write_frame(out, at, index)?;

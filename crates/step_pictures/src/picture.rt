@@ -20,7 +20,6 @@ use text_out::{Out, WriteFault};
 
 // The opening of a picture of so many statements.
 fn write_front<W: Out>(out: &mut W, frame: &Frame<'_>, statements: usize) -> Result<(), WriteFault>
-    requires counted { (W.Out.state out.old).failures < 2 ^ 63 }
     ensures written { Writes (W.Out.state out.old) (W.Out.state out.new) (spec.opening (frame_is frame.now) statements) result }
 {
     let columns = count_drawn(statements);
@@ -29,7 +28,6 @@ fn write_front<W: Out>(out: &mut W, frame: &Frame<'_>, statements: usize) -> Res
 
 // The first columns, and the last ones.
 fn write_table<W: Out>(out: &mut W, frame: &Frame<'_>, entries: &[Entry]) -> Result<(), WriteFault>
-    requires counted { (W.Out.state out.old).failures < 2 ^ 63 }
     ensures written { Writes (W.Out.state out.old) (W.Out.state out.new)
         (spec.table (frame_is frame.now) (map entry_is entries.now)) result }
 {
@@ -46,7 +44,6 @@ fn foot_line(frame: &Frame<'_>, statements: usize) -> usize
 }
 
 fn write_foot<W: Out>(out: &mut W, frame: &Frame<'_>, entries: &[Entry]) -> Result<(), WriteFault>
-    requires counted { (W.Out.state out.old).failures < 2 ^ 63 }
     ensures written { Writes (W.Out.state out.old) (W.Out.state out.new)
         (spec.foot (frame_is frame.now) (map entry_is entries.now)) result }
 {
@@ -55,7 +52,6 @@ fn write_foot<W: Out>(out: &mut W, frame: &Frame<'_>, entries: &[Entry]) -> Resu
 }
 
 fn write_framed<W: Out>(out: &mut W, frame: &Frame<'_>, entries: &[Entry]) -> Result<(), WriteFault>
-    requires counted { (W.Out.state out.old).failures < 2 ^ 63 }
     ensures written { Writes (W.Out.state out.old) (W.Out.state out.new)
         (spec.picture_of (frame_is frame.now) (map entry_is entries.now)) result }
 {
@@ -73,7 +69,6 @@ fn write_part<W: Out>(
     part: Part,
     entries: &[Entry],
 ) -> Result<(), WriteFault>
-    requires counted { (W.Out.state out.old).failures < 2 ^ 63 }
     ensures written { Writes (W.Out.state out.old) (W.Out.state out.new)
         (spec.picture layout.now text.now part (map entry_is entries.now)) result }
 {
@@ -138,7 +133,6 @@ pub fn write_excerpt<W: Out>(
     from: usize,
     whole: usize,
 ) -> Result<(), WriteFault>
-    requires counted { (W.Out.state out.old).failures < 2 ^ 63 }
     ensures written { Writes (W.Out.state out.old) (W.Out.state out.new)
         (spec.picture layout.now text.now (spec.part_of from whole) (map entry_is entries.now)) result }
 {
@@ -162,7 +156,6 @@ pub fn write_picture<W: Out>(
     from: usize,
     to: usize,
 ) -> Result<(), WriteFault>
-    requires counted { (W.Out.state out.old).failures < 2 ^ 63 }
     ensures written { Writes (W.Out.state out.old) (W.Out.state out.new)
         (spec.picture_from layout.now text.now (map entry_is entries.now) from to) result }
 {

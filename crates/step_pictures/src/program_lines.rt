@@ -23,7 +23,6 @@ pub(crate) fn code_of(text: &[u8], line: u32) -> &[u8]
 }
 
 fn write_letters_and_dots<W: Out>(out: &mut W, bytes: &[u8]) -> Result<(), WriteFault>
-    requires counted { (W.Out.state out.old).failures < 2 ^ 63 }
     ensures written { Writes (W.Out.state out.old) (W.Out.state out.new) (spec.with_dots bytes.now) result }
 {
     write_letters(out, bytes)?;
@@ -32,7 +31,6 @@ fn write_letters_and_dots<W: Out>(out: &mut W, bytes: &[u8]) -> Result<(), Write
 
 // What is longer than a row is cut.
 fn write_cut<W: Out>(out: &mut W, bytes: &[u8]) -> Result<(), WriteFault>
-    requires counted { (W.Out.state out.old).failures < 2 ^ 63 }
     ensures written { Writes (W.Out.state out.old) (W.Out.state out.new) (spec.cut bytes.now) result }
 {
     if bytes.len() > MOST_LETTERS {
@@ -43,7 +41,6 @@ fn write_cut<W: Out>(out: &mut W, bytes: &[u8]) -> Result<(), WriteFault>
 }
 
 fn write_turned<W: Out>(out: &mut W, x: usize, y: usize) -> Result<(), WriteFault>
-    requires counted { (W.Out.state out.old).failures < 2 ^ 63 }
     ensures written { Writes (W.Out.state out.old) (W.Out.state out.new) (spec.turned x y) result }
 {
     let mut left = Buffer::new();
@@ -59,7 +56,6 @@ fn write_turned<W: Out>(out: &mut W, x: usize, y: usize) -> Result<(), WriteFaul
 
 // A row that reads upwards.
 fn write_upright<W: Out>(out: &mut W, x: usize, y: usize, bytes: &[u8]) -> Result<(), WriteFault>
-    requires counted { (W.Out.state out.old).failures < 2 ^ 63 }
     ensures written { Writes (W.Out.state out.old) (W.Out.state out.new) (spec.upright x y bytes.now) result }
 {
     write_turned(out, x, y)?;
@@ -69,7 +65,6 @@ fn write_upright<W: Out>(out: &mut W, x: usize, y: usize, bytes: &[u8]) -> Resul
 
 // The second row, if there is one.
 fn write_more<W: Out>(out: &mut W, x: usize, y: usize, bytes: &[u8]) -> Result<(), WriteFault>
-    requires counted { (W.Out.state out.old).failures < 2 ^ 63 }
     ensures written { Writes (W.Out.state out.old) (W.Out.state out.new) (spec.more_code x y bytes.now) result }
 {
     if bytes.is_empty() {
@@ -107,7 +102,6 @@ pub(crate) fn write_code<W: Out>(
     y: usize,
     bytes: &[u8],
 ) -> Result<(), WriteFault>
-    requires counted { (W.Out.state out.old).failures < 2 ^ 63 }
     requires near { x ≤ 2000 }
     ensures written { Writes (W.Out.state out.old) (W.Out.state out.new) (spec.code_rows x y bytes.now) result }
 {

@@ -14,7 +14,6 @@ use step_entries::{Change, LocalChange};
 use text_out::{Out, WriteFault};
 
 fn write_variable_head<W: Out>(out: &mut W, tree: &Tree, number: usize) -> Result<(), WriteFault>
-    requires counted { (W.Out.state out.old).failures < 2 ^ 63 }
     ensures written { Writes (W.Out.state out.old) (W.Out.state out.new) (spec.variable_head tree.now number) result }
 {
     out.write_parts(&[b" ", variable_name(tree, number)])
@@ -22,7 +21,6 @@ fn write_variable_head<W: Out>(out: &mut W, tree: &Tree, number: usize) -> Resul
 
 // A uniform variable's change, behind a space.
 fn write_variable<W: Out>(out: &mut W, tree: &Tree, change: &Change) -> Result<(), WriteFault>
-    requires counted { (W.Out.state out.old).failures < 2 ^ 63 }
     ensures written { Writes (W.Out.state out.old) (W.Out.state out.new) (spec.variable_text tree.now change.now) result }
 {
     write_variable_head(out, tree, change.cell)?;
@@ -30,7 +28,6 @@ fn write_variable<W: Out>(out: &mut W, tree: &Tree, change: &Change) -> Result<(
 }
 
 fn write_variables<W: Out>(out: &mut W, tree: &Tree, changes: &[Change]) -> Result<(), WriteFault>
-    requires counted { (W.Out.state out.old).failures < 2 ^ 63 }
     ensures written { Writes (W.Out.state out.old) (W.Out.state out.new) (spec.variables_text tree.now changes.now) result }
 {
     for change in changes {
@@ -47,7 +44,6 @@ fn write_name<W: Out>(
     before: Option<usize>,
     number: usize,
 ) -> Result<(), WriteFault>
-    requires counted { (W.Out.state out.old).failures < 2 ^ 63 }
     ensures written { Writes (W.Out.state out.old) (W.Out.state out.new) (spec.name_text tree.now at before number) result }
 {
     match before {
@@ -57,7 +53,6 @@ fn write_name<W: Out>(
 }
 
 pub(crate) fn write_processor_head<W: Out>(out: &mut W, processor: &i64) -> Result<(), WriteFault>
-    requires counted { (W.Out.state out.old).failures < 2 ^ 63 }
     ensures written { Writes (W.Out.state out.old) (W.Out.state out.new) (spec.processor_head processor.now) result }
 {
     let mut digits = Buffer::new();
@@ -66,7 +61,6 @@ pub(crate) fn write_processor_head<W: Out>(out: &mut W, processor: &i64) -> Resu
 
 // A processor's local, behind its index.
 fn write_processor<W: Out>(out: &mut W, local: &LocalChange) -> Result<(), WriteFault>
-    requires counted { (W.Out.state out.old).failures < 2 ^ 63 }
     ensures written { Writes (W.Out.state out.old) (W.Out.state out.new) (spec.processor_text local.now) result }
 {
     write_processor_head(out, &local.processor)?;
@@ -80,7 +74,6 @@ fn write_local<W: Out>(
     before: Option<usize>,
     local: &LocalChange,
 ) -> Result<(), WriteFault>
-    requires counted { (W.Out.state out.old).failures < 2 ^ 63 }
     ensures written { Writes (W.Out.state out.old) (W.Out.state out.new) (spec.local_text tree.now at before local.now) result }
 {
     write_name(out, tree, at, before, local.change.cell)?;
@@ -94,7 +87,6 @@ fn write_each_local<W: Out>(
     at: u32,
     locals: &[LocalChange],
 ) -> Result<(), WriteFault>
-    requires counted { (W.Out.state out.old).failures < 2 ^ 63 }
     ensures written { Writes (W.Out.state out.old) (W.Out.state out.new) (spec.each_local_text tree.now at None locals.now) result }
 {
     let mut before = None;
@@ -121,7 +113,6 @@ fn first_locals(locals: &[LocalChange]) -> &[LocalChange]
 
 /// Writes how many more than those there are.
 pub(crate) fn write_more<W: Out>(out: &mut W, count: usize) -> Result<(), WriteFault>
-    requires counted { (W.Out.state out.old).failures < 2 ^ 63 }
     ensures written { Writes (W.Out.state out.old) (W.Out.state out.new) (spec.more_text count) result }
 {
     if count <= MOST_LOCALS {
@@ -138,7 +129,6 @@ fn write_locals<W: Out>(
     at: u32,
     locals: &[LocalChange],
 ) -> Result<(), WriteFault>
-    requires counted { (W.Out.state out.old).failures < 2 ^ 63 }
     ensures written { Writes (W.Out.state out.old) (W.Out.state out.new) (spec.locals_text tree.now at locals.now) result }
 {
     write_each_local(out, tree, at, first_locals(locals))?;
@@ -146,7 +136,6 @@ fn write_locals<W: Out>(
 }
 
 fn write_printed<W: Out>(out: &mut W, printed: &[i64]) -> Result<(), WriteFault>
-    requires counted { (W.Out.state out.old).failures < 2 ^ 63 }
     ensures written { Writes (W.Out.state out.old) (W.Out.state out.new) (spec.printed_text printed.now) result }
 {
     if printed.is_empty() {
@@ -165,7 +154,6 @@ fn write_all_beside<W: Out>(
     locals: &[LocalChange],
     printed: &[i64],
 ) -> Result<(), WriteFault>
-    requires counted { (W.Out.state out.old).failures < 2 ^ 63 }
     ensures written { Writes (W.Out.state out.old) (W.Out.state out.new)
         (spec.all_text tree.now at variables.now locals.now printed.now) result }
 {
@@ -183,7 +171,6 @@ pub(crate) fn write_beside_cells<W: Out>(
     locals: &[LocalChange],
     printed: &[i64],
 ) -> Result<(), WriteFault>
-    requires counted { (W.Out.state out.old).failures < 2 ^ 63 }
     ensures written { Writes (W.Out.state out.old) (W.Out.state out.new)
         (spec.beside_text detail.now.locals at variables.now locals.now printed.now) result }
 {

@@ -16,7 +16,6 @@ pub(crate) fn write_column<W: Out>(
     detail: &Detail<'_>,
     at: u32,
 ) -> Result<(), WriteFault>
-    requires counted { (W.Out.state out.old).failures < 2 ^ 63 }
     ensures written { Writes (W.Out.state out.old) (W.Out.state out.new) (spec.column_text detail.now.columns at) result }
 {
     match detail.columns {
@@ -30,7 +29,6 @@ pub(crate) fn write_column<W: Out>(
 }
 
 fn write_line_number<W: Out>(out: &mut W, line: u32) -> Result<(), WriteFault>
-    requires counted { (W.Out.state out.old).failures < 2 ^ 63 }
     ensures written { Writes (W.Out.state out.old) (W.Out.state out.new) (spec.line_text line) result }
 {
     let mut digits = Buffer::new();
@@ -43,7 +41,6 @@ pub(crate) fn write_place<W: Out>(
     detail: &Detail<'_>,
     location: Location,
 ) -> Result<(), WriteFault>
-    requires counted { (W.Out.state out.old).failures < 2 ^ 63 }
     ensures written { Writes (W.Out.state out.old) (W.Out.state out.new) (spec.place_text detail.now.columns location) result }
 {
     write_line_number(out, location.line)?;

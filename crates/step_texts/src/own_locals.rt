@@ -22,7 +22,6 @@ fn write_own_local<W: Out>(
     number: usize,
     value: &i64,
 ) -> Result<(), WriteFault>
-    requires counted { (W.Out.state out.old).failures < 2 ^ 63 }
     ensures written { Writes (W.Out.state out.old) (W.Out.state out.new) (spec.local_text tree.now at number value.now) result }
 {
     let mut digits = Buffer::new();
@@ -41,7 +40,6 @@ fn write_own_values<W: Out>(
     at: u32,
     values: &[i64],
 ) -> Result<(), WriteFault>
-    requires counted { (W.Out.state out.old).failures < 2 ^ 63 }
     ensures written { Writes (W.Out.state out.old) (W.Out.state out.new) (spec.values_text tree.now at 0 values.now) result }
 {
     let mut number = 0;
@@ -53,7 +51,6 @@ fn write_own_values<W: Out>(
 }
 
 fn write_owner<W: Out>(out: &mut W, tree: &Tree, at: u32, own: &OwnLocals) -> Result<(), WriteFault>
-    requires counted { (W.Out.state out.old).failures < 2 ^ 63 }
     ensures written { Writes (W.Out.state out.old) (W.Out.state out.new) (spec.owner_text tree.now at (own_is own.now)) result }
 {
     write_processor_head(out, &own.processor)?;
@@ -74,7 +71,6 @@ fn write_if_first<W: Out>(
     count: usize,
     own: &OwnLocals,
 ) -> Result<(), WriteFault>
-    requires counted { (W.Out.state out.old).failures < 2 ^ 63 }
     ensures written { Writes (W.Out.state out.old) (W.Out.state out.new)
         (if nat_lt count most_locals && spec.is_owner (own_is own.now) then spec.owner_text tree.now at (own_is own.now) else []) result }
 {
@@ -99,7 +95,6 @@ fn write_owners<W: Out>(
     at: u32,
     locals: &[OwnLocals],
 ) -> Result<(), WriteFault>
-    requires counted { (W.Out.state out.old).failures < 2 ^ 63 }
     ensures written { Writes (W.Out.state out.old) (W.Out.state out.new)
         (spec.first_text tree.now at (filter spec.is_owner (map own_is locals.now))) result }
 {
@@ -119,7 +114,6 @@ pub(crate) fn write_own_locals<W: Out>(
     at: u32,
     locals: &[OwnLocals],
 ) -> Result<(), WriteFault>
-    requires counted { (W.Out.state out.old).failures < 2 ^ 63 }
     ensures written { Writes (W.Out.state out.old) (W.Out.state out.new)
         (spec.own_text detail.now.locals at (map own_is locals.now)) result }
 {

@@ -24,7 +24,6 @@ use write_rules::Fault;
 
 // A cell's change, behind a space.
 fn write_change<W: Out>(out: &mut W, layout: &Layout, change: &Change) -> Result<(), WriteFault>
-    requires counted { (W.Out.state out.old).failures < 2 ^ 63 }
     ensures written { Writes (W.Out.state out.old) (W.Out.state out.new) (spec.change_text layout.now change.now) result }
 {
     out.write_all(b" ")?;
@@ -37,7 +36,6 @@ pub(crate) fn write_changes<W: Out>(
     layout: &Layout,
     changes: &[Change],
 ) -> Result<(), WriteFault>
-    requires counted { (W.Out.state out.old).failures < 2 ^ 63 }
     ensures written { Writes (W.Out.state out.old) (W.Out.state out.new) (spec.changes_text layout.now changes.now) result }
 {
     for change in changes {
@@ -47,7 +45,6 @@ pub(crate) fn write_changes<W: Out>(
 }
 
 fn write_meeting<W: Out>(out: &mut W, processors: &[i64]) -> Result<(), WriteFault>
-    requires counted { (W.Out.state out.old).failures < 2 ^ 63 }
     ensures written { Writes (W.Out.state out.old) (W.Out.state out.new) (spec.meeting_text processors.now) result }
 {
     if processors.is_empty() {
@@ -59,7 +56,6 @@ fn write_meeting<W: Out>(out: &mut W, processors: &[i64]) -> Result<(), WriteFau
 
 // How many processors executed a statement.
 fn write_count<W: Out>(out: &mut W, processors: usize) -> Result<(), WriteFault>
-    requires counted { (W.Out.state out.old).failures < 2 ^ 63 }
     ensures written { Writes (W.Out.state out.old) (W.Out.state out.new) (spec.count_text processors) result }
 {
     let mut digits = Buffer::new();
@@ -73,7 +69,6 @@ pub(crate) fn write_head<W: Out>(
     location: Location,
     processors: usize,
 ) -> Result<(), WriteFault>
-    requires counted { (W.Out.state out.old).failures < 2 ^ 63 }
     ensures written { Writes (W.Out.state out.old) (W.Out.state out.new) (spec.head_text detail.now.columns location processors) result }
 {
     write_place(out, detail, location)?;
@@ -89,7 +84,6 @@ fn write_ran<W: Out>(
     processors: usize,
     changes: &[Change],
 ) -> Result<(), WriteFault>
-    requires counted { (W.Out.state out.old).failures < 2 ^ 63 }
     ensures written { Writes (W.Out.state out.old) (W.Out.state out.new)
         (spec.ran_text layout.now detail.now.columns location processors changes.now) result }
 {
@@ -104,7 +98,6 @@ fn write_whole<W: Out>(
     detail: &Detail<'_>,
     ran: &Ran<'_>,
 ) -> Result<(), WriteFault>
-    requires counted { (W.Out.state out.old).failures < 2 ^ 63 }
     ensures written { Writes (W.Out.state out.old) (W.Out.state out.new)
         (spec.whole_text layout.now detail.now ran.now.location ran.now.processors ran.now.cells.now ran.now.variables.now
         ran.now.locals.now ran.now.printed.now) result }
@@ -124,7 +117,6 @@ pub(crate) fn write_faulting<W: Out>(
     processors: &[i64],
     locals: &[OwnLocals],
 ) -> Result<(), WriteFault>
-    requires counted { (W.Out.state out.old).failures < 2 ^ 63 }
     ensures written { Writes (W.Out.state out.old) (W.Out.state out.new)
         (spec.faulting_text layout.now detail.now location fault.now processors.now (map own_is locals.now)) result }
 {
@@ -141,7 +133,6 @@ fn write_told<W: Out>(
     detail: &Detail<'_>,
     entry: &Entry,
 ) -> Result<(), WriteFault>
-    requires counted { (W.Out.state out.old).failures < 2 ^ 63 }
     ensures written { Writes (W.Out.state out.old) (W.Out.state out.new)
         (spec.told_text layout.now detail.now (entry_is entry.now)) result }
 {
@@ -176,7 +167,6 @@ fn write_told<W: Out>(
 
 // The number of an entry.
 pub(crate) fn write_number<W: Out>(out: &mut W, number: usize) -> Result<(), WriteFault>
-    requires counted { (W.Out.state out.old).failures < 2 ^ 63 }
     ensures written { Writes (W.Out.state out.old) (W.Out.state out.new) (spec.number_text number) result }
 {
     let mut digits = Buffer::new();
@@ -195,7 +185,6 @@ pub fn write_entry<W: Out>(
     number: usize,
     entry: &Entry,
 ) -> Result<(), WriteFault>
-    requires counted { (W.Out.state out.old).failures < 2 ^ 63 }
     ensures written { Writes (W.Out.state out.old) (W.Out.state out.new)
         (line (spec.entry_text layout.now detail.now number (entry_is entry.now))) result }
 {
@@ -213,7 +202,6 @@ pub fn write_line<W: Out>(
     number: usize,
     entry: &Entry,
 ) -> Result<(), WriteFault>
-    requires counted { (W.Out.state out.old).failures < 2 ^ 63 }
     ensures written { Writes (W.Out.state out.old) (W.Out.state out.new)
         (entry_line layout.now telling.now.manner telling.now.detail number (entry_is entry.now)) result }
 {

@@ -21,7 +21,6 @@ fn write_in_colour<W: Out>(
     layout: &Layout,
     changes: &[Change],
 ) -> Result<(), WriteFault>
-    requires counted { (W.Out.state out.old).failures < 2 ^ 63 }
     ensures written { Writes (W.Out.state out.old) (W.Out.state out.new) (spec.in_colour layout.now changes.now) result }
 {
     out.write_all(b"\x1b[36m")?;
@@ -36,7 +35,6 @@ fn write_coloured<W: Out>(
     colours: bool,
     changes: &[Change],
 ) -> Result<(), WriteFault>
-    requires counted { (W.Out.state out.old).failures < 2 ^ 63 }
     ensures written { Writes (W.Out.state out.old) (W.Out.state out.new) (spec.coloured_changes layout.now colours changes.now) result }
 {
     if colours && !changes.is_empty() {
@@ -56,7 +54,6 @@ fn write_ran<W: Out>(
     processors: usize,
     changes: &[Change],
 ) -> Result<(), WriteFault>
-    requires counted { (W.Out.state out.old).failures < 2 ^ 63 }
     ensures written { Writes (W.Out.state out.old) (W.Out.state out.new)
         (spec.ran_text layout.now colours detail.now.columns location processors changes.now) result }
 {
@@ -72,7 +69,6 @@ fn write_whole<W: Out>(
     detail: &Detail<'_>,
     ran: &Ran<'_>,
 ) -> Result<(), WriteFault>
-    requires counted { (W.Out.state out.old).failures < 2 ^ 63 }
     ensures written { Writes (W.Out.state out.old) (W.Out.state out.new)
         (spec.whole_text layout.now colours detail.now ran.now.location ran.now.processors ran.now.cells.now ran.now.variables.now
         ran.now.locals.now ran.now.printed.now) result }
@@ -98,7 +94,6 @@ fn write_told<W: Out>(
     detail: &Detail<'_>,
     entry: &Entry,
 ) -> Result<(), WriteFault>
-    requires counted { (W.Out.state out.old).failures < 2 ^ 63 }
     ensures written { Writes (W.Out.state out.old) (W.Out.state out.new)
         (spec.told_text layout.now colours detail.now (entry_is entry.now)) result }
 {
@@ -143,7 +138,6 @@ fn line_of(entry: &Entry) -> u32
 
 // The line of the text beside an entry, and the end of the entry's line.
 fn write_beside<W: Out>(out: &mut W, text: &[u8], line: u32) -> Result<(), WriteFault>
-    requires counted { (W.Out.state out.old).failures < 2 ^ 63 }
     ensures written { Writes (W.Out.state out.old) (W.Out.state out.new) (spec.beside text.now line) result }
 {
     out.write_all(b"  | ")?;
@@ -160,7 +154,6 @@ pub(crate) fn write_on_terminal<W: Out>(
     number: usize,
     entry: &Entry,
 ) -> Result<(), WriteFault>
-    requires counted { (W.Out.state out.old).failures < 2 ^ 63 }
     ensures written { Writes (W.Out.state out.old) (W.Out.state out.new)
         (spec.entry_line layout.now text.now colours detail.now number (entry_is entry.now)) result }
 {

@@ -10,7 +10,6 @@ use text_out::{Out, WriteFault};
 
 // Values before and behind a statement.
 pub(crate) fn write_value<W: Out>(out: &mut W, change: &Change) -> Result<(), WriteFault>
-    requires counted { (W.Out.state out.old).failures < 2 ^ 63 }
     ensures written { Writes (W.Out.state out.old) (W.Out.state out.new) (spec.value_text change.now) result }
 {
     let mut before = Buffer::new();

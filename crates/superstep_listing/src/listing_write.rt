@@ -15,7 +15,6 @@ use text_out::{Out, WriteFault};
 ///
 /// `WriteFault` (E17) says that the writer failed. What it took is a beginning of the listing.
 pub fn write_listing<W: Out>(code: &Code, out: &mut W) -> Result<(), WriteFault>
-    requires counted { (W.Out.state out.old).failures < 2 ^ 63 }
     ensures written { Writes (W.Out.state out.old) (W.Out.state out.new) (spelling code.now) result }
 {
     let mut printer = Printer { out, failed: false };

@@ -3,7 +3,7 @@
 ghost use Rattle.std.specs.Prelude.{◌≡◌, ◌<◌, ◌++◌, ◌∷◌, [], codes, take, pos, length, map, slice_get, IfSome, None, Some, ◌≤◌};
 ghost use Rattle.std.specs.Fmt.{signed_decimal};
 ghost use Rattle.std.specs.List.{flat_map};
-ghost use Rattle.text_out.specs.Printing.{MayFail, Prints, printing};
+ghost use Rattle.text_out.specs.Printing.{Prints, printing};
 ghost use Rattle.superstep_instructions.specs.Limits.{most_instructions};
 ghost use Rattle.superstep_listing.specs.Listing.{ended, entry_line, entry_words, field_words, head_lines, instr_lines, instr_words, line};
 ghost use Rattle.superstep_listing.specs.Listing.{spelling};
@@ -20,7 +20,6 @@ use text_out::Out;
 pub(crate) struct Printer<'a, W: Out> {
     pub(crate) out: &'a mut W,
     pub(crate) failed: bool,
-    ghost may_fail: { MayFail (W.Out.state out.now) failed },
 }
 
 impl<'a, W: Out> Printer<'a, W> {

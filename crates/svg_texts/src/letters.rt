@@ -7,7 +7,6 @@ ghost use Rattle.svg_texts.specs.Letters as spec;
 use text_out::{Out, WriteFault};
 
 fn write_letter<W: Out>(out: &mut W, byte: u8) -> Result<(), WriteFault>
-    requires counted { (W.Out.state out.old).failures < 2 ^ 63 }
     ensures written { Writes (W.Out.state out.old) (W.Out.state out.new) (spec.letter byte) result }
 {
     if byte == b'&' {
@@ -28,7 +27,6 @@ fn write_letter<W: Out>(out: &mut W, byte: u8) -> Result<(), WriteFault>
 /// Writes bytes as a text of SVG: `&`, `<` and `>` as SVG has them, a tab as a blank, and any other byte that is no printed letter of ASCII
 /// as a question mark. The error is that the writer failed (E17).
 pub fn write_letters<W: Out>(out: &mut W, bytes: &[u8]) -> Result<(), WriteFault>
-    requires counted { (W.Out.state out.old).failures < 2 ^ 63 }
     ensures written { Writes (W.Out.state out.old) (W.Out.state out.new) (spec.letters bytes.now) result }
 {
     for byte in bytes {

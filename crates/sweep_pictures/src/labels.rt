@@ -85,7 +85,6 @@ fn is_far(last: u64, label: &Label) -> bool
 }
 
 fn write_text<W: Out>(label: &Label, out: &mut W) -> Result<(), WriteFault>
-    requires counted { (W.Out.state out.old).failures < 2 ^ 63 }
     ensures written { Writes (W.Out.state out.old) (W.Out.state out.new) (spec.text_of label.now) result }
 {
     let mut across = Buffer::new();
@@ -103,7 +102,6 @@ fn write_text<W: Out>(label: &Label, out: &mut W) -> Result<(), WriteFault>
 }
 
 fn write_far<W: Out>(last: u64, label: &Label, out: &mut W) -> Result<(), WriteFault>
-    requires counted { (W.Out.state out.old).failures < 2 ^ 63 }
     ensures written { Writes (W.Out.state out.old) (W.Out.state out.new) (spec.label_text last (Some label.now)) result }
 {
     if is_far(last, label) {
@@ -114,7 +112,6 @@ fn write_far<W: Out>(last: u64, label: &Label, out: &mut W) -> Result<(), WriteF
 }
 
 fn write_label<W: Out>(last: u64, label: Option<Label>, out: &mut W) -> Result<(), WriteFault>
-    requires counted { (W.Out.state out.old).failures < 2 ^ 63 }
     ensures written { Writes (W.Out.state out.old) (W.Out.state out.new) (spec.label_text last label) result }
 {
     match label {
@@ -140,7 +137,6 @@ pub(crate) fn write_labels<W: Out>(
     rows: &[SizeRow],
     out: &mut W,
 ) -> Result<(), WriteFault>
-    requires counted { (W.Out.state out.old).failures < 2 ^ 63 }
     ensures written { Writes (W.Out.state out.old) (W.Out.state out.new) (spec.labels kind frame 0 rows.now) result }
 {
     let mut last = 0u64;

@@ -11,7 +11,6 @@ use sweep_texts::{Ending, SizeRow};
 use text_out::{Out, WriteFault};
 
 fn write_point<W: Out>(x: u64, y: u64, out: &mut W) -> Result<(), WriteFault>
-    requires counted { (W.Out.state out.old).failures < 2 ^ 63 }
     ensures written { Writes (W.Out.state out.old) (W.Out.state out.new) (spec.point x y) result }
 {
     let mut across = Buffer::new();
@@ -30,7 +29,6 @@ fn write_ending_point<W: Out>(
     ending: &Ending,
     out: &mut W,
 ) -> Result<(), WriteFault>
-    requires counted { (W.Out.state out.old).failures < 2 ^ 63 }
     ensures written { Writes (W.Out.state out.old) (W.Out.state out.new) (spec.ending_point x y ending.now) result }
 {
     match ending {
@@ -42,7 +40,6 @@ fn write_ending_point<W: Out>(
 }
 
 fn write_row_point<W: Out>(frame: Frame, row: &SizeRow, out: &mut W) -> Result<(), WriteFault>
-    requires counted { (W.Out.state out.old).failures < 2 ^ 63 }
     ensures written { Writes (W.Out.state out.old) (W.Out.state out.new) (spec.row_point frame row.now) result }
 {
     let y = mark_y(frame, &row.ending);
@@ -50,7 +47,6 @@ fn write_row_point<W: Out>(frame: Frame, row: &SizeRow, out: &mut W) -> Result<(
 }
 
 fn write_points<W: Out>(frame: Frame, rows: &[SizeRow], out: &mut W) -> Result<(), WriteFault>
-    requires counted { (W.Out.state out.old).failures < 2 ^ 63 }
     ensures written { Writes (W.Out.state out.old) (W.Out.state out.new) (spec.points frame rows.now) result }
 {
     for row in rows {
@@ -65,7 +61,6 @@ pub(crate) fn write_line<W: Out>(
     rows: &[SizeRow],
     out: &mut W,
 ) -> Result<(), WriteFault>
-    requires counted { (W.Out.state out.old).failures < 2 ^ 63 }
     ensures written { Writes (W.Out.state out.old) (W.Out.state out.new) (spec.line_text frame rows.now) result }
 {
     out.write_all(b"<polyline fill='none' stroke='#000000' points='")?;

@@ -16,7 +16,6 @@ fn write_mark<W: Out>(
     row: &SizeRow,
     out: &mut W,
 ) -> Result<(), WriteFault>
-    requires counted { (W.Out.state out.old).failures < 2 ^ 63 }
     ensures written { Writes (W.Out.state out.old) (W.Out.state out.new) (spec.mark name.now frame row.now) result }
 {
     write_titled(name, frame.measure, row, out)?;
@@ -30,7 +29,6 @@ pub(crate) fn write_marks<W: Out>(
     rows: &[SizeRow],
     out: &mut W,
 ) -> Result<(), WriteFault>
-    requires counted { (W.Out.state out.old).failures < 2 ^ 63 }
     ensures written { Writes (W.Out.state out.old) (W.Out.state out.new) (spec.marks name.now frame rows.now) result }
 {
     for row in rows {

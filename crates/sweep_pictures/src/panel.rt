@@ -25,7 +25,6 @@ fn heading(measure: Measure) -> &'static [u8]
 
 // The title, and the two axes.
 fn write_axes<W: Out>(frame: Frame, out: &mut W) -> Result<(), WriteFault>
-    requires counted { (W.Out.state out.old).failures < 2 ^ 63 }
     ensures written { Writes (W.Out.state out.old) (W.Out.state out.new) (spec.axes frame) result }
 {
     let mut title = Buffer::new();
@@ -47,7 +46,6 @@ fn write_axes<W: Out>(frame: Frame, out: &mut W) -> Result<(), WriteFault>
 // A round number with its line.
 fn write_tick_line<W: Out>(y: u64, number: u128, out: &mut W) -> Result<(), WriteFault>
     requires near { y < 2 ^ 32 }
-    requires counted { (W.Out.state out.old).failures < 2 ^ 63 }
     ensures written { Writes (W.Out.state out.old) (W.Out.state out.new) (spec.tick_line y number) result }
 {
     let mut line = Buffer::new();
@@ -74,7 +72,6 @@ fn step(frame: Frame) -> u128
 
 fn write_tick<W: Out>(frame: Frame, number: u128, out: &mut W) -> Result<(), WriteFault>
     requires small { number < 2 ^ 100 }
-    requires counted { (W.Out.state out.old).failures < 2 ^ 63 }
     ensures written { Writes (W.Out.state out.old) (W.Out.state out.new) (spec.tick frame number) result }
 {
     if number <= top(frame.most) {
@@ -85,7 +82,6 @@ fn write_tick<W: Out>(frame: Frame, number: u128, out: &mut W) -> Result<(), Wri
 }
 
 fn write_ticks<W: Out>(frame: Frame, out: &mut W) -> Result<(), WriteFault>
-    requires counted { (W.Out.state out.old).failures < 2 ^ 63 }
     ensures written { Writes (W.Out.state out.old) (W.Out.state out.new) (spec.ticks frame) result }
 {
     for k in 0..6u32 {
@@ -96,7 +92,6 @@ fn write_ticks<W: Out>(frame: Frame, out: &mut W) -> Result<(), WriteFault>
 
 // Where the sizes' name begins.
 fn write_name_front<W: Out>(frame: Frame, out: &mut W) -> Result<(), WriteFault>
-    requires counted { (W.Out.state out.old).failures < 2 ^ 63 }
     ensures written { Writes (W.Out.state out.old) (W.Out.state out.new) (spec.name_front frame) result }
 {
     let mut down = Buffer::new();
@@ -109,7 +104,6 @@ fn write_name_front<W: Out>(frame: Frame, out: &mut W) -> Result<(), WriteFault>
 
 // What the sizes are called.
 fn write_name<W: Out>(name: &[u8], frame: Frame, out: &mut W) -> Result<(), WriteFault>
-    requires counted { (W.Out.state out.old).failures < 2 ^ 63 }
     ensures written { Writes (W.Out.state out.old) (W.Out.state out.new) (spec.name_text name.now frame) result }
 {
     write_name_front(frame, out)?;
@@ -118,7 +112,6 @@ fn write_name<W: Out>(name: &[u8], frame: Frame, out: &mut W) -> Result<(), Writ
 }
 
 fn write_ground<W: Out>(name: &[u8], frame: Frame, out: &mut W) -> Result<(), WriteFault>
-    requires counted { (W.Out.state out.old).failures < 2 ^ 63 }
     ensures written { Writes (W.Out.state out.old) (W.Out.state out.new) (spec.ground name.now frame) result }
 {
     write_ticks(frame, out)?;
@@ -127,7 +120,6 @@ fn write_ground<W: Out>(name: &[u8], frame: Frame, out: &mut W) -> Result<(), Wr
 }
 
 fn write_all_labels<W: Out>(frame: Frame, rows: &[SizeRow], out: &mut W) -> Result<(), WriteFault>
-    requires counted { (W.Out.state out.old).failures < 2 ^ 63 }
     ensures written { Writes (W.Out.state out.old) (W.Out.state out.new) (spec.all_labels frame rows.now) result }
 {
     write_labels(Kind::Sizes, frame, rows, out)?;
@@ -141,7 +133,6 @@ fn write_figure<W: Out>(
     rows: &[SizeRow],
     out: &mut W,
 ) -> Result<(), WriteFault>
-    requires counted { (W.Out.state out.old).failures < 2 ^ 63 }
     ensures written { Writes (W.Out.state out.old) (W.Out.state out.new) (spec.figure name.now frame rows.now) result }
 {
     write_line(frame, rows, out)?;
@@ -156,7 +147,6 @@ pub(crate) fn write_panel<W: Out>(
     rows: &[SizeRow],
     out: &mut W,
 ) -> Result<(), WriteFault>
-    requires counted { (W.Out.state out.old).failures < 2 ^ 63 }
     ensures written { Writes (W.Out.state out.old) (W.Out.state out.new) (spec.panel name.now frame rows.now) result }
 {
     write_ground(name, frame, out)?;

@@ -11,7 +11,6 @@ use sweep_texts::{Measure, SizeRow};
 use text_out::{Out, WriteFault};
 
 fn write_opening<W: Out>(out: &mut W) -> Result<(), WriteFault>
-    requires counted { (W.Out.state out.old).failures < 2 ^ 63 }
     ensures written { Writes (W.Out.state out.old) (W.Out.state out.new) (spec.opening) result }
 {
     out.write_parts(&[
@@ -21,7 +20,6 @@ fn write_opening<W: Out>(out: &mut W) -> Result<(), WriteFault>
 }
 
 fn write_first<W: Out>(count: usize, out: &mut W) -> Result<(), WriteFault>
-    requires counted { (W.Out.state out.old).failures < 2 ^ 63 }
     ensures written { Writes (W.Out.state out.old) (W.Out.state out.new) (spec.first_text count) result }
 {
     let mut digits = Buffer::new();
@@ -34,7 +32,6 @@ fn write_first<W: Out>(count: usize, out: &mut W) -> Result<(), WriteFault>
 
 // That not all sizes are drawn.
 fn write_cut<W: Out>(count: usize, out: &mut W) -> Result<(), WriteFault>
-    requires counted { (W.Out.state out.old).failures < 2 ^ 63 }
     ensures written { Writes (W.Out.state out.old) (W.Out.state out.new) (spec.cut_text count) result }
 {
     if count > 64 {
@@ -52,7 +49,6 @@ fn write_measured<W: Out>(
     rows: &[SizeRow],
     out: &mut W,
 ) -> Result<(), WriteFault>
-    requires counted { (W.Out.state out.old).failures < 2 ^ 63 }
     ensures written { Writes (W.Out.state out.old) (W.Out.state out.new)
         (spec.panel name.now (spec.frame_of measure base rows.now) rows.now) result }
 {
@@ -61,7 +57,6 @@ fn write_measured<W: Out>(
 
 // Time, and below it work.
 fn write_panels<W: Out>(name: &[u8], rows: &[SizeRow], out: &mut W) -> Result<(), WriteFault>
-    requires counted { (W.Out.state out.old).failures < 2 ^ 63 }
     ensures written { Writes (W.Out.state out.old) (W.Out.state out.new) (spec.panels name.now rows.now) result }
 {
     write_measured(name, Measure::Time, 220, rows, out)?;
@@ -76,7 +71,6 @@ fn write_drawn<W: Out>(
     rows: &[SizeRow],
     out: &mut W,
 ) -> Result<(), WriteFault>
-    requires counted { (W.Out.state out.old).failures < 2 ^ 63 }
     ensures written { Writes (W.Out.state out.old) (W.Out.state out.new) (spec.picture_of name.now count rows.now) result }
 {
     write_opening(out)?;
@@ -95,7 +89,6 @@ pub fn write_sweep_picture<W: Out>(
     rows: &[SizeRow],
     out: &mut W,
 ) -> Result<(), WriteFault>
-    requires counted { (W.Out.state out.old).failures < 2 ^ 63 }
     ensures written { Writes (W.Out.state out.old) (W.Out.state out.new) (spec.picture name.now rows.now) result }
 {
     write_drawn(name, rows.len(), drawn(rows), out)

@@ -12,7 +12,6 @@ use text_out::{Out, WriteFault};
 
 // Full where a run ended, hollow where it goes on.
 fn write_circle<W: Out>(x: u64, y: u64, fill: &[u8], out: &mut W) -> Result<(), WriteFault>
-    requires counted { (W.Out.state out.old).failures < 2 ^ 63 }
     ensures written { Writes (W.Out.state out.old) (W.Out.state out.new) (spec.circle x y fill.now) result }
 {
     let mut across = Buffer::new();
@@ -30,7 +29,6 @@ fn write_circle<W: Out>(x: u64, y: u64, fill: &[u8], out: &mut W) -> Result<(), 
 
 // Where it faulted.
 fn write_square<W: Out>(x: u64, y: u64, out: &mut W) -> Result<(), WriteFault>
-    requires counted { (W.Out.state out.old).failures < 2 ^ 63 }
     ensures written { Writes (W.Out.state out.old) (W.Out.state out.new) (spec.square x y) result }
 {
     let mut across = Buffer::new();
@@ -46,7 +44,6 @@ fn write_square<W: Out>(x: u64, y: u64, out: &mut W) -> Result<(), WriteFault>
 
 // Where there was none.
 fn write_cross<W: Out>(x: u64, y: u64, out: &mut W) -> Result<(), WriteFault>
-    requires counted { (W.Out.state out.old).failures < 2 ^ 63 }
     ensures written { Writes (W.Out.state out.old) (W.Out.state out.new) (spec.cross x y) result }
 {
     let mut across = Buffer::new();
@@ -67,7 +64,6 @@ fn write_shape<W: Out>(
     ending: &Ending,
     out: &mut W,
 ) -> Result<(), WriteFault>
-    requires counted { (W.Out.state out.old).failures < 2 ^ 63 }
     ensures written { Writes (W.Out.state out.old) (W.Out.state out.new) (spec.shape frame x y ending.now) result }
 {
     match ending {
@@ -84,7 +80,6 @@ pub(crate) fn write_row_shape<W: Out>(
     row: &SizeRow,
     out: &mut W,
 ) -> Result<(), WriteFault>
-    requires counted { (W.Out.state out.old).failures < 2 ^ 63 }
     ensures written { Writes (W.Out.state out.old) (W.Out.state out.new) (spec.row_shape frame row.now) result }
 {
     let y = mark_y(frame, &row.ending);

@@ -19,7 +19,6 @@ fn word(measure: Measure) -> &'static [u8]
 }
 
 fn write_told<W: Out>(word: &[u8], number: u64, how: &[u8], out: &mut W) -> Result<(), WriteFault>
-    requires counted { (W.Out.state out.old).failures < 2 ^ 63 }
     ensures written { Writes (W.Out.state out.old) (W.Out.state out.new) (spec.told_text word.now number how.now) result }
 {
     let mut digits = Buffer::new();
@@ -33,7 +32,6 @@ fn write_number<W: Out>(
     how: &[u8],
     out: &mut W,
 ) -> Result<(), WriteFault>
-    requires counted { (W.Out.state out.old).failures < 2 ^ 63 }
     ensures written { Writes (W.Out.state out.old) (W.Out.state out.new) (spec.number_text measure counts.now how.now) result }
 {
     write_told(word(measure), measure.number(counts), how, out)
@@ -45,7 +43,6 @@ fn write_fault<W: Out>(
     fault: &[u8],
     out: &mut W,
 ) -> Result<(), WriteFault>
-    requires counted { (W.Out.state out.old).failures < 2 ^ 63 }
     ensures written { Writes (W.Out.state out.old) (W.Out.state out.new) (spec.fault_text measure counts.now fault.now) result }
 {
     write_number(measure, counts, b" ", out)?;
@@ -53,7 +50,6 @@ fn write_fault<W: Out>(
 }
 
 fn write_refusal<W: Out>(refusal: &[u8], out: &mut W) -> Result<(), WriteFault>
-    requires counted { (W.Out.state out.old).failures < 2 ^ 63 }
     ensures written { Writes (W.Out.state out.old) (W.Out.state out.new) (spec.refusal_text refusal.now) result }
 {
     out.write_all(b" ")?;
@@ -61,7 +57,6 @@ fn write_refusal<W: Out>(refusal: &[u8], out: &mut W) -> Result<(), WriteFault>
 }
 
 fn write_ending<W: Out>(measure: Measure, ending: &Ending, out: &mut W) -> Result<(), WriteFault>
-    requires counted { (W.Out.state out.old).failures < 2 ^ 63 }
     ensures written { Writes (W.Out.state out.old) (W.Out.state out.new) (spec.ending_text measure ending.now) result }
 {
     match ending {
@@ -73,7 +68,6 @@ fn write_ending<W: Out>(measure: Measure, ending: &Ending, out: &mut W) -> Resul
 }
 
 fn write_size<W: Out>(size: u64, out: &mut W) -> Result<(), WriteFault>
-    requires counted { (W.Out.state out.old).failures < 2 ^ 63 }
     ensures written { Writes (W.Out.state out.old) (W.Out.state out.new) (spec.size_text size) result }
 {
     let mut digits = Buffer::new();
@@ -81,7 +75,6 @@ fn write_size<W: Out>(size: u64, out: &mut W) -> Result<(), WriteFault>
 }
 
 fn write_row<W: Out>(measure: Measure, row: &SizeRow, out: &mut W) -> Result<(), WriteFault>
-    requires counted { (W.Out.state out.old).failures < 2 ^ 63 }
     ensures written { Writes (W.Out.state out.old) (W.Out.state out.new) (spec.row_text measure row.now) result }
 {
     write_size(row.size, out)?;
@@ -94,7 +87,6 @@ fn write_title<W: Out>(
     row: &SizeRow,
     out: &mut W,
 ) -> Result<(), WriteFault>
-    requires counted { (W.Out.state out.old).failures < 2 ^ 63 }
     ensures written { Writes (W.Out.state out.old) (W.Out.state out.new) (spec.title_text name.now measure row.now) result }
 {
     write_letters(out, name)?;
@@ -108,7 +100,6 @@ pub(crate) fn write_titled<W: Out>(
     row: &SizeRow,
     out: &mut W,
 ) -> Result<(), WriteFault>
-    requires counted { (W.Out.state out.old).failures < 2 ^ 63 }
     ensures written { Writes (W.Out.state out.old) (W.Out.state out.new) (spec.titled name.now measure row.now) result }
 {
     out.write_all(b"<g><title>")?;

@@ -27,7 +27,6 @@ fn has_mark(field: &[u8]) -> bool
 
 // A byte between quotes.
 fn write_doubled<W: Out>(byte: u8, out: &mut W) -> Result<(), WriteFault>
-    requires counted { (W.Out.state out.old).failures < 2 ^ 63 }
     ensures written { Writes (W.Out.state out.old) (W.Out.state out.new) (spec.doubled byte) result }
 {
     if byte == b'"' {
@@ -38,7 +37,6 @@ fn write_doubled<W: Out>(byte: u8, out: &mut W) -> Result<(), WriteFault>
 }
 
 fn write_escaped<W: Out>(field: &[u8], out: &mut W) -> Result<(), WriteFault>
-    requires counted { (W.Out.state out.old).failures < 2 ^ 63 }
     ensures written { Writes (W.Out.state out.old) (W.Out.state out.new) (spec.escaped field.now) result }
 {
     for byte in field {
@@ -48,7 +46,6 @@ fn write_escaped<W: Out>(field: &[u8], out: &mut W) -> Result<(), WriteFault>
 }
 
 fn write_quoted<W: Out>(field: &[u8], out: &mut W) -> Result<(), WriteFault>
-    requires counted { (W.Out.state out.old).failures < 2 ^ 63 }
     ensures written { Writes (W.Out.state out.old) (W.Out.state out.new) (spec.quoted field.now) result }
 {
     out.write_all(b"\"")?;
@@ -58,7 +55,6 @@ fn write_quoted<W: Out>(field: &[u8], out: &mut W) -> Result<(), WriteFault>
 
 // A field, in quotes where a mark is in it.
 fn write_field<W: Out>(field: &[u8], out: &mut W) -> Result<(), WriteFault>
-    requires counted { (W.Out.state out.old).failures < 2 ^ 63 }
     ensures written { Writes (W.Out.state out.old) (W.Out.state out.new) (spec.field_text field.now) result }
 {
     if has_mark(field) {
@@ -69,7 +65,6 @@ fn write_field<W: Out>(field: &[u8], out: &mut W) -> Result<(), WriteFault>
 }
 
 fn write_next_field<W: Out>(field: &[u8], out: &mut W) -> Result<(), WriteFault>
-    requires counted { (W.Out.state out.old).failures < 2 ^ 63 }
     ensures written { Writes (W.Out.state out.old) (W.Out.state out.new) (spec.next_field field.now) result }
 {
     out.write_all(b",")?;
@@ -78,7 +73,6 @@ fn write_next_field<W: Out>(field: &[u8], out: &mut W) -> Result<(), WriteFault>
 
 // Fields behind the first, and the end of the line.
 fn write_next_fields<W: Out>(fields: &[&[u8]], out: &mut W) -> Result<(), WriteFault>
-    requires counted { (W.Out.state out.old).failures < 2 ^ 63 }
     ensures written { Writes (W.Out.state out.old) (W.Out.state out.new)
         (spec.next_fields (map (λ f. f.now) fields.now)) result }
 {
@@ -94,7 +88,6 @@ pub(crate) fn write_record<W: Out>(
     more: &[&[u8]],
     out: &mut W,
 ) -> Result<(), WriteFault>
-    requires counted { (W.Out.state out.old).failures < 2 ^ 63 }
     ensures written { Writes (W.Out.state out.old) (W.Out.state out.new)
         (spec.record_text (first.now ∷ map (λ f. f.now) more.now)) result }
 {

@@ -18,7 +18,6 @@ fn write_run<'a, W: Out>(
     outcome: &'a [u8],
     out: &mut W,
 ) -> Result<(), WriteFault>
-    requires counted { (W.Out.state out.old).failures < 2 ^ 63 }
     ensures written { Writes (W.Out.state out.old) (W.Out.state out.new)
         (spec.record_text (decimal size ∷ spec.run_fields counts.now exchanges.now sent.now outcome.now)) result }
 {
@@ -52,7 +51,6 @@ fn write_with<W: Out>(
     outcome: &[u8],
     out: &mut W,
 ) -> Result<(), WriteFault>
-    requires counted { (W.Out.state out.old).failures < 2 ^ 63 }
     ensures written { Writes (W.Out.state out.old) (W.Out.state out.new)
         (spec.record_text (decimal size ∷ spec.run_fields counts.now (decimal counts.now.most_exchanges) sent.now outcome.now)) result }
 {
@@ -74,7 +72,6 @@ fn write_whole<W: Out>(
     outcome: &[u8],
     out: &mut W,
 ) -> Result<(), WriteFault>
-    requires counted { (W.Out.state out.old).failures < 2 ^ 63 }
     ensures written { Writes (W.Out.state out.old) (W.Out.state out.new)
         (spec.record_text (decimal size ∷ spec.whole_fields counts.now outcome.now)) result }
 {
@@ -89,7 +86,6 @@ fn write_whole<W: Out>(
 
 // The record of a size with no run.
 fn write_refusal<W: Out>(size: u64, refusal: &[u8], out: &mut W) -> Result<(), WriteFault>
-    requires counted { (W.Out.state out.old).failures < 2 ^ 63 }
     ensures written { Writes (W.Out.state out.old) (W.Out.state out.new)
         (spec.record_text (decimal size ∷ spec.refusal_fields refusal.now)) result }
 {
@@ -103,7 +99,6 @@ fn write_refusal<W: Out>(size: u64, refusal: &[u8], out: &mut W) -> Result<(), W
 
 // The record of a size.
 fn write_row<W: Out>(row: &SizeRow, out: &mut W) -> Result<(), WriteFault>
-    requires counted { (W.Out.state out.old).failures < 2 ^ 63 }
     ensures written { Writes (W.Out.state out.old) (W.Out.state out.new) (spec.record_text (spec.row_fields row.now)) result }
 {
     match &row.ending {
@@ -122,7 +117,6 @@ fn write_row<W: Out>(row: &SizeRow, out: &mut W) -> Result<(), WriteFault>
 }
 
 fn write_rows<W: Out>(rows: &[SizeRow], out: &mut W) -> Result<(), WriteFault>
-    requires counted { (W.Out.state out.old).failures < 2 ^ 63 }
     ensures written { Writes (W.Out.state out.old) (W.Out.state out.new)
         (spec.records_text (map spec.row_fields rows.now)) result }
 {
@@ -134,7 +128,6 @@ fn write_rows<W: Out>(rows: &[SizeRow], out: &mut W) -> Result<(), WriteFault>
 
 // The names of the columns.
 fn write_names<W: Out>(name: &[u8], out: &mut W) -> Result<(), WriteFault>
-    requires counted { (W.Out.state out.old).failures < 2 ^ 63 }
     ensures written { Writes (W.Out.state out.old) (W.Out.state out.new)
         (spec.record_text (name.now ∷ spec.column_names)) result }
 {
@@ -161,7 +154,6 @@ fn write_names<W: Out>(name: &[u8], out: &mut W) -> Result<(), WriteFault>
 /// quotes, and quotes in it are doubled, so that every field is read back as it was. A line ends with `\n`. The error is that the writer
 /// failed (E17).
 pub fn write_sweep_csv<W: Out>(name: &[u8], rows: &[SizeRow], out: &mut W) -> Result<(), WriteFault>
-    requires counted { (W.Out.state out.old).failures < 2 ^ 63 }
     ensures written { Writes (W.Out.state out.old) (W.Out.state out.new) (spec.csv_text name.now rows.now) result }
 {
     write_names(name, out)?;

@@ -12,7 +12,6 @@ use text_out::{Out, WriteFault};
 
 // The size's name and the size.
 fn write_size<W: Out>(name: &[u8], size: u64, out: &mut W) -> Result<(), WriteFault>
-    requires counted { (W.Out.state out.old).failures < 2 ^ 63 }
     ensures written { Writes (W.Out.state out.old) (W.Out.state out.new) (spec.size_text name.now size) result }
 {
     let mut digits = Buffer::new();
@@ -21,7 +20,6 @@ fn write_size<W: Out>(name: &[u8], size: u64, out: &mut W) -> Result<(), WriteFa
 
 // Time, work, width, reads and writes.
 fn write_counts<W: Out>(counts: &Counts, out: &mut W) -> Result<(), WriteFault>
-    requires counted { (W.Out.state out.old).failures < 2 ^ 63 }
     ensures written { Writes (W.Out.state out.old) (W.Out.state out.new) (spec.counts_text counts.now) result }
 {
     let mut time = Buffer::new();
@@ -50,7 +48,6 @@ fn write_most<W: Out>(
     how: &[u8],
     out: &mut W,
 ) -> Result<(), WriteFault>
-    requires counted { (W.Out.state out.old).failures < 2 ^ 63 }
     ensures written { Writes (W.Out.state out.old) (W.Out.state out.new)
         (spec.most_text most words how.now) result }
 {
@@ -72,7 +69,6 @@ fn write_most<W: Out>(
 
 // What a run without a fault costs, and how it came out.
 fn write_run<W: Out>(counts: &Counts, how: &[u8], out: &mut W) -> Result<(), WriteFault>
-    requires counted { (W.Out.state out.old).failures < 2 ^ 63 }
     ensures written { Writes (W.Out.state out.old) (W.Out.state out.new) (spec.run_text counts.now how.now) result }
 {
     write_counts(counts, out)?;
@@ -81,7 +77,6 @@ fn write_run<W: Out>(counts: &Counts, how: &[u8], out: &mut W) -> Result<(), Wri
 
 // A text to the end of its line.
 fn write_refusal<W: Out>(text: &[u8], out: &mut W) -> Result<(), WriteFault>
-    requires counted { (W.Out.state out.old).failures < 2 ^ 63 }
     ensures written { Writes (W.Out.state out.old) (W.Out.state out.new) (spec.refusal_text text.now) result }
 {
     out.write_parts(&[b" ", text, b"\n"])
@@ -89,7 +84,6 @@ fn write_refusal<W: Out>(text: &[u8], out: &mut W) -> Result<(), WriteFault>
 
 // What a run with a fault costs, and the fault.
 fn write_fault<W: Out>(counts: &Counts, fault: &[u8], out: &mut W) -> Result<(), WriteFault>
-    requires counted { (W.Out.state out.old).failures < 2 ^ 63 }
     ensures written { Writes (W.Out.state out.old) (W.Out.state out.new) (spec.fault_text counts.now fault.now) result }
 {
     write_counts(counts, out)?;
@@ -98,7 +92,6 @@ fn write_fault<W: Out>(counts: &Counts, fault: &[u8], out: &mut W) -> Result<(),
 
 // What stands behind the size on its line.
 fn write_ending<W: Out>(ending: &Ending, out: &mut W) -> Result<(), WriteFault>
-    requires counted { (W.Out.state out.old).failures < 2 ^ 63 }
     ensures written { Writes (W.Out.state out.old) (W.Out.state out.new) (spec.ending_text ending.now) result }
 {
     match ending {
@@ -111,7 +104,6 @@ fn write_ending<W: Out>(ending: &Ending, out: &mut W) -> Result<(), WriteFault>
 
 // The line of a size.
 fn write_row<W: Out>(name: &[u8], row: &SizeRow, out: &mut W) -> Result<(), WriteFault>
-    requires counted { (W.Out.state out.old).failures < 2 ^ 63 }
     ensures written { Writes (W.Out.state out.old) (W.Out.state out.new) (spec.row_text name.now row.now) result }
 {
     write_size(name, row.size, out)?;
@@ -119,7 +111,6 @@ fn write_row<W: Out>(name: &[u8], row: &SizeRow, out: &mut W) -> Result<(), Writ
 }
 
 fn write_rows<W: Out>(name: &[u8], rows: &[SizeRow], out: &mut W) -> Result<(), WriteFault>
-    requires counted { (W.Out.state out.old).failures < 2 ^ 63 }
     ensures written { Writes (W.Out.state out.old) (W.Out.state out.new) (spec.rows_text name.now rows.now) result }
 {
     for row in rows {
@@ -130,7 +121,6 @@ fn write_rows<W: Out>(name: &[u8], rows: &[SizeRow], out: &mut W) -> Result<(), 
 
 // What stands over formulas.
 fn write_heading<W: Out>(growths: &Growths, out: &mut W) -> Result<(), WriteFault>
-    requires counted { (W.Out.state out.old).failures < 2 ^ 63 }
     ensures written { Writes (W.Out.state out.old) (W.Out.state out.new) (spec.heading_text growths.now) result }
 {
     if growths.time.is_told() || growths.work.is_told() {
@@ -142,7 +132,6 @@ fn write_heading<W: Out>(growths: &Growths, out: &mut W) -> Result<(), WriteFaul
 
 // The formulas of time and of work.
 fn write_formulas<W: Out>(name: &[u8], growths: &Growths, out: &mut W) -> Result<(), WriteFault>
-    requires counted { (W.Out.state out.old).failures < 2 ^ 63 }
     ensures written { Writes (W.Out.state out.old) (W.Out.state out.new) (spec.formulas_text name.now growths.now) result }
 {
     write_growth(b"time", name, &growths.time, out)?;
@@ -150,7 +139,6 @@ fn write_formulas<W: Out>(name: &[u8], growths: &Growths, out: &mut W) -> Result
 }
 
 fn write_growths<W: Out>(name: &[u8], growths: &Growths, out: &mut W) -> Result<(), WriteFault>
-    requires counted { (W.Out.state out.old).failures < 2 ^ 63 }
     ensures written { Writes (W.Out.state out.old) (W.Out.state out.new) (spec.growths_text name.now growths.now) result }
 {
     write_heading(growths, out)?;
@@ -168,7 +156,6 @@ pub fn write_sweep<W: Out>(
     growths: &Growths,
     out: &mut W,
 ) -> Result<(), WriteFault>
-    requires counted { (W.Out.state out.old).failures < 2 ^ 63 }
     ensures written { Writes (W.Out.state out.old) (W.Out.state out.new)
         (spec.sweep_text name.now rows.now growths.now) result }
 {

@@ -1,6 +1,6 @@
 //! The system's files and streams.
 
-ghost use Rattle.std.specs.Prelude.{◌≡◌, ◌⊎◌, ◌+◌, ◌++◌, ◌<◌, ◌≤◌, ◌^◌, [], None, IfOk, OnOk, OnErr, length, take};
+ghost use Rattle.std.specs.Prelude.{◌≡◌, ◌⊎◌, ◌+◌, ◌++◌, ◌<◌, ◌≤◌, [], None, true, false, IfOk, OnOk, OnErr, length, take};
 ghost use Rattle.text_out.specs.Out.{OutState, with_failure};
 ghost use Rattle.system_files.specs.Held.{held_at};
 
@@ -18,28 +18,27 @@ pub struct Stream<P: Print> {
     stream: P,
     held: [u8; 4096],
     len: usize,
-    failures: u64,
+    failed: bool,
     ghost inside: { len ≤ 4096 },
 }
 
 impl<P: Print> Stream<P> {
     /// Nothing is held, and nothing has failed.
     pub fn new(stream: P) -> Stream<P>
-        ensures { (⟦<Stream<P> as Out>⟧.state result).failures ≡ 0 }
+        ensures { (⟦<Stream<P> as Out>⟧.state result).failed ≡ false }
     {
         Stream {
             stream,
             held: [0; 4096],
             len: 0,
-            failures: 0,
+            failed: false,
         }
     }
 
     // Hands the held bytes to the system.
     fn pass(&mut self) -> Result<(), OutFailed>
-        requires counted { self.old.failures < 2 ^ 63 }
-        ensures ok { OnOk result ((self.new.failures ≡ self.old.failures) × (self.new.len ≡ 0)) }
-        ensures failed { OnErr result ((self.new.failures ≡ self.old.failures + 1) × (self.new.len ≡ self.old.len)) }
+        ensures ok { OnOk result ((self.new.failed ≡ self.old.failed) × (self.new.len ≡ 0)) }
+        ensures failed { OnErr result ((self.new.failed ≡ true) × (self.new.len ≡ self.old.len)) }
         ensures held { self.new.held ≡ self.old.held }
     {
         match self.stream.write_all(&self.held[..self.len]) {
@@ -48,7 +47,7 @@ impl<P: Print> Stream<P> {
                 Ok(())
             }
             Err(_) => {
-                self.failures += 1;
+                self.failed = true;
                 Err(OutFailed)
             }
         }
@@ -60,7 +59,7 @@ impl<P: Print> Stream<P> {
     fn hold(&mut self, bytes: &[u8])
         requires room { self.old.len + length bytes.now ≤ 4096 }
         ensures kept { take self.new.len self.new.held ≡ take self.old.len self.old.held ++ bytes.now }
-        ensures failures { self.new.failures ≡ self.old.failures }
+        ensures failed { self.new.failed ≡ self.old.failed }
     {
         let end = self.len + bytes.len();
         self.held[self.len..end].copy_from_slice(bytes);
@@ -69,16 +68,15 @@ impl<P: Print> Stream<P> {
 }
 
 impl<P: Print> Out for Stream<P> {
-    ghost state = { λ s. record { taken = None; failures = s.failures } };
+    ghost state = { λ s. record { taken = None; failed = s.failed } };
 
     fn write(&mut self, bytes: &[u8]) -> Result<usize, OutFailed>
-        requires counted { self.old.failures < 2 ^ 63 }
         ensures some { IfOk result (λ n. (bytes.now ≡ []) ⊎ (0 < n)) }
         ensures part { IfOk result (λ n. n ≤ length bytes.now) }
         // What was taken is held, behind what was held before, if that wasn't handed on.
         ensures taken { IfOk result (λ n. (take self.new.len self.new.held ≡ held_at self.old.len self.old.held ++ take n bytes.now)
-            × (self.new.failures ≡ self.old.failures)) }
-        ensures failed { OnErr result (self.new.failures ≡ self.old.failures + 1) }
+            × (self.new.failed ≡ self.old.failed)) }
+        ensures failed { OnErr result (self.new.failed ≡ true) }
     {
         if self.len == 4096 {
             self.pass()?;
@@ -89,9 +87,8 @@ impl<P: Print> Out for Stream<P> {
     }
 
     fn flush(&mut self) -> Result<(), OutFailed>
-        requires counted { self.old.failures < 2 ^ 63 }
-        ensures ok { OnOk result ((self.new.failures ≡ self.old.failures) × (self.new.len ≡ 0)) }
-        ensures failed { OnErr result (self.new.failures ≡ self.old.failures + 1) }
+        ensures ok { OnOk result ((self.new.failed ≡ self.old.failed) × (self.new.len ≡ 0)) }
+        ensures failed { OnErr result (self.new.failed ≡ true) }
     {
         self.pass()
     }

@@ -1,5 +1,5 @@
 -- How far a text is written.
-use Rattle.std.proofs.Common.{◌≡◌, ◌<◌, ◌^◌, ◌++◌, ◌∙◌, [], List, ℕ, ap, drop, refl, sym, subst, take}
+use Rattle.std.proofs.Common.{◌≡◌, ◌++◌, ◌∙◌, [], List, ℕ, ap, drop, refl, sym, subst, take}
 use Rattle.std.proofs.lemmas.List.{append-nil, take-append-drop}
 use Rattle.std.specs.Prelude.{Result, Ok, Err, IsErrAnd}
 use Rattle.text_out.specs.Out.{OutState, StopsIn, Writes, with_bytes, with_failure}
@@ -10,10 +10,9 @@ pub record Progress (old new : OutState) (all left : List ℕ) : Type 0 where
   pub front : List ℕ
   pub whole : all ≡ front ++ left
   pub taken : new ≡ with_bytes old front
-  pub counted : new.failures < 2 ^ 63
 
-pub starts : (s : OutState) (all : List ℕ) → s.failures < 2 ^ 63 → Progress s s all all
-starts s all counted = record { front = []; whole = refl; taken = with_bytes-nothing s; counted = counted }
+pub starts : (s : OutState) (all : List ℕ) → Progress s s all all
+starts s all = record { front = []; whole = refl; taken = with_bytes-nothing s }
 
 pub goes_on : (old now new : OutState) (all left piece rest : List ℕ)
     → Progress old now all left → left ≡ piece ++ rest → new ≡ with_bytes now piece → Progress old new all rest
@@ -21,7 +20,6 @@ goes_on old now new all left piece rest p next more = record {
   front = p.front ++ piece;
   whole = one_more all p.front left piece rest p.whole next;
   taken = writes_then old now new p.front piece p.taken more;
-  counted = subst (λ (s : OutState). s.failures < 2 ^ 63) (sym more) p.counted;
 }
 
 pub stops : (old now new : OutState) (all left piece rest : List ℕ)

@@ -15,10 +15,10 @@ behind-nothing None = refl
 behind-nothing (Some taken) = ap Some (sym (append-nil taken))
 
 pub with_bytes-append : (s : OutState) (a b : List ℕ) → with_bytes (with_bytes s a) b ≡ with_bytes s (a ++ b)
-with_bytes-append s a b = ap (λ t. record { taken = t; failures = s.failures }) (behind-append s.taken a b)
+with_bytes-append s a b = ap (λ t. record { taken = t; failed = s.failed }) (behind-append s.taken a b)
 
 pub with_bytes-nothing : (s : OutState) → s ≡ with_bytes s []
-with_bytes-nothing s = ap (λ t. record { taken = t; failures = s.failures }) (behind-nothing s.taken)
+with_bytes-nothing s = ap (λ t. record { taken = t; failed = s.failed }) (behind-nothing s.taken)
 
 -- a text written whole, and another one behind it
 pub writes_then : (old mid new : OutState) (a b : List ℕ) → mid ≡ with_bytes old a → new ≡ with_bytes mid b → new ≡ with_bytes old (a ++ b)

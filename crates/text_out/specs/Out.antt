@@ -1,12 +1,12 @@
--- What a writer does with bytes: which it has taken, and how often it failed.
-use Rattle.std.specs.Prelude.{◌≡◌, ◌+◌, ◌++◌, ℕ, List, Option, Some, None, Result, Ok, Err, [], ◌∷◌}
+-- What a writer does with bytes: which it has taken, and whether it has failed.
+use Rattle.std.specs.Prelude.{◌≡◌, ◌++◌, ℕ, Bool, true, List, Option, Some, None, Result, Ok, Err, [], ◌∷◌}
 use Rattle.std.specs.Borrow.{Bor}
 
 pub record OutState : Type 0 where
   -- the bytes taken so far, where they are known
   pub taken : Option (List ℕ)
-  -- how often a write has failed
-  pub failures : ℕ
+  -- whether a write has failed
+  pub failed : Bool
 
 -- behind what is known, these bytes
 abbrev pub behind : Option (List ℕ) → List ℕ → Option (List ℕ)
@@ -15,13 +15,13 @@ behind (Some taken) bytes = Some (taken ++ bytes)
 
 -- the writer that has taken these bytes too
 abbrev pub with_bytes : OutState → List ℕ → OutState
-with_bytes s bytes = record { taken = behind s.taken bytes; failures = s.failures }
+with_bytes s bytes = record { taken = behind s.taken bytes; failed = s.failed }
 
--- the writer that has failed once more
+-- the writer that has failed
 abbrev pub with_failure : OutState → OutState
-with_failure s = record { taken = s.taken; failures = s.failures + 1 }
+with_failure s = record { taken = s.taken; failed = true }
 
--- new is old after a beginning of the text, and one failure behind it
+-- new is old after a beginning of the text, and then it failed
 pub record StopsIn (old new : OutState) (text : List ℕ) : Type 0 where
   pub front : List ℕ
   pub rest : List ℕ

@@ -1,5 +1,5 @@
 -- Printing that stops at the first failure of its writer.
-use Rattle.std.specs.Prelude.{◌≡◌, ◌<◌, ◌^◌, ℕ, Bool, true, false, List}
+use Rattle.std.specs.Prelude.{◌≡◌, ℕ, Bool, true, false, List}
 use Rattle.text_out.specs.Out.{OutState, StopsIn, with_bytes}
 
 -- a writer, and whether it has failed since the printing began
@@ -19,7 +19,3 @@ PrintsBy old false new false text = new ≡ with_bytes old text
 -- from old to new the text is printed, as far as the writer takes it
 pub record Prints (old new : Printing) (text : List ℕ) : Type 0 where
   pub by : PrintsBy old.out old.failed new.out new.failed text
-
--- while it has not failed, a writer may fail once more
-abbrev pub MayFail : OutState → Bool → Type 0
-MayFail s failed = failed ≡ false → s.failures < 2 ^ 63

@@ -1,5 +1,5 @@
 //! A writer in memory.
-ghost use Rattle.std.specs.Prelude.{◌≡◌, [], Some};
+ghost use Rattle.std.specs.Prelude.{◌≡◌, [], Some, false};
 ghost use Rattle.text_out.specs.Out.{OutState};
 
 use crate::writer::{Out, OutFailed};
@@ -9,17 +9,17 @@ use std::alloc::Global;
 #[derive(Drop)]
 pub struct Buffer {
     bytes: Vec<u8>,
-    failures: u64,
+    failed: bool,
 }
 
 impl Buffer {
     /// No bytes yet.
     pub fn new(alloc: Global) -> Buffer
-        ensures { ⟦<Buffer as Out>⟧.state result ≡ record { taken = Some []; failures = 0 } }
+        ensures { ⟦<Buffer as Out>⟧.state result ≡ record { taken = Some []; failed = false } }
     {
         Buffer {
             bytes: Vec::new(alloc),
-            failures: 0,
+            failed: false,
         }
     }
 
@@ -30,22 +30,22 @@ impl Buffer {
         self.bytes.as_slice()
     }
 
-    /// How often memory was refused.
-    pub fn failures(&self) -> u64
-        ensures { result ≡ (⟦<Buffer as Out>⟧.state self.now).failures }
+    /// Whether memory was refused.
+    pub fn failed(&self) -> bool
+        ensures { result ≡ (⟦<Buffer as Out>⟧.state self.now).failed }
     {
-        self.failures
+        self.failed
     }
 }
 
 impl Out for Buffer {
-    ghost state = { λ b. record { taken = Some b.bytes.items; failures = b.failures } };
+    ghost state = { λ b. record { taken = Some b.bytes.items; failed = b.failed } };
 
     fn write(&mut self, bytes: &[u8]) -> Result<usize, OutFailed> {
         match self.bytes.extend_from_slice(bytes) {
             Ok(()) => Ok(bytes.len()),
             Err(_) => {
-                self.failures += 1;
+                self.failed = true;
                 Err(OutFailed)
             }
         }

@@ -1,5 +1,5 @@
 //! Where bytes are written.
-ghost use Rattle.std.specs.Prelude.{◌≡◌, ◌⊎◌, ◌<◌, ◌≤◌, ◌^◌, [], length, take, IfOk, OnOk, OnErr};
+ghost use Rattle.std.specs.Prelude.{◌≡◌, ◌⊎◌, ◌<◌, ◌≤◌, [], length, take, IfOk, OnOk, OnErr};
 ghost use Rattle.text_out.specs.Out.{OutState, Writes, joined, with_bytes, with_failure};
 
 use thiserror::Error;
@@ -21,7 +21,6 @@ pub trait Out {
     /// Takes a beginning of the bytes, and answers how many. A writer that can take none of them
     /// answers that it failed, unless there are none.
     fn write(&mut self, bytes: &[u8]) -> Result<usize, OutFailed>
-        requires counted { (state self.old).failures < 2 ^ 63 }
         ensures some { IfOk result (λ n. (bytes.now ≡ []) ⊎ (0 < n)) }
         ensures part { IfOk result (λ n. n ≤ length bytes.now) }
         ensures taken { IfOk result (λ n. state self.new ≡ with_bytes (state self.old) (take n bytes.now)) }
@@ -29,7 +28,6 @@ pub trait Out {
 
     /// Hands on what the writer has taken and still holds, where it holds any.
     fn flush(&mut self) -> Result<(), OutFailed>
-        requires counted { (state self.old).failures < 2 ^ 63 }
         ensures ok { OnOk result (state self.new ≡ state self.old) }
         ensures failed { OnErr result (state self.new ≡ with_failure (state self.old)) }
     {
@@ -40,7 +38,6 @@ pub trait Out {
     final fn write_all(&mut self, bytes: &[u8]) -> Result<(), WriteFault>
     where
         Self: Sized,
-        requires counted { (state self.old).failures < 2 ^ 63 }
         ensures written { Writes (state self.old) (state self.new) bytes.now result }
     {
         let mut rest = bytes;
@@ -57,7 +54,6 @@ pub trait Out {
     final fn write_parts(&mut self, parts: &[&[u8]]) -> Result<(), WriteFault>
     where
         Self: Sized,
-        requires counted { (state self.old).failures < 2 ^ 63 }
         ensures written { Writes (state self.old) (state self.new) (joined parts.now) result }
     {
         for part in parts {

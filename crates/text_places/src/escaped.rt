@@ -22,14 +22,12 @@ fn hex_digit(value: u8) -> u8
 
 // A control byte by its number.
 fn write_number<W: Out>(out: &mut W, byte: u8) -> Result<(), WriteFault>
-    requires counted { (W.Out.state out.old).failures < 2 ^ 63 }
     ensures written { Writes (W.Out.state out.old) (W.Out.state out.new) (codes "\\x" ++ spec.hex byte) result }
 {
     out.write_all(&[b'\\', b'x', hex_digit(byte / 16), hex_digit(byte % 16)])
 }
 
 fn write_byte<W: Out>(out: &mut W, byte: u8) -> Result<(), WriteFault>
-    requires counted { (W.Out.state out.old).failures < 2 ^ 63 }
     ensures written { Writes (W.Out.state out.old) (W.Out.state out.new) (spec.escaped_byte byte) result }
 {
     if byte == b'\n' {
@@ -44,7 +42,6 @@ fn write_byte<W: Out>(out: &mut W, byte: u8) -> Result<(), WriteFault>
 /// Writes the name of a file, or a word of a command line, so that it ends no line and steers no terminal: a control byte as `\n` or
 /// `\x1b`, and every other byte as it is. The error is that the writer failed (E17).
 pub fn write_escaped<W: Out>(out: &mut W, name: &[u8]) -> Result<(), WriteFault>
-    requires counted { (W.Out.state out.old).failures < 2 ^ 63 }
     ensures written { Writes (W.Out.state out.old) (W.Out.state out.new) (spec.escaped name.now) result }
 {
     for byte in name {

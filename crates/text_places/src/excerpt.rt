@@ -43,7 +43,6 @@ fn without_return(line: &[u8]) -> &[u8]
 /// Writes bytes of a text so that they steer no terminal: whatever is no printable ASCII and no tab is shown as `?`. The error is that
 /// the writer failed (E17).
 pub fn write_shown<W: Out>(out: &mut W, bytes: &[u8]) -> Result<(), WriteFault>
-    requires counted { (W.Out.state out.old).failures < 2 ^ 63 }
     ensures written { Writes (W.Out.state out.old) (W.Out.state out.new) (spec.shown bytes.now) result }
 {
     for byte in bytes {
@@ -55,7 +54,6 @@ pub fn write_shown<W: Out>(out: &mut W, bytes: &[u8]) -> Result<(), WriteFault>
 /// Writes the line of that number of a text, from 1, so that it steers no terminal, and the end of the line. The error is that the writer
 /// failed (E17).
 pub fn write_line<W: Out>(out: &mut W, text: &[u8], line: usize) -> Result<(), WriteFault>
-    requires counted { (W.Out.state out.old).failures < 2 ^ 63 }
     ensures written { Writes (W.Out.state out.old) (W.Out.state out.new) (spec.shown_line text.now line) result }
 {
     write_shown(out, without_return(line_text(text, line)))?;
@@ -64,7 +62,6 @@ pub fn write_line<W: Out>(out: &mut W, text: &[u8], line: usize) -> Result<(), W
 
 // Blanks below bytes.
 fn write_blanks<W: Out>(out: &mut W, bytes: &[u8]) -> Result<(), WriteFault>
-    requires counted { (W.Out.state out.old).failures < 2 ^ 63 }
     ensures written { Writes (W.Out.state out.old) (W.Out.state out.new) (map spec.blank_byte bytes.now) result }
 {
     for byte in bytes {
@@ -75,7 +72,6 @@ fn write_blanks<W: Out>(out: &mut W, bytes: &[u8]) -> Result<(), WriteFault>
 
 // A caret below a column of a line, whose tabs are repeated before it.
 fn write_caret<W: Out>(out: &mut W, line: &[u8], column: usize) -> Result<(), WriteFault>
-    requires counted { (W.Out.state out.old).failures < 2 ^ 63 }
     requires column { 0 < column }
     ensures written { Writes (W.Out.state out.old) (W.Out.state out.new) (spec.caret_line line.now column) result }
 {
@@ -85,7 +81,6 @@ fn write_caret<W: Out>(out: &mut W, line: &[u8], column: usize) -> Result<(), Wr
 
 // `:4:7`, to the end of the line.
 fn write_numbers<W: Out>(out: &mut W, place: Place) -> Result<(), WriteFault>
-    requires counted { (W.Out.state out.old).failures < 2 ^ 63 }
     ensures written { Writes (W.Out.state out.old) (W.Out.state out.new) (spec.place_numbers place) result }
 {
     let mut line = Buffer::new();
@@ -101,7 +96,6 @@ fn write_numbers<W: Out>(out: &mut W, place: Place) -> Result<(), WriteFault>
 
 // Where a place is: `sum.pram:4:7`.
 fn write_place<W: Out>(out: &mut W, name: &[u8], place: Place) -> Result<(), WriteFault>
-    requires counted { (W.Out.state out.old).failures < 2 ^ 63 }
     ensures written { Writes (W.Out.state out.old) (W.Out.state out.new) (spec.place_line name.now place) result }
 {
     write_escaped(out, name)?;
@@ -110,7 +104,6 @@ fn write_place<W: Out>(out: &mut W, name: &[u8], place: Place) -> Result<(), Wri
 
 // The line of a place, and below it a caret at its column.
 fn write_marked<W: Out>(out: &mut W, text: &[u8], place: Place) -> Result<(), WriteFault>
-    requires counted { (W.Out.state out.old).failures < 2 ^ 63 }
     requires column { 0 < place.column }
     ensures written { Writes (W.Out.state out.old) (W.Out.state out.new) (spec.marked_line text.now place) result }
 {
@@ -126,7 +119,6 @@ pub fn write_excerpt<W: Out>(
     text: &[u8],
     at: usize,
 ) -> Result<(), WriteFault>
-    requires counted { (W.Out.state out.old).failures < 2 ^ 63 }
     ensures written { Writes (W.Out.state out.old) (W.Out.state out.new) (spec.excerpt name.now text.now at) result }
 {
     let place = place_of(text, at);
@@ -136,7 +128,6 @@ pub fn write_excerpt<W: Out>(
 
 // `:4`, to the end of the line.
 fn write_number<W: Out>(out: &mut W, line: usize) -> Result<(), WriteFault>
-    requires counted { (W.Out.state out.old).failures < 2 ^ 63 }
     ensures written { Writes (W.Out.state out.old) (W.Out.state out.new) (spec.line_number line) result }
 {
     let mut digits = Buffer::new();
@@ -145,7 +136,6 @@ fn write_number<W: Out>(out: &mut W, line: usize) -> Result<(), WriteFault>
 
 // Where a line is: `sum.pram:4`.
 fn write_line_place<W: Out>(out: &mut W, name: &[u8], line: usize) -> Result<(), WriteFault>
-    requires counted { (W.Out.state out.old).failures < 2 ^ 63 }
     ensures written { Writes (W.Out.state out.old) (W.Out.state out.new) (spec.line_place name.now line) result }
 {
     write_escaped(out, name)?;
@@ -159,7 +149,6 @@ pub fn write_line_excerpt<W: Out>(
     text: &[u8],
     line: usize,
 ) -> Result<(), WriteFault>
-    requires counted { (W.Out.state out.old).failures < 2 ^ 63 }
     ensures written { Writes (W.Out.state out.old) (W.Out.state out.new) (spec.line_excerpt name.now text.now line) result }
 {
     write_line_place(out, name, line)?;

@@ -24,7 +24,6 @@ fn fixed_text(fixed: Fixed) -> &'static [u8]
 
 /// Writes a kind of tokens: `a name`, or `"("`. The error is that the writer failed (E17).
 pub fn write_choice<W: Out>(out: &mut W, choice: Choice) -> Result<(), WriteFault>
-    requires counted { (W.Out.state out.old).failures < 2 ^ 63 }
     ensures written { Writes (W.Out.state out.old) (W.Out.state out.new) (spec.choice_text choice) result }
 {
     match choice {
@@ -48,7 +47,6 @@ fn gap(others: usize) -> &'static [u8]
 
 // A kind, and what stands between it and the others.
 fn write_among<W: Out>(out: &mut W, choice: Choice, others: usize) -> Result<(), WriteFault>
-    requires counted { (W.Out.state out.old).failures < 2 ^ 63 }
     ensures written { Writes (W.Out.state out.old) (W.Out.state out.new) (spec.among choice others) result }
 {
     write_choice(out, choice)?;
@@ -56,7 +54,6 @@ fn write_among<W: Out>(out: &mut W, choice: Choice, others: usize) -> Result<(),
 }
 
 fn write_listed<W: Out>(out: &mut W, choices: &[Choice]) -> Result<(), WriteFault>
-    requires counted { (W.Out.state out.old).failures < 2 ^ 63 }
     ensures written { Writes (W.Out.state out.old) (W.Out.state out.new) (spec.listed choices.now) result }
 {
     let mut others = choices.len();
@@ -70,7 +67,6 @@ fn write_listed<W: Out>(out: &mut W, choices: &[Choice]) -> Result<(), WriteFaul
 /// Writes kinds of tokens as a sentence goes on with them: `a name, a number or "("`, and of none `nothing more`. The error is that the
 /// writer failed (E17).
 pub fn write_choices<W: Out>(out: &mut W, choices: &[Choice]) -> Result<(), WriteFault>
-    requires counted { (W.Out.state out.old).failures < 2 ^ 63 }
     ensures written { Writes (W.Out.state out.old) (W.Out.state out.new) (spec.choices_text choices.now) result }
 {
     if choices.is_empty() {

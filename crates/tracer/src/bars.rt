@@ -68,7 +68,6 @@ fn write_bar<W: Out>(
     did: &[u8],
     share: Share,
 ) -> Result<(), WriteFault>
-    requires counted { (W.Out.state out.old).failures < 2 ^ 63 }
     ensures written { Writes (W.Out.state out.old) (W.Out.state out.new)
         (spec.bar bar.x bar.y bar.height paint.now share.worker did.now share.words) result }
 {
@@ -95,7 +94,6 @@ fn write_bar<W: Out>(
 }
 
 fn write_sent_bar<W: Out>(out: &mut W, scale: Scale, share: Share) -> Result<(), WriteFault>
-    requires counted { (W.Out.state out.old).failures < 2 ^ 63 }
     requires words { share.words ≤ scale.most }
     ensures written { Writes (W.Out.state out.old) (W.Out.state out.new) (spec.sent_bar scale.most scale.x share.worker share.words) result }
 {
@@ -109,7 +107,6 @@ fn write_sent_bar<W: Out>(out: &mut W, scale: Scale, share: Share) -> Result<(),
 }
 
 fn write_received_bar<W: Out>(out: &mut W, scale: Scale, share: Share) -> Result<(), WriteFault>
-    requires counted { (W.Out.state out.old).failures < 2 ^ 63 }
     requires words { share.words ≤ scale.most }
     ensures written { Writes (W.Out.state out.old) (W.Out.state out.new)
         (spec.received_bar scale.most scale.x share.worker share.words) result }
@@ -136,7 +133,6 @@ pub(crate) fn write_sent_bars<W: Out>(
     scale: Scale,
     k: usize,
 ) -> Result<(), WriteFault>
-    requires counted { (W.Out.state out.old).failures < 2 ^ 63 }
     requires first { 1 ≤ k }
     requires last { k ≤ length counts.now }
     requires most { relation_of (exchange_at counts.now k) ≤ scale.most }
@@ -161,7 +157,6 @@ pub(crate) fn write_received_bars<W: Out>(
     scale: Scale,
     k: usize,
 ) -> Result<(), WriteFault>
-    requires counted { (W.Out.state out.old).failures < 2 ^ 63 }
     requires first { 1 ≤ k }
     requires last { k ≤ length counts.now }
     requires most { relation_of (exchange_at counts.now k) ≤ scale.most }
@@ -181,7 +176,6 @@ pub(crate) fn write_received_bars<W: Out>(
 
 // A worker's number below its bars.
 fn write_worker_number<W: Out>(out: &mut W, x: u128, worker: usize) -> Result<(), WriteFault>
-    requires counted { (W.Out.state out.old).failures < 2 ^ 63 }
     requires near { x < 2 ^ 100 }
     ensures written { Writes (W.Out.state out.old) (W.Out.state out.new) (spec.worker_number x worker) result }
 {
@@ -204,7 +198,6 @@ pub(crate) fn write_worker_numbers<W: Out>(
     x: u128,
     workers: usize,
 ) -> Result<(), WriteFault>
-    requires counted { (W.Out.state out.old).failures < 2 ^ 63 }
     requires near { x < 2 ^ 100 }
     ensures written { Writes (W.Out.state out.old) (W.Out.state out.new) (spec.worker_numbers x 0 workers) result }
 {

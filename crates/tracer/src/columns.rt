@@ -52,7 +52,6 @@ fn write_front<W: Out>(
     purpose: Purpose,
     h: u64,
 ) -> Result<(), WriteFault>
-    requires counted { (W.Out.state out.old).failures < 2 ^ 63 }
     requires near { x < 2 ^ 100 }
     ensures written { Writes (W.Out.state out.old) (W.Out.state out.new) (spec.column_front x width k (purpose_is purpose) h) result }
 {
@@ -87,7 +86,6 @@ fn write_front<W: Out>(
 
 // The line of the statement that an exchange serves, where it is known.
 fn write_column_line<W: Out>(out: &mut W, x: u128, line: Option<u32>) -> Result<(), WriteFault>
-    requires counted { (W.Out.state out.old).failures < 2 ^ 63 }
     requires near { x < 2 ^ 100 }
     ensures written { Writes (W.Out.state out.old) (W.Out.state out.new) (spec.column_line x line) result }
 {
@@ -112,7 +110,6 @@ fn write_head<W: Out>(
     k: usize,
     line: Option<u32>,
 ) -> Result<(), WriteFault>
-    requires counted { (W.Out.state out.old).failures < 2 ^ 63 }
     requires near { x < 2 ^ 100 }
     requires first { 1 ≤ k }
     requires last { k ≤ length counts.now }
@@ -131,7 +128,6 @@ fn write_bars<W: Out>(
     scale: Scale,
     k: usize,
 ) -> Result<(), WriteFault>
-    requires counted { (W.Out.state out.old).failures < 2 ^ 63 }
     requires first { 1 ≤ k }
     requires last { k ≤ length counts.now }
     requires most { relation_of (exchange_at counts.now k) ≤ scale.most }
@@ -149,7 +145,6 @@ fn write_body<W: Out>(
     scale: Scale,
     k: usize,
 ) -> Result<(), WriteFault>
-    requires counted { (W.Out.state out.old).failures < 2 ^ 63 }
     requires first { 1 ≤ k }
     requires last { k ≤ length counts.now }
     requires most { relation_of (exchange_at counts.now k) ≤ scale.most }
@@ -179,7 +174,6 @@ pub(crate) fn write_column<W: Out>(
     k: usize,
     line: Option<u32>,
 ) -> Result<(), WriteFault>
-    requires counted { (W.Out.state out.old).failures < 2 ^ 63 }
     requires first { 1 ≤ k }
     requires last { k ≤ length counts.now }
     requires few { k ≤ 200 }

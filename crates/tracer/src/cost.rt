@@ -44,7 +44,6 @@ pub fn bsp_cost(counts: &Counts, rates: Rates) -> Option<u128>
 }
 
 fn write_number<W: Out>(cost: Option<u128>, out: &mut W) -> Result<(), WriteFault>
-    requires counted { (W.Out.state out.old).failures < 2 ^ 63 }
     ensures written { Writes (W.Out.state out.old) (W.Out.state out.new) (spec.number_line cost) result }
 {
     match cost {
@@ -59,7 +58,6 @@ fn write_number<W: Out>(cost: Option<u128>, out: &mut W) -> Result<(), WriteFaul
 /// Writes what the exchanges of a run cost together, as `cost 340`, or that this is no number of 128 bits. `WriteFault` (E17) says that the
 /// writer failed; what it took is a beginning of the line.
 pub fn write_bsp_cost<W: Out>(counts: &Counts, rates: Rates, out: &mut W) -> Result<(), WriteFault>
-    requires counted { (W.Out.state out.old).failures < 2 ^ 63 }
     ensures written { Writes (W.Out.state out.old) (W.Out.state out.new) (spec.cost_text rates.word rates.start counts.now) result }
 {
     write_number(bsp_cost(counts, rates), out)

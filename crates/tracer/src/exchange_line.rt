@@ -36,7 +36,6 @@ pub(crate) fn line_of(lines: &[u32], k: usize) -> Option<u32>
 
 // The words that each worker sent, each number behind a space.
 fn write_sent<W: Out>(counts: &Counts, k: usize, out: &mut W) -> Result<(), WriteFault>
-    requires counted { (W.Out.state out.old).failures < 2 ^ 63 }
     requires first { 1 ≤ k }
     requires last { k ≤ length counts.now }
     ensures written { Writes (W.Out.state out.old) (W.Out.state out.new) (spec.spaced (exchange_at counts.now k).sent) result }
@@ -51,7 +50,6 @@ fn write_sent<W: Out>(counts: &Counts, k: usize, out: &mut W) -> Result<(), Writ
 
 // The words that each worker received, each number behind a space.
 fn write_received<W: Out>(counts: &Counts, k: usize, out: &mut W) -> Result<(), WriteFault>
-    requires counted { (W.Out.state out.old).failures < 2 ^ 63 }
     requires first { 1 ≤ k }
     requires last { k ≤ length counts.now }
     ensures written { Writes (W.Out.state out.old) (W.Out.state out.new) (spec.spaced (exchange_at counts.now k).received) result }
@@ -65,7 +63,6 @@ fn write_received<W: Out>(counts: &Counts, k: usize, out: &mut W) -> Result<(), 
 }
 
 fn write_named_received<W: Out>(counts: &Counts, k: usize, out: &mut W) -> Result<(), WriteFault>
-    requires counted { (W.Out.state out.old).failures < 2 ^ 63 }
     requires first { 1 ≤ k }
     requires last { k ≤ length counts.now }
     ensures written { Writes (W.Out.state out.old) (W.Out.state out.new) (spec.received_text (exchange_at counts.now k).received) result }
@@ -76,7 +73,6 @@ fn write_named_received<W: Out>(counts: &Counts, k: usize, out: &mut W) -> Resul
 
 // What each worker sent, and what it received.
 fn write_words<W: Out>(counts: &Counts, k: usize, out: &mut W) -> Result<(), WriteFault>
-    requires counted { (W.Out.state out.old).failures < 2 ^ 63 }
     requires first { 1 ≤ k }
     requires last { k ≤ length counts.now }
     ensures written { Writes (W.Out.state out.old) (W.Out.state out.new) (spec.words_text (exchange_at counts.now k)) result }
@@ -86,7 +82,6 @@ fn write_words<W: Out>(counts: &Counts, k: usize, out: &mut W) -> Result<(), Wri
 }
 
 fn write_relation<W: Out>(h: u64, out: &mut W) -> Result<(), WriteFault>
-    requires counted { (W.Out.state out.old).failures < 2 ^ 63 }
     ensures written { Writes (W.Out.state out.old) (W.Out.state out.new) (spec.relation_text h) result }
 {
     let mut digits = Buffer::new();
@@ -95,7 +90,6 @@ fn write_relation<W: Out>(h: u64, out: &mut W) -> Result<(), WriteFault>
 
 // The line, where it is known, and the end.
 fn write_line<W: Out>(line: Option<u32>, out: &mut W) -> Result<(), WriteFault>
-    requires counted { (W.Out.state out.old).failures < 2 ^ 63 }
     ensures written { Writes (W.Out.state out.old) (W.Out.state out.new) (spec.line_text line) result }
 {
     match line {
@@ -108,7 +102,6 @@ fn write_line<W: Out>(line: Option<u32>, out: &mut W) -> Result<(), WriteFault>
 }
 
 fn write_ending<W: Out>(h: u64, line: Option<u32>, out: &mut W) -> Result<(), WriteFault>
-    requires counted { (W.Out.state out.old).failures < 2 ^ 63 }
     ensures written { Writes (W.Out.state out.old) (W.Out.state out.new) (spec.ending_text h line) result }
 {
     write_relation(h, out)?;
@@ -116,7 +109,6 @@ fn write_ending<W: Out>(h: u64, line: Option<u32>, out: &mut W) -> Result<(), Wr
 }
 
 fn write_front<W: Out>(k: usize, purpose: Purpose, out: &mut W) -> Result<(), WriteFault>
-    requires counted { (W.Out.state out.old).failures < 2 ^ 63 }
     ensures written { Writes (W.Out.state out.old) (W.Out.state out.new) (spec.front_text k (purpose_is purpose)) result }
 {
     let mut digits = Buffer::new();
@@ -136,7 +128,6 @@ fn write_rest<W: Out>(
     line: Option<u32>,
     out: &mut W,
 ) -> Result<(), WriteFault>
-    requires counted { (W.Out.state out.old).failures < 2 ^ 63 }
     requires first { 1 ≤ k }
     requires last { k ≤ length counts.now }
     requires relation { h ≡ relation_of (exchange_at counts.now k) }
@@ -153,7 +144,6 @@ pub(crate) fn write_exchange<W: Out>(
     line: Option<u32>,
     out: &mut W,
 ) -> Result<(), WriteFault>
-    requires counted { (W.Out.state out.old).failures < 2 ^ 63 }
     requires first { 1 ≤ k }
     requires last { k ≤ length counts.now }
     ensures written { Writes (W.Out.state out.old) (W.Out.state out.new) (spec.exchange_text k line (exchange_at counts.now k)) result }

@@ -22,7 +22,6 @@ pub(crate) fn write_number<W: Out>(
     word: &[u8],
     number: u64,
 ) -> Result<(), WriteFault>
-    requires counted { (W.Out.state out.old).failures < 2 ^ 63 }
     ensures written { Writes (W.Out.state out.old) (W.Out.state out.new)
         (spec.number_text spot.x spot.y how.now word.now number) result }
 {

@@ -56,7 +56,6 @@ fn picture_width(workers: usize, columns: usize) -> u128
 
 // The opening of a picture of that width.
 fn write_opening<W: Out>(out: &mut W, width: u128) -> Result<(), WriteFault>
-    requires counted { (W.Out.state out.old).failures < 2 ^ 63 }
     ensures written { Writes (W.Out.state out.old) (W.Out.state out.new) (spec.opening_text width) result }
 {
     let mut digits = Buffer::new();
@@ -83,7 +82,6 @@ fn cut(exchanges: usize) -> &'static [u8]
 
 // How many workers and exchanges there were.
 fn write_head<W: Out>(out: &mut W, workers: usize, exchanges: usize) -> Result<(), WriteFault>
-    requires counted { (W.Out.state out.old).failures < 2 ^ 63 }
     ensures written { Writes (W.Out.state out.old) (W.Out.state out.new) (spec.head_text workers exchanges) result }
 {
     let mut number = Buffer::new();
@@ -100,7 +98,6 @@ fn write_head<W: Out>(out: &mut W, workers: usize, exchanges: usize) -> Result<(
 
 // Which bars are which.
 fn write_key<W: Out>(out: &mut W) -> Result<(), WriteFault>
-    requires counted { (W.Out.state out.old).failures < 2 ^ 63 }
     ensures written { Writes (W.Out.state out.old) (W.Out.state out.new) spec.key_text result }
 {
     out.write_parts(&[
@@ -113,7 +110,6 @@ fn write_key<W: Out>(out: &mut W) -> Result<(), WriteFault>
 }
 
 fn write_named_key<W: Out>(out: &mut W, workers: usize, exchanges: usize) -> Result<(), WriteFault>
-    requires counted { (W.Out.state out.old).failures < 2 ^ 63 }
     ensures written { Writes (W.Out.state out.old) (W.Out.state out.new)
         (spec.head_text workers exchanges ++ spec.key_text) result }
 {
@@ -128,7 +124,6 @@ fn write_above<W: Out>(
     workers: usize,
     exchanges: usize,
 ) -> Result<(), WriteFault>
-    requires counted { (W.Out.state out.old).failures < 2 ^ 63 }
     ensures written { Writes (W.Out.state out.old) (W.Out.state out.new) (spec.above width workers exchanges) result }
 {
     write_opening(out, width)?;
@@ -142,7 +137,6 @@ fn write_columns<W: Out>(
     lines: &[u32],
     measure: Measure,
 ) -> Result<(), WriteFault>
-    requires counted { (W.Out.state out.old).failures < 2 ^ 63 }
     requires most { measure.most ≡ spec.most_words (spec.drawn counts.now) }
     ensures written { Writes (W.Out.state out.old) (W.Out.state out.new)
         (spec.columns_from measure.workers measure.most lines.now 1 (spec.drawn counts.now)) result }
@@ -155,7 +149,6 @@ fn write_columns<W: Out>(
 
 // How the run came out, and the end of the picture.
 fn write_outcome<W: Out>(out: &mut W, outcome: &[u8]) -> Result<(), WriteFault>
-    requires counted { (W.Out.state out.old).failures < 2 ^ 63 }
     ensures written { Writes (W.Out.state out.old) (W.Out.state out.new) (spec.outcome_text outcome.now) result }
 {
     out.write_all(b"<text x='12' y='372'>")?;
@@ -170,7 +163,6 @@ fn write_ending<W: Out>(
     most: u64,
     outcome: &[u8],
 ) -> Result<(), WriteFault>
-    requires counted { (W.Out.state out.old).failures < 2 ^ 63 }
     ensures written { Writes (W.Out.state out.old) (W.Out.state out.new) (spec.ending_text width most outcome.now) result }
 {
     write_scale(out, width, most)?;
@@ -186,7 +178,6 @@ fn write_measured<W: Out>(
     width: u128,
     measure: Measure,
 ) -> Result<(), WriteFault>
-    requires counted { (W.Out.state out.old).failures < 2 ^ 63 }
     requires most { measure.most ≡ spec.most_words (spec.drawn counts.now) }
     ensures written { Writes (W.Out.state out.old) (W.Out.state out.new)
         (spec.picture_of width measure.workers measure.most lines.now outcome.now counts.now) result }
@@ -208,7 +199,6 @@ pub fn write_picture<W: Out>(
     outcome: &[u8],
     out: &mut W,
 ) -> Result<(), WriteFault>
-    requires counted { (W.Out.state out.old).failures < 2 ^ 63 }
     ensures written { Writes (W.Out.state out.old) (W.Out.state out.new) (spec.picture lines.now outcome.now counts.now) result }
 {
     let measure = Measure {

@@ -10,7 +10,6 @@ use text_out::{Out, WriteFault};
 
 // A mark of the scale, and its number.
 fn write_tick<W: Out>(out: &mut W, y: u128, number: u64) -> Result<(), WriteFault>
-    requires counted { (W.Out.state out.old).failures < 2 ^ 63 }
     requires near { y < 2 ^ 100 }
     ensures written { Writes (W.Out.state out.old) (W.Out.state out.new) (spec.tick y number) result }
 {
@@ -30,7 +29,6 @@ fn write_tick<W: Out>(out: &mut W, y: u128, number: u64) -> Result<(), WriteFaul
 
 // Of so many words sent, and of so many received.
 fn write_two_ticks<W: Out>(out: &mut W, most: u64, number: u64) -> Result<(), WriteFault>
-    requires counted { (W.Out.state out.old).failures < 2 ^ 63 }
     requires within { number ≤ most }
     ensures written { Writes (W.Out.state out.old) (W.Out.state out.new) (spec.two_ticks most number) result }
 {
@@ -40,7 +38,6 @@ fn write_two_ticks<W: Out>(out: &mut W, most: u64, number: u64) -> Result<(), Wr
 }
 
 fn write_ticks_of<W: Out>(out: &mut W, most: u64, number: u64) -> Result<(), WriteFault>
-    requires counted { (W.Out.state out.old).failures < 2 ^ 63 }
     requires within { number ≤ most }
     ensures written { Writes (W.Out.state out.old) (W.Out.state out.new) (spec.ticks_of most number) result }
 {
@@ -53,7 +50,6 @@ fn write_ticks_of<W: Out>(out: &mut W, most: u64, number: u64) -> Result<(), Wri
 
 // Of the half and of the most.
 fn write_ticks<W: Out>(out: &mut W, most: u64) -> Result<(), WriteFault>
-    requires counted { (W.Out.state out.old).failures < 2 ^ 63 }
     ensures written { Writes (W.Out.state out.old) (W.Out.state out.new) (spec.ticks most) result }
 {
     write_ticks_of(out, most, most / 2)?;
@@ -62,7 +58,6 @@ fn write_ticks<W: Out>(out: &mut W, most: u64) -> Result<(), WriteFault>
 
 // The axes with their titles, and 0.
 fn write_axes<W: Out>(out: &mut W, width: u128) -> Result<(), WriteFault>
-    requires counted { (W.Out.state out.old).failures < 2 ^ 63 }
     ensures written { Writes (W.Out.state out.old) (W.Out.state out.new) (spec.axes width) result }
 {
     let mut digits = Buffer::new();
@@ -78,7 +73,6 @@ fn write_axes<W: Out>(out: &mut W, width: u128) -> Result<(), WriteFault>
 
 /// Writes the axes of a picture of that width, and the scale of bars that are for so many words.
 pub(crate) fn write_scale<W: Out>(out: &mut W, width: u128, most: u64) -> Result<(), WriteFault>
-    requires counted { (W.Out.state out.old).failures < 2 ^ 63 }
     ensures written { Writes (W.Out.state out.old) (W.Out.state out.new) (spec.scale width most) result }
 {
     write_axes(out, width)?;

@@ -21,7 +21,6 @@ fn digit(number: u8) -> u8
 
 // A control byte must not reach a terminal, nor end the line.
 fn write_letter<W: Out>(byte: u8, out: &mut W) -> Result<(), WriteFault>
-    requires counted { (W.Out.state out.old).failures < 2 ^ 63 }
     ensures written { Writes (W.Out.state out.old) (W.Out.state out.new) (spec.letter byte) result }
 {
     if byte == b'\n' {
@@ -34,7 +33,6 @@ fn write_letter<W: Out>(byte: u8, out: &mut W) -> Result<(), WriteFault>
 }
 
 fn write_letters<W: Out>(bytes: &[u8], out: &mut W) -> Result<(), WriteFault>
-    requires counted { (W.Out.state out.old).failures < 2 ^ 63 }
     ensures written { Writes (W.Out.state out.old) (W.Out.state out.new) (spec.letters bytes.now) result }
 {
     for byte in bytes {
@@ -87,7 +85,6 @@ fn wanted(given: Given) -> &'static [u8]
 }
 
 fn write_wanted<W: Out>(given: Given, out: &mut W) -> Result<(), WriteFault>
-    requires counted { (W.Out.state out.old).failures < 2 ^ 63 }
     ensures written { Writes (W.Out.state out.old) (W.Out.state out.new) (spec.wanted_text given) result }
 {
     out.write_parts(&[
@@ -100,7 +97,6 @@ fn write_wanted<W: Out>(given: Given, out: &mut W) -> Result<(), WriteFault>
 }
 
 fn write_value_sentence<W: Out>(given: Given, word: &[u8], out: &mut W) -> Result<(), WriteFault>
-    requires counted { (W.Out.state out.old).failures < 2 ^ 63 }
     ensures written { Writes (W.Out.state out.old) (W.Out.state out.new) (spec.value_sentence given word.now) result }
 {
     out.write_all(b"invalid `")?;
@@ -168,7 +164,6 @@ pub fn write_word_fault<W: Out>(
     wrong: Option<Given>,
     word: &str,
 ) -> Result<(), WriteFault>
-    requires counted { (W.Out.state out.old).failures < 2 ^ 63 }
     ensures written { Writes (W.Out.state out.old) (W.Out.state out.new) (spec.word_fault wrong word.now) result }
 {
     match wrong {

@@ -5,7 +5,6 @@ use Rattle.work_time.specs.declared.line_cost.LineCost.{LineCost}
 use Rattle.text_out.proofs.Progress.{breaks_off, closes, goes_on, starts}
 use Rattle.cost_texts.specs.CostText.{cost_text, lines_text}
 use Rattle.command_text.specs.Costs.{if_asked}
-use Rattle.command_text.proofs.Room.{room}
 use Rattle.command_text.proofs.writing.write_numbers.Goals as goal
 
 pub returns-in_err-write_cost : goal.returns-in_err-write_cost
@@ -14,7 +13,7 @@ returns-in_err-write_cost g c =
     let words = c.args.words in
     record {
       written = breaks_off _ _ _ _ _ (cost_text (verdict_of c.args.outcome.now) cost words.schedule) (if_asked words.lines (lines_text cost.lines.items))
-          c.from_residual.result _ c.from_residual.ensures.1 (starts _ _ (room _ c.requires.out)) refl c.in_err-write_cost.ensures.written;
+          c.from_residual.result _ c.from_residual.ensures.1 (starts _ _) refl c.in_err-write_cost.ensures.written;
     }
 
 pub returns-then-words : goal.returns-then-words
@@ -22,7 +21,7 @@ returns-then-words g c =
     let cost = c.args.cost.now in
     let words = c.args.words in
     let told = goes_on _ _ _ _ _ (cost_text (verdict_of c.args.outcome.now) cost words.schedule) (if_asked words.lines (lines_text cost.lines.items))
-    (starts _ _ (room _ c.requires.out)) refl c.in_ok-write_cost.ensures.written in
+    (starts _ _) refl c.in_ok-write_cost.ensures.written in
     let P : List LineCost → Type 0 = λ ls. Writes (g.O.Out.state c.write_cost.new.out) (g.O.Out.state c.write_lines.new.out) (lines_text ls)
     c.write_lines.result in
     let lines = subst P c.deref.ensures.value c.write_lines.ensures.written in

@@ -11,13 +11,13 @@ returns-in_err-write_counts g c =
     let first = first_line c.args.first.now c.args.second.now f.told in
     record {
       written = breaks_off _ _ _ _ _ (counts_line f) first
-          c.from_residual.result _ c.from_residual.ensures.1 (starts _ _ c.requires.counted) refl c.in_err-write_counts.ensures.written;
+          c.from_residual.result _ c.from_residual.ensures.1 (starts _ _) refl c.in_err-write_counts.ensures.written;
     }
 
 pub returns : goal.returns
 returns g c =
     let f = found_is c.args.comparison.now in
     let line : List FoundDifference → List ℕ = λ told. first_line c.args.first.now c.args.second.now (map differing_is told) in
-    let after_1 = goes_on _ _ _ _ _ (counts_line f) (line c.deref.result.now) (starts _ _ c.requires.counted)
+    let after_1 = goes_on _ _ _ _ _ (counts_line f) (line c.deref.result.now) (starts _ _)
     (ap (λ (told : List FoundDifference). counts_line f ++ line told) (sym c.deref.ensures.value)) c.in_ok-write_counts.ensures.written in
     record { written = closes _ _ _ _ _ c.write_first.result after_1 c.write_first.ensures.written }

@@ -11,7 +11,7 @@ returns-in_err-write_all g c =
     let behind = codes ": " ++ (difference ++ codes "\n") in
     record {
       written = breaks_off _ _ _ _ _ (codes "input") (values ++ behind)
-          c.from_residual.result _ c.from_residual.ensures.1 (starts _ _ c.requires.counted) refl c.in_err-write_all.ensures.written;
+          c.from_residual.result _ c.from_residual.ensures.1 (starts _ _) refl c.in_err-write_all.ensures.written;
     }
 
 pub returns-in_err-write_values : goal.returns-in_err-write_values
@@ -19,7 +19,7 @@ returns-in_err-write_values g c =
     let values = spaced c.args.found.now.input.items in
     let difference = difference_text c.args.first.now c.args.second.now c.args.found.now.difference in
     let behind = codes ": " ++ (difference ++ codes "\n") in
-    let after_1 = goes_on _ _ _ _ _ (codes "input") (values ++ behind) (starts _ _ c.requires.counted) refl
+    let after_1 = goes_on _ _ _ _ _ (codes "input") (values ++ behind) (starts _ _) refl
     c.in_ok-write_all.ensures.written in
     record {
       written = breaks_off _ _ _ _ _ (spaced c.as_slice.result.now) behind
@@ -32,7 +32,7 @@ returns-in_err-write_all-2 g c =
     let values = spaced c.args.found.now.input.items in
     let difference = difference_text c.args.first.now c.args.second.now c.args.found.now.difference in
     let behind = codes ": " ++ (difference ++ codes "\n") in
-    let after_1 = goes_on _ _ _ _ _ (codes "input") (values ++ behind) (starts _ _ c.requires.counted) refl
+    let after_1 = goes_on _ _ _ _ _ (codes "input") (values ++ behind) (starts _ _) refl
     c.in_ok-write_all.ensures.written in
     let after_2 = goes_on _ _ _ _ _ (spaced c.as_slice.result.now) behind after_1
     (ap (λ (vs : List ℤ). spaced vs ++ behind) (sym c.as_slice.ensures.value))
@@ -48,7 +48,7 @@ returns-in_err-write_difference g c =
     let values = spaced c.args.found.now.input.items in
     let difference = difference_text c.args.first.now c.args.second.now c.args.found.now.difference in
     let behind = codes ": " ++ (difference ++ codes "\n") in
-    let after_1 = goes_on _ _ _ _ _ (codes "input") (values ++ behind) (starts _ _ c.requires.counted) refl
+    let after_1 = goes_on _ _ _ _ _ (codes "input") (values ++ behind) (starts _ _) refl
     c.in_ok-write_all.ensures.written in
     let after_2 = goes_on _ _ _ _ _ (spaced c.as_slice.result.now) behind after_1
     (ap (λ (vs : List ℤ). spaced vs ++ behind) (sym c.as_slice.ensures.value))
@@ -66,7 +66,7 @@ returns g c =
     let values = spaced c.args.found.now.input.items in
     let difference = difference_text c.args.first.now c.args.second.now c.args.found.now.difference in
     let behind = codes ": " ++ (difference ++ codes "\n") in
-    let after_1 = goes_on _ _ _ _ _ (codes "input") (values ++ behind) (starts _ _ c.requires.counted) refl
+    let after_1 = goes_on _ _ _ _ _ (codes "input") (values ++ behind) (starts _ _) refl
     c.in_ok-write_all.ensures.written in
     let after_2 = goes_on _ _ _ _ _ (spaced c.as_slice.result.now) behind after_1
     (ap (λ (vs : List ℤ). spaced vs ++ behind) (sym c.as_slice.ensures.value))

@@ -9,14 +9,14 @@ returns-in_err-write_ending g c =
     let f = ending_text c.args.second_layout.now c.args.second in
     record {
       written = breaks_off _ _ _ _ _ e (codes ", and " ++ f)
-          c.from_residual.result _ c.from_residual.ensures.1 (starts _ _ c.requires.counted) refl c.in_err-write_ending.ensures.written;
+          c.from_residual.result _ c.from_residual.ensures.1 (starts _ _) refl c.in_err-write_ending.ensures.written;
     }
 
 pub returns-in_err-write_all : goal.returns-in_err-write_all
 returns-in_err-write_all g c =
     let e = ending_text c.args.first_layout.now c.args.first in
     let f = ending_text c.args.second_layout.now c.args.second in
-    let after_1 = goes_on _ _ _ _ _ e (codes ", and " ++ f) (starts _ _ c.requires.counted) refl
+    let after_1 = goes_on _ _ _ _ _ e (codes ", and " ++ f) (starts _ _) refl
     c.in_ok-write_ending.ensures.written in
     record {
       written = breaks_off _ _ _ _ _ (codes ", and ") f
@@ -28,7 +28,7 @@ pub returns : goal.returns
 returns g c =
     let e = ending_text c.args.first_layout.now c.args.first in
     let f = ending_text c.args.second_layout.now c.args.second in
-    let after_1 = goes_on _ _ _ _ _ e (codes ", and " ++ f) (starts _ _ c.requires.counted) refl
+    let after_1 = goes_on _ _ _ _ _ e (codes ", and " ++ f) (starts _ _) refl
     c.in_ok-write_ending.ensures.written in
     let after_2 = goes_on _ _ _ _ _ (codes ", and ") f after_1 refl
     c.in_ok-write_all.ensures.written in

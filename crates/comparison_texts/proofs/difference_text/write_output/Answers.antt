@@ -9,12 +9,12 @@ returns-in_err-write_item g c =
     let values = values_text c.args.first c.args.second in
     record {
       written = breaks_off _ _ _ _ _ item values c.from_residual.result _ c.from_residual.ensures.1
-          (starts _ _ c.requires.counted) refl c.in_err-write_item.ensures.written;
+          (starts _ _) refl c.in_err-write_item.ensures.written;
     }
 
 pub returns : goal.returns
 returns g c =
     let item = item_text c.args.item in
     let values = values_text c.args.first c.args.second in
-    let after = goes_on _ _ _ _ _ item values (starts _ _ c.requires.counted) refl c.in_ok-write_item.ensures.written in
+    let after = goes_on _ _ _ _ _ item values (starts _ _) refl c.in_ok-write_item.ensures.written in
     record { written = closes _ _ _ _ _ c.write_values.result after c.write_values.ensures.written }

@@ -10,14 +10,14 @@ returns-in_err-write_cell g c =
     let values = values_text c.args.first c.args.second in
     record {
       written = breaks_off _ _ _ _ _ cell (codes " is " ++ values)
-          c.from_residual.result _ c.from_residual.ensures.1 (starts _ _ c.requires.counted) refl c.in_err-write_cell.ensures.written;
+          c.from_residual.result _ c.from_residual.ensures.1 (starts _ _) refl c.in_err-write_cell.ensures.written;
     }
 
 pub returns-in_err-write_all : goal.returns-in_err-write_all
 returns-in_err-write_all g c =
     let cell = cell_text c.args.layout.now c.args.cell in
     let values = values_text c.args.first c.args.second in
-    let after_1 = goes_on _ _ _ _ _ cell (codes " is " ++ values) (starts _ _ c.requires.counted) refl
+    let after_1 = goes_on _ _ _ _ _ cell (codes " is " ++ values) (starts _ _) refl
     c.in_ok-write_cell.ensures.written in
     record {
       written = breaks_off _ _ _ _ _ (codes " is ") values
@@ -29,7 +29,7 @@ pub returns : goal.returns
 returns g c =
     let cell = cell_text c.args.layout.now c.args.cell in
     let values = values_text c.args.first c.args.second in
-    let after_1 = goes_on _ _ _ _ _ cell (codes " is " ++ values) (starts _ _ c.requires.counted) refl
+    let after_1 = goes_on _ _ _ _ _ cell (codes " is " ++ values) (starts _ _) refl
     c.in_ok-write_cell.ensures.written in
     let after_2 = goes_on _ _ _ _ _ (codes " is ") values after_1 refl
     c.in_ok-write_all.ensures.written in

@@ -9,14 +9,14 @@ returns-in_err-write_value g c =
     let y = value_text c.args.second in
     record {
       written = breaks_off _ _ _ _ _ x (codes ", and " ++ y)
-          c.from_residual.result _ c.from_residual.ensures.1 (starts _ _ c.requires.counted) refl c.in_err-write_value.ensures.written;
+          c.from_residual.result _ c.from_residual.ensures.1 (starts _ _) refl c.in_err-write_value.ensures.written;
     }
 
 pub returns-in_err-write_all : goal.returns-in_err-write_all
 returns-in_err-write_all g c =
     let x = value_text c.args.first in
     let y = value_text c.args.second in
-    let after_1 = goes_on _ _ _ _ _ x (codes ", and " ++ y) (starts _ _ c.requires.counted) refl
+    let after_1 = goes_on _ _ _ _ _ x (codes ", and " ++ y) (starts _ _) refl
     c.in_ok-write_value.ensures.written in
     record {
       written = breaks_off _ _ _ _ _ (codes ", and ") y
@@ -28,7 +28,7 @@ pub returns : goal.returns
 returns g c =
     let x = value_text c.args.first in
     let y = value_text c.args.second in
-    let after_1 = goes_on _ _ _ _ _ x (codes ", and " ++ y) (starts _ _ c.requires.counted) refl
+    let after_1 = goes_on _ _ _ _ _ x (codes ", and " ++ y) (starts _ _) refl
     c.in_ok-write_value.ensures.written in
     let after_2 = goes_on _ _ _ _ _ (codes ", and ") y after_1 refl
     c.in_ok-write_all.ensures.written in

@@ -10,14 +10,14 @@ returns-in_err-write_work g c =
     let rest = bound_lines (verdict_of c.args.outcome.now) cost ++ schedule_lines cost c.args.schedule in
     record {
       written = breaks_off _ _ _ _ _ (work_lines cost) (access_lines cost ++ rest) c.from_residual.result _ c.from_residual.ensures.1
-          (starts _ _ c.requires.counted) refl c.in_err-write_work.ensures.written;
+          (starts _ _) refl c.in_err-write_work.ensures.written;
     }
 
 pub returns-in_err-write_accesses : goal.returns-in_err-write_accesses
 returns-in_err-write_accesses g c =
     let cost = c.args.cost.now in
     let rest = bound_lines (verdict_of c.args.outcome.now) cost ++ schedule_lines cost c.args.schedule in
-    let work = goes_on _ _ _ _ _ (work_lines cost) (access_lines cost ++ rest) (starts _ _ c.requires.counted) refl
+    let work = goes_on _ _ _ _ _ (work_lines cost) (access_lines cost ++ rest) (starts _ _) refl
     c.in_ok-write_work.ensures.written in
     record {
       written = breaks_off _ _ _ _ _ (access_lines cost) rest c.from_residual-in_err-write_accesses.result _
@@ -29,7 +29,7 @@ returns-in_err-write_bound g c =
     let cost = c.args.cost.now in
     let bound = bound_lines (verdict_of c.args.outcome.now) cost in
     let schedule = schedule_lines cost c.args.schedule in
-    let work = goes_on _ _ _ _ _ (work_lines cost) (access_lines cost ++ (bound ++ schedule)) (starts _ _ c.requires.counted) refl
+    let work = goes_on _ _ _ _ _ (work_lines cost) (access_lines cost ++ (bound ++ schedule)) (starts _ _) refl
     c.in_ok-write_work.ensures.written in
     let accesses = goes_on _ _ _ _ _ (access_lines cost) (bound ++ schedule) work refl c.in_ok-write_accesses.ensures.written in
     record {
@@ -42,7 +42,7 @@ returns-in-Some g c =
     let cost = c.args.cost.now in
     let bound = bound_lines (verdict_of c.args.outcome.now) cost in
     let schedule = schedule_lines cost c.args.schedule in
-    let work = goes_on _ _ _ _ _ (work_lines cost) (access_lines cost ++ (bound ++ schedule)) (starts _ _ c.requires.counted) refl
+    let work = goes_on _ _ _ _ _ (work_lines cost) (access_lines cost ++ (bound ++ schedule)) (starts _ _) refl
     c.in_ok-write_work.ensures.written in
     let accesses = goes_on _ _ _ _ _ (access_lines cost) (bound ++ schedule) work refl c.in_ok-write_accesses.ensures.written in
     let most = goes_on _ _ _ _ _ bound schedule accesses refl c.in_ok-write_bound.ensures.written in

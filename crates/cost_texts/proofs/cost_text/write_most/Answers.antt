@@ -8,7 +8,7 @@ returns-in_err-write_exchanges g c =
     let front = fact (codes "exchanges at most ") c.args.cost.now.most_exchanges in
     let rest = words_line c.args.cost.now.most_words in
     record {
-      written = breaks_off _ _ _ _ _ front rest c.from_residual.result _ c.from_residual.ensures.1 (starts _ _ c.requires.counted) refl
+      written = breaks_off _ _ _ _ _ front rest c.from_residual.result _ c.from_residual.ensures.1 (starts _ _) refl
           c.in_err-write_exchanges.ensures.written;
     }
 
@@ -18,6 +18,6 @@ returns g c =
     let rest = words_line c.args.cost.now.most_words in
     record {
       written = closes _ _ _ _ _ c.write_words.result
-          (goes_on _ _ _ _ _ front rest (starts _ _ c.requires.counted) refl c.in_ok-write_exchanges.ensures.written)
+          (goes_on _ _ _ _ _ front rest (starts _ _) refl c.in_ok-write_exchanges.ensures.written)
           c.write_words.ensures.written;
     }

@@ -12,7 +12,7 @@ returns-in_err-write_counts g c =
     let spans = span_line (codes "time ") f.time ++ span_line (codes "work ") f.work in
     record {
       written = breaks_off _ _ _ _ _ (counts_text f) (met ++ spans) c.from_residual.result _ c.from_residual.ensures.1
-          (starts _ _ c.requires.counted) refl c.in_err-write_counts.ensures.written;
+          (starts _ _) refl c.in_err-write_counts.ensures.written;
     }
 
 pub returns-in_err-write_all_met : goal.returns-in_err-write_all_met
@@ -21,7 +21,7 @@ returns-in_err-write_all_met g c =
     let met = met_lines c.args.layout.now f.faults in
     let time = span_line (codes "time ") f.time in
     let work = span_line (codes "work ") f.work in
-    let counts = goes_on _ _ _ _ _ (counts_text f) (met ++ (time ++ work)) (starts _ _ c.requires.counted) refl
+    let counts = goes_on _ _ _ _ _ (counts_text f) (met ++ (time ++ work)) (starts _ _) refl
     c.in_ok-write_counts.ensures.written in
     record {
       written = breaks_off _ _ _ _ _ (met_lines c.args.layout.now (map met_is c.as_slice.result.now)) (time ++ work)
@@ -36,7 +36,7 @@ returns-in_err-write_span g c =
     let met = met_lines c.args.layout.now f.faults in
     let time = span_line (codes "time ") f.time in
     let work = span_line (codes "work ") f.work in
-    let counts = goes_on _ _ _ _ _ (counts_text f) (met ++ (time ++ work)) (starts _ _ c.requires.counted) refl
+    let counts = goes_on _ _ _ _ _ (counts_text f) (met ++ (time ++ work)) (starts _ _) refl
     c.in_ok-write_counts.ensures.written in
     let faults = goes_on _ _ _ _ _ (met_lines c.args.layout.now (map met_is c.as_slice.result.now)) (time ++ work) counts
     (ap (λ (fs : List FoundFault). met_lines c.args.layout.now (map met_is fs) ++ (time ++ work)) (sym c.as_slice.ensures.value))
@@ -52,7 +52,7 @@ returns g c =
     let met = met_lines c.args.layout.now f.faults in
     let time = span_line (codes "time ") f.time in
     let work = span_line (codes "work ") f.work in
-    let counts = goes_on _ _ _ _ _ (counts_text f) (met ++ (time ++ work)) (starts _ _ c.requires.counted) refl
+    let counts = goes_on _ _ _ _ _ (counts_text f) (met ++ (time ++ work)) (starts _ _) refl
     c.in_ok-write_counts.ensures.written in
     let faults = goes_on _ _ _ _ _ (met_lines c.args.layout.now (map met_is c.as_slice.result.now)) (time ++ work) counts
     (ap (λ (fs : List FoundFault). met_lines c.args.layout.now (map met_is fs) ++ (time ++ work)) (sym c.as_slice.ensures.value))

@@ -9,7 +9,7 @@ returns-in_err-write_statement_line g c =
     let part2 = cells_text c.args.layout.now c.args.only.now c.args.rows c.args.found in
     let part3 = key_text in
     record {
-      written = breaks_off _ _ _ _ _ part1 (part2 ++ part3) c.from_residual.result _ c.from_residual.ensures.1 (starts _ _ c.requires.counted) refl c.in_err-write_statement_line.ensures.written;
+      written = breaks_off _ _ _ _ _ part1 (part2 ++ part3) c.from_residual.result _ c.from_residual.ensures.1 (starts _ _) refl c.in_err-write_statement_line.ensures.written;
     }
 
 pub returns-in_err-write_cells : goal.returns-in_err-write_cells
@@ -17,7 +17,7 @@ returns-in_err-write_cells g c =
     let part1 = statement_line c.args.from c.args.to c.args.statements c.args.columns c.args.touching in
     let part2 = cells_text c.args.layout.now c.args.only.now c.args.rows c.args.found in
     let part3 = key_text in
-    let after1 = goes_on _ _ _ _ _ part1 (part2 ++ part3) (starts _ _ c.requires.counted) refl c.in_ok-write_statement_line.ensures.written in
+    let after1 = goes_on _ _ _ _ _ part1 (part2 ++ part3) (starts _ _) refl c.in_ok-write_statement_line.ensures.written in
     record {
       written = breaks_off _ _ _ _ _ part2 part3 c.from_residual-in_err-write_cells.result _ c.from_residual-in_err-write_cells.ensures.1 after1 refl c.in_err-write_cells.ensures.written;
     }
@@ -27,7 +27,7 @@ returns g c =
     let part1 = statement_line c.args.from c.args.to c.args.statements c.args.columns c.args.touching in
     let part2 = cells_text c.args.layout.now c.args.only.now c.args.rows c.args.found in
     let part3 = key_text in
-    let after1 = goes_on _ _ _ _ _ part1 (part2 ++ part3) (starts _ _ c.requires.counted) refl c.in_ok-write_statement_line.ensures.written in
+    let after1 = goes_on _ _ _ _ _ part1 (part2 ++ part3) (starts _ _) refl c.in_ok-write_statement_line.ensures.written in
     let after2 = goes_on _ _ _ _ _ part2 part3 after1 refl c.in_ok-write_cells.ensures.written in
     record {
       written = closes _ _ _ _ _ c.write_key.result after2 c.write_key.ensures.written;

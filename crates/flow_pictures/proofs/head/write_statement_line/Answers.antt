@@ -9,7 +9,7 @@ returns-in_err-write_statements g c =
     let part2 = range_text c.args.from c.args.to c.args.statements in
     let part3 = statement_cut c.args.columns c.args.touching in
     record {
-      written = breaks_off _ _ _ _ _ part1 (part2 ++ part3) c.from_residual.result _ c.from_residual.ensures.1 (starts _ _ c.requires.counted) refl c.in_err-write_statements.ensures.written;
+      written = breaks_off _ _ _ _ _ part1 (part2 ++ part3) c.from_residual.result _ c.from_residual.ensures.1 (starts _ _) refl c.in_err-write_statements.ensures.written;
     }
 
 pub returns-in_err-write_range : goal.returns-in_err-write_range
@@ -17,7 +17,7 @@ returns-in_err-write_range g c =
     let part1 = statements_text c.args.statements c.args.columns in
     let part2 = range_text c.args.from c.args.to c.args.statements in
     let part3 = statement_cut c.args.columns c.args.touching in
-    let after1 = goes_on _ _ _ _ _ part1 (part2 ++ part3) (starts _ _ c.requires.counted) refl c.in_ok-write_statements.ensures.written in
+    let after1 = goes_on _ _ _ _ _ part1 (part2 ++ part3) (starts _ _) refl c.in_ok-write_statements.ensures.written in
     record {
       written = breaks_off _ _ _ _ _ part2 part3 c.from_residual-in_err-write_range.result _ c.from_residual-in_err-write_range.ensures.1 after1 refl c.in_err-write_range.ensures.written;
     }
@@ -27,7 +27,7 @@ returns g c =
     let part1 = statements_text c.args.statements c.args.columns in
     let part2 = range_text c.args.from c.args.to c.args.statements in
     let part3 = statement_cut c.args.columns c.args.touching in
-    let after1 = goes_on _ _ _ _ _ part1 (part2 ++ part3) (starts _ _ c.requires.counted) refl c.in_ok-write_statements.ensures.written in
+    let after1 = goes_on _ _ _ _ _ part1 (part2 ++ part3) (starts _ _) refl c.in_ok-write_statements.ensures.written in
     let after2 = goes_on _ _ _ _ _ part2 part3 after1 refl c.in_ok-write_range.ensures.written in
     record {
       written = closes _ _ _ _ _ c.write_statement_cut.result after2 c.write_statement_cut.ensures.written;

@@ -9,13 +9,13 @@ returns-in_err-write_parts g c =
     let text = growth_words c.args.variable.now c.args.growth.now in
     record {
       written = breaks_off _ _ _ _ _ (c.args.label.now ++ codes " ") (text ++ codes "\n") c.from_residual.result _
-          c.from_residual.ensures.1 (starts _ _ c.requires.counted) refl c.in_err-write_parts.ensures.written;
+          c.from_residual.ensures.1 (starts _ _) refl c.in_err-write_parts.ensures.written;
     }
 
 pub returns-in_err-write_growth_words : goal.returns-in_err-write_growth_words
 returns-in_err-write_growth_words g c =
     let text = growth_words c.args.variable.now c.args.growth.now in
-    let named = goes_on _ _ _ _ _ (c.args.label.now ++ codes " ") (text ++ codes "\n") (starts _ _ c.requires.counted) refl
+    let named = goes_on _ _ _ _ _ (c.args.label.now ++ codes " ") (text ++ codes "\n") (starts _ _) refl
     c.in_ok-write_parts.ensures.written in
     record {
       written = breaks_off _ _ _ _ _ text (codes "\n") c.from_residual-in_err-write_growth_words.result _
@@ -25,7 +25,7 @@ returns-in_err-write_growth_words g c =
 pub returns : goal.returns
 returns g c =
     let text = growth_words c.args.variable.now c.args.growth.now in
-    let named = goes_on _ _ _ _ _ (c.args.label.now ++ codes " ") (text ++ codes "\n") (starts _ _ c.requires.counted) refl
+    let named = goes_on _ _ _ _ _ (c.args.label.now ++ codes " ") (text ++ codes "\n") (starts _ _) refl
     c.in_ok-write_parts.ensures.written in
     let told = goes_on _ _ _ _ _ text (codes "\n") named refl c.in_ok-write_growth_words.ensures.written in
     record { written = closes _ _ _ _ _ c.write_all.result told c.write_all.ensures.written }

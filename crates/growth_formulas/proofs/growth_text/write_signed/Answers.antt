@@ -14,7 +14,7 @@ returns-in_err-write_all g c =
     let rest = product_text c.args.variable.now (unsigned_abs z) c.args.term in
     record {
       written = breaks_off _ _ _ _ _ c.sign.result.now rest c.from_residual.result _ c.from_residual.ensures.1
-          (starts _ _ c.requires.counted) (ap (λ t. t ++ rest) (sym sign)) c.in_err-write_all.ensures.written;
+          (starts _ _) (ap (λ t. t ++ rest) (sym sign)) c.in_err-write_all.ensures.written;
     }
 
 pub returns : goal.returns
@@ -29,6 +29,6 @@ returns g c =
     ∙ ap (λ m. c.sign.result.now ++ product_text c.args.variable.now m c.args.term) (sym size) in
     record {
       written = closes _ _ _ _ product c.write_product.result
-          (goes_on _ _ _ _ _ c.sign.result.now product (starts _ _ c.requires.counted) whole c.in_ok-write_all.ensures.written)
+          (goes_on _ _ _ _ _ c.sign.result.now product (starts _ _) whole c.in_ok-write_all.ensures.written)
           c.write_product.ensures.written;
     }

@@ -9,7 +9,7 @@ returns-in_err-write_factor g c =
     let front = factor_text c.args.size in
     let rest = joined c.args.symbol.now in
     record {
-      written = breaks_off _ _ _ _ _ front rest c.from_residual.result _ c.from_residual.ensures.1 (starts _ _ c.requires.counted) refl
+      written = breaks_off _ _ _ _ _ front rest c.from_residual.result _ c.from_residual.ensures.1 (starts _ _) refl
           c.in_err-write_factor.ensures.written;
     }
 
@@ -19,6 +19,6 @@ returns g c =
     let rest = joined c.args.symbol.now in
     record {
       written = closes _ _ _ _ _ c.write_parts.result
-          (goes_on _ _ _ _ _ front rest (starts _ _ c.requires.counted) refl c.in_ok-write_factor.ensures.written)
+          (goes_on _ _ _ _ _ front rest (starts _ _) refl c.in_ok-write_factor.ensures.written)
           c.write_parts.ensures.written;
     }

@@ -7,5 +7,5 @@ pub returns-in_err-write_items : goal.returns-in_err-write_items
 returns-in_err-write_items g c = record {
   written = breaks_off _ _ _ _ _ _ (line
       (codes "goes on")) c.from_residual.result _ c.from_residual.ensures.1
-      (starts _ _ c.requires.counted) refl c.in_err-write_items.ensures.written;
+      (starts _ _) refl c.in_err-write_items.ensures.written;
 }

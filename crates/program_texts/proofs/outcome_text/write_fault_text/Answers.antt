@@ -11,7 +11,7 @@ returns-in_err-write_parts g c =
     let at = fault_split (kind_text f.kind) _ (place_text c.args.layout.now f.place) (decimal f.line) _ c.kind_word.ensures refl in
     record {
       written = breaks_off _ _ _ _ _ _ _ c.from_residual.result _ c.from_residual.ensures.1
-          (starts _ _ c.requires.counted) at c.in_err-write_parts.ensures.written;
+          (starts _ _) at c.in_err-write_parts.ensures.written;
     }
 
 pub returns-in_err-write_place : goal.returns-in_err-write_place
@@ -19,7 +19,7 @@ returns-in_err-write_place g c =
     let f = c.args.fault.now in
     let place = place_text c.args.layout.now f.place in
     let at = fault_split (kind_text f.kind) _ place (decimal f.line) _ c.kind_word.ensures refl in
-    let kind = goes_on _ _ _ _ _ _ _ (starts _ _ c.requires.counted) at c.in_ok-write_parts.ensures.written in
+    let kind = goes_on _ _ _ _ _ _ _ (starts _ _) at c.in_ok-write_parts.ensures.written in
     record {
       written = breaks_off _ _ _ _ _ _ (codes " line " ++
           (decimal f.line ++ [])) c.from_residual-in_err-write_place.result _ c.from_residual-in_err-write_place.ensures.1 kind refl c.in_err-write_place.ensures.written;
@@ -31,6 +31,6 @@ returns g c =
     let place = place_text c.args.layout.now f.place in
     let digits = c.as_bytes.ensures.value ∙ c.format.ensures.text in
     let at = fault_split (kind_text f.kind) _ place (decimal f.line) _ c.kind_word.ensures digits in
-    let kind = goes_on _ _ _ _ _ _ _ (starts _ _ c.requires.counted) at c.in_ok-write_parts.ensures.written in
+    let kind = goes_on _ _ _ _ _ _ _ (starts _ _) at c.in_ok-write_parts.ensures.written in
     let placed = goes_on _ _ _ _ _ _ _ kind refl c.in_ok-write_place.ensures.written in
     record { written = closes _ _ _ _ _ c.write_parts-2.result placed c.write_parts-2.ensures.written }

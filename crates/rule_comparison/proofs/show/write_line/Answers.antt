@@ -14,7 +14,7 @@ returns-in_err-write_parts g c =
     c.rule_word.ensures in
     record {
       written = breaks_off _ _ _ _ _ _ _ c.from_residual.result _ c.from_residual.ensures.1
-          (starts _ _ c.requires.counted) at c.in_err-write_parts.ensures.written;
+          (starts _ _) at c.in_err-write_parts.ensures.written;
     }
 
 pub returns : goal.returns
@@ -24,5 +24,5 @@ returns g c =
     (sym c.of.ensures.value)
     ∙ ap (λ d. line (rule_word c.args.rule ++ (codes " " ++ told d all.layout c.of.result))) (sym c.declares-declared.ensures.value)
     ∙ line_split (rule_word c.args.rule) _ (told c.declares-declared.result all.layout c.of.result) c.rule_word.ensures in
-    let worded = goes_on _ _ _ _ _ _ _ (starts _ _ c.requires.counted) at c.in_ok-write_parts.ensures.written in
+    let worded = goes_on _ _ _ _ _ _ _ (starts _ _) at c.in_ok-write_parts.ensures.written in
     record { written = closes _ _ _ _ _ c.write_told.result worded c.write_told.ensures.written }

@@ -11,7 +11,7 @@ returns-in_err-write_front g c =
     let f = frame_is c.args.frame.now in
     let behind = column f (column_at f c.args.before c.args.number) (entry_is c.args.entry.now) in
     record {
-      written = breaks_off _ _ _ _ _ _ behind c.from_residual.result _ c.from_residual.ensures.1 (starts _ _ c.requires.counted) refl
+      written = breaks_off _ _ _ _ _ _ behind c.from_residual.result _ c.from_residual.ensures.1 (starts _ _) refl
           c.in_err-write_front.ensures.written;
     }
 
@@ -20,6 +20,6 @@ returns g c =
     let f = frame_is c.args.frame.now in
     let e = entry_is c.args.entry.now in
     let at = ap (λ p. front_of f c.args.before ++ column f p e) (sym c.column_of.ensures) in
-    let after_1 = goes_on _ _ _ _ _ _ (column f (column_is c.column_of.result) e) (starts _ _ c.requires.counted) at
+    let after_1 = goes_on _ _ _ _ _ _ (column f (column_is c.column_of.result) e) (starts _ _) at
     c.in_ok-write_front.ensures.written in
     record { written = closes _ _ _ _ _ c.write_column.result after_1 c.write_column.ensures.written }

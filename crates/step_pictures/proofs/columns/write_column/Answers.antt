@@ -13,7 +13,7 @@ returns-in_err-write_heading g c =
     let behind = processors c.args.frame.now.layout.now c.args.frame.now.rows.now (column_is c.args.at) (acts_in e) (met_in e) in
     let at = ap (λ l. heading c.args.frame.now.text.now (column_is c.args.at) l ++ behind) (sym c.line_of.ensures) in
     record {
-      written = breaks_off _ _ _ _ _ _ behind c.from_residual.result _ c.from_residual.ensures.1 (starts _ _ c.requires.counted) at
+      written = breaks_off _ _ _ _ _ _ behind c.from_residual.result _ c.from_residual.ensures.1 (starts _ _) at
           c.in_err-write_heading.ensures.written;
     }
 
@@ -29,5 +29,5 @@ returns g c =
     λ i. heading text (column_is c.args.at) (sym c.line_of.ensures i)
     ++ processors layout rows (column_is c.args.at) (sym c.acts_in.ensures i) (sym c.met_in.ensures i) in
     let after_1 = goes_on _ _ _ _ _ _ (processors layout rows (column_is c.args.at) (map act_is c.acts_in.result.now) c.met_in.result.now)
-    (starts _ _ c.requires.counted) at c.in_ok-write_heading.ensures.written in
+    (starts _ _) at c.in_ok-write_heading.ensures.written in
     record { written = closes _ _ _ _ _ c.write_processors.result after_1 c.write_processors.ensures.written }

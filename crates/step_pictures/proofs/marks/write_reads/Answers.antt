@@ -10,13 +10,13 @@ returns-in_err-write_all g c =
     let some : 0 < length c.args.cells.now = grind (arith, common_steps) in
     record {
       written = breaks_off _ _ _ _ _ (codes " reads") (cells_text c.args.layout.now c.args.cells.now) c.from_residual.result _
-          c.from_residual.ensures.1 (starts _ _ c.requires.counted) (some_read c.args.layout.now c.args.cells.now some)
+          c.from_residual.ensures.1 (starts _ _) (some_read c.args.layout.now c.args.cells.now some)
           c.in_err-write_all.ensures.written;
     }
 
 pub returns : goal.returns
 returns g c =
     let some : 0 < length c.args.cells.now = grind (arith, common_steps) in
-    let word = goes_on _ _ _ _ _ (codes " reads") (cells_text c.args.layout.now c.args.cells.now) (starts _ _ c.requires.counted)
+    let word = goes_on _ _ _ _ _ (codes " reads") (cells_text c.args.layout.now c.args.cells.now) (starts _ _)
     (some_read c.args.layout.now c.args.cells.now some) c.in_ok-write_all.ensures.written in
     record { written = closes _ _ _ _ _ c.write_cells.result word c.write_cells.ensures.written }

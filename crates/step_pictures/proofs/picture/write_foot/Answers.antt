@@ -13,7 +13,7 @@ returns-in_err-write_ending g c =
     let line = c.foot_line.ensures.line ∙ ap (foot_line f) (sym (length-map c.args.entries.now entry_is)) in
     let at = ap (λ y. ending f.layout y es ++ codes "</svg>\n") (sym line) in
     record {
-      written = breaks_off _ _ _ _ _ _ (codes "</svg>\n") c.from_residual.result _ c.from_residual.ensures.1 (starts _ _ c.requires.counted) at
+      written = breaks_off _ _ _ _ _ _ (codes "</svg>\n") c.from_residual.result _ c.from_residual.ensures.1 (starts _ _) at
           c.in_err-write_ending.ensures.written;
     }
 
@@ -23,5 +23,5 @@ returns g c =
     let f = frame_is c.args.frame.now in
     let line = c.foot_line.ensures.line ∙ ap (foot_line f) (sym (length-map c.args.entries.now entry_is)) in
     let at = ap (λ y. ending f.layout y es ++ codes "</svg>\n") (sym line) in
-    let after_1 = goes_on _ _ _ _ _ _ (codes "</svg>\n") (starts _ _ c.requires.counted) at c.in_ok-write_ending.ensures.written in
+    let after_1 = goes_on _ _ _ _ _ _ (codes "</svg>\n") (starts _ _) at c.in_ok-write_ending.ensures.written in
     record { written = closes _ _ _ _ _ c.write_all.result after_1 c.write_all.ensures.written }

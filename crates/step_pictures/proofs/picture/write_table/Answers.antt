@@ -13,7 +13,7 @@ returns-in_err-write_columns g c =
     let behind = columns_from f 96 (last_number es) (last_drawn es) in
     let at = ap (λ xs. columns_from f 0 1 xs ++ behind) (sym c.first_drawn.ensures.first) in
     record {
-      written = breaks_off _ _ _ _ _ _ behind c.from_residual.result _ c.from_residual.ensures.1 (starts _ _ c.requires.counted) at
+      written = breaks_off _ _ _ _ _ _ behind c.from_residual.result _ c.from_residual.ensures.1 (starts _ _) at
           c.in_err-write_columns.ensures.written;
     }
 
@@ -27,5 +27,5 @@ returns g c =
     λ i. columns_from f 0 1 (sym c.first_drawn.ensures.first i)
     ++ columns_from f 96 (sym c.last_number.ensures i) (sym c.last_drawn.ensures.last i) in
     let after_1 = goes_on _ _ _ _ _ _ (columns_from f 96 c.last_number.result (map entry_is c.last_drawn.result.now))
-    (starts _ _ c.requires.counted) at c.in_ok-write_columns.ensures.written in
+    (starts _ _) at c.in_ok-write_columns.ensures.written in
     record { written = closes _ _ _ _ _ c.write_columns-2.result after_1 c.write_columns-2.ensures.written }

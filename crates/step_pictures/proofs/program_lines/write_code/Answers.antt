@@ -8,7 +8,7 @@ returns-in_err-write_upright g c =
     let behind = more_code (c.args.x + 38) c.args.y (next_row c.args.bytes.now) in
     let at = ap (λ b. upright (c.args.x + 24) c.args.y b ++ behind) (sym c.first_row.ensures) in
     record {
-      written = breaks_off _ _ _ _ _ _ behind c.from_residual.result _ c.from_residual.ensures.1 (starts _ _ c.requires.counted) at
+      written = breaks_off _ _ _ _ _ _ behind c.from_residual.result _ c.from_residual.ensures.1 (starts _ _) at
           c.in_err-write_upright.ensures.written;
     }
 
@@ -16,6 +16,6 @@ pub returns : goal.returns
 returns g c =
     let at : upright (c.args.x + 24) c.args.y (first_row c.args.bytes.now) ++ more_code (c.args.x + 38) c.args.y (next_row c.args.bytes.now)
     ≡ upright (c.args.x + 24) c.args.y c.first_row.result.now ++ more_code (c.args.x + 38) c.args.y c.next_row.result.now = λ i. upright (c.args.x + 24) c.args.y (sym c.first_row.ensures i) ++ more_code (c.args.x + 38) c.args.y (sym c.next_row.ensures i) in
-    let after_1 = goes_on _ _ _ _ _ _ (more_code (c.args.x + 38) c.args.y c.next_row.result.now) (starts _ _ c.requires.counted) at
+    let after_1 = goes_on _ _ _ _ _ _ (more_code (c.args.x + 38) c.args.y c.next_row.result.now) (starts _ _) at
     c.in_ok-write_upright.ensures.written in
     record { written = closes _ _ _ _ _ c.write_more.result after_1 c.write_more.ensures.written }

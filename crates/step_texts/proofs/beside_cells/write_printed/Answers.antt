@@ -10,13 +10,13 @@ returns-in_err-write_all g c =
     let some : 0 < length c.args.printed.now = grind (arith, common_steps) in
     record {
       written = breaks_off _ _ _ _ _ (codes " prints") (spaced c.args.printed.now) c.from_residual.result _
-          c.from_residual.ensures.1 (starts _ _ c.requires.counted)
+          c.from_residual.ensures.1 (starts _ _)
           (some_printed c.args.printed.now some) c.in_err-write_all.ensures.written;
     }
 
 pub returns : goal.returns
 returns g c =
     let some : 0 < length c.args.printed.now = grind (arith, common_steps) in
-    let word = goes_on _ _ _ _ _ (codes " prints") (spaced c.args.printed.now) (starts _ _ c.requires.counted)
+    let word = goes_on _ _ _ _ _ (codes " prints") (spaced c.args.printed.now) (starts _ _)
     (some_printed c.args.printed.now some) c.in_ok-write_all.ensures.written in
     record { written = closes _ _ _ _ _ c.write_values.result word c.write_values.ensures.written }

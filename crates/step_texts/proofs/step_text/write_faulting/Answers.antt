@@ -15,7 +15,7 @@ returns-in_err-write_fault_text g c =
     let rest = column_text d.columns at ++ (meeting_text c.args.processors.now ++ own) in
     record {
       written = breaks_off _ _ _ _ _ (fault_text c.args.layout.now c.args.fault.now) rest c.from_residual.result _
-          c.from_residual.ensures.1 (starts _ _ c.requires.counted) refl c.in_err-write_fault_text.ensures.written;
+          c.from_residual.ensures.1 (starts _ _) refl c.in_err-write_fault_text.ensures.written;
     }
 
 pub returns-in_err-write_column : goal.returns-in_err-write_column
@@ -25,7 +25,7 @@ returns-in_err-write_column g c =
     let own = own_text d.locals at (map own_is c.args.locals.now) in
     let rest = column_text d.columns at ++ (meeting_text c.args.processors.now ++ own) in
     let fault = goes_on _ _ _ _ _ (fault_text c.args.layout.now c.args.fault.now) rest
-    (starts _ _ c.requires.counted) refl c.in_ok-write_fault_text.ensures.written in
+    (starts _ _) refl c.in_ok-write_fault_text.ensures.written in
     record {
       written = breaks_off _ _ _ _ _ (column_text d.columns at) (meeting_text c.args.processors.now ++ own)
           c.from_residual-in_err-write_column.result _ c.from_residual-in_err-write_column.ensures.1 fault refl
@@ -39,7 +39,7 @@ returns-in_err-write_meeting g c =
     let own = own_text d.locals at (map own_is c.args.locals.now) in
     let rest = column_text d.columns at ++ (meeting_text c.args.processors.now ++ own) in
     let fault = goes_on _ _ _ _ _ (fault_text c.args.layout.now c.args.fault.now) rest
-    (starts _ _ c.requires.counted) refl c.in_ok-write_fault_text.ensures.written in
+    (starts _ _) refl c.in_ok-write_fault_text.ensures.written in
     let column = goes_on _ _ _ _ _ (column_text d.columns at) (meeting_text c.args.processors.now ++ own) fault refl
     c.in_ok-write_column.ensures.written in
     record {
@@ -54,7 +54,7 @@ returns g c =
     let own = own_text d.locals at (map own_is c.args.locals.now) in
     let rest = column_text d.columns at ++ (meeting_text c.args.processors.now ++ own) in
     let fault = goes_on _ _ _ _ _ (fault_text c.args.layout.now c.args.fault.now) rest
-    (starts _ _ c.requires.counted) refl c.in_ok-write_fault_text.ensures.written in
+    (starts _ _) refl c.in_ok-write_fault_text.ensures.written in
     let column = goes_on _ _ _ _ _ (column_text d.columns at) (meeting_text c.args.processors.now ++ own) fault refl
     c.in_ok-write_column.ensures.written in
     let met = goes_on _ _ _ _ _ (meeting_text c.args.processors.now) own column refl c.in_ok-write_meeting.ensures.written in

@@ -10,12 +10,12 @@ returns-in_err-write_all g c =
     let some : 0 < length c.args.processors.now = grind (arith, common_steps) in
     record {
       written = breaks_off _ _ _ _ _ (codes " processors") (spaced c.args.processors.now) c.from_residual.result _
-          c.from_residual.ensures.1 (starts _ _ c.requires.counted) (some_met c.args.processors.now some) c.in_err-write_all.ensures.written;
+          c.from_residual.ensures.1 (starts _ _) (some_met c.args.processors.now some) c.in_err-write_all.ensures.written;
     }
 
 pub returns : goal.returns
 returns g c =
     let some : 0 < length c.args.processors.now = grind (arith, common_steps) in
-    let word = goes_on _ _ _ _ _ (codes " processors") (spaced c.args.processors.now) (starts _ _ c.requires.counted)
+    let word = goes_on _ _ _ _ _ (codes " processors") (spaced c.args.processors.now) (starts _ _)
     (some_met c.args.processors.now some) c.in_ok-write_all.ensures.written in
     record { written = closes _ _ _ _ _ c.write_values.result word c.write_values.ensures.written }

@@ -11,7 +11,7 @@ returns-in_err-write_ran g c =
     let rest = beside_text c.args.detail.now.locals r.location.offset r.variables.now r.locals.now r.printed.now in
     record {
       written = breaks_off _ _ _ _ _ text rest c.from_residual.result _ c.from_residual.ensures.1
-          (starts _ _ c.requires.counted) refl c.in_err-write_ran.ensures.written;
+          (starts _ _) refl c.in_err-write_ran.ensures.written;
     }
 
 pub returns : goal.returns
@@ -19,5 +19,5 @@ returns g c =
     let r = c.args.ran.now in
     let text = ran_text c.args.layout.now c.args.colours c.args.detail.now.columns r.location r.processors r.cells.now in
     let rest = beside_text c.args.detail.now.locals r.location.offset r.variables.now r.locals.now r.printed.now in
-    let cells = goes_on _ _ _ _ _ text rest (starts _ _ c.requires.counted) refl c.in_ok-write_ran.ensures.written in
+    let cells = goes_on _ _ _ _ _ text rest (starts _ _) refl c.in_ok-write_ran.ensures.written in
     record { written = closes _ _ _ _ _ c.write_beside_cells.result cells c.write_beside_cells.ensures.written }

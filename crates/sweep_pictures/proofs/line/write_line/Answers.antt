@@ -10,8 +10,7 @@ returns-in_err-write_all g c =
     let part2 = points c.args.frame c.args.rows.now in
     let part3 = codes "'/>\n" in
     record {
-      written = breaks_off _ _ _ _ _ part1 (part2 ++ part3) c.from_residual.result _ c.from_residual.ensures.1 (starts _ _
-          c.requires.counted) refl c.in_err-write_all.ensures.written;
+      written = breaks_off _ _ _ _ _ part1 (part2 ++ part3) c.from_residual.result _ c.from_residual.ensures.1 (starts _ _) refl c.in_err-write_all.ensures.written;
     }
 
 pub returns-in_err-write_points : goal.returns-in_err-write_points
@@ -19,7 +18,7 @@ returns-in_err-write_points g c =
     let part1 = codes "<polyline fill='none' stroke='#000000' points='" in
     let part2 = points c.args.frame c.args.rows.now in
     let part3 = codes "'/>\n" in
-    let after1 = goes_on _ _ _ _ _ part1 (part2 ++ part3) (starts _ _ c.requires.counted) refl c.in_ok-write_all.ensures.written in
+    let after1 = goes_on _ _ _ _ _ part1 (part2 ++ part3) (starts _ _) refl c.in_ok-write_all.ensures.written in
     record {
       written = breaks_off _ _ _ _ _ part2 part3 c.from_residual-in_err-write_points.result _
           c.from_residual-in_err-write_points.ensures.1 after1 refl c.in_err-write_points.ensures.written;
@@ -30,7 +29,7 @@ returns g c =
     let part1 = codes "<polyline fill='none' stroke='#000000' points='" in
     let part2 = points c.args.frame c.args.rows.now in
     let part3 = codes "'/>\n" in
-    let after1 = goes_on _ _ _ _ _ part1 (part2 ++ part3) (starts _ _ c.requires.counted) refl c.in_ok-write_all.ensures.written in
+    let after1 = goes_on _ _ _ _ _ part1 (part2 ++ part3) (starts _ _) refl c.in_ok-write_all.ensures.written in
     let after2 = goes_on _ _ _ _ _ part2 part3 after1 refl c.in_ok-write_points.ensures.written in
     record {
       written = closes _ _ _ _ _ c.write_all-2.result after2 c.write_all-2.ensures.written;

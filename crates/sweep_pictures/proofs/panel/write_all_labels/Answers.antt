@@ -9,7 +9,7 @@ returns-in_err-write_labels g c =
     let part1 = labels Sizes c.args.frame 0 c.args.rows.now in
     let part2 = labels Numbers c.args.frame 0 c.args.rows.now in
     record {
-      written = breaks_off _ _ _ _ _ part1 part2 c.from_residual.result _ c.from_residual.ensures.1 (starts _ _ c.requires.counted) refl
+      written = breaks_off _ _ _ _ _ part1 part2 c.from_residual.result _ c.from_residual.ensures.1 (starts _ _) refl
           c.in_err-write_labels.ensures.written;
     }
 
@@ -17,7 +17,7 @@ pub returns : goal.returns
 returns g c =
     let part1 = labels Sizes c.args.frame 0 c.args.rows.now in
     let part2 = labels Numbers c.args.frame 0 c.args.rows.now in
-    let after1 = goes_on _ _ _ _ _ part1 part2 (starts _ _ c.requires.counted) refl c.in_ok-write_labels.ensures.written in
+    let after1 = goes_on _ _ _ _ _ part1 part2 (starts _ _) refl c.in_ok-write_labels.ensures.written in
     record {
       written = closes _ _ _ _ _ c.write_labels-2.result after1 c.write_labels-2.ensures.written;
     }

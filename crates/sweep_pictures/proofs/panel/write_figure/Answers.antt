@@ -10,8 +10,7 @@ returns-in_err-write_line g c =
     let part2 = marks c.args.name.now c.args.frame c.args.rows.now in
     let part3 = all_labels c.args.frame c.args.rows.now in
     record {
-      written = breaks_off _ _ _ _ _ part1 (part2 ++ part3) c.from_residual.result _ c.from_residual.ensures.1 (starts _ _
-          c.requires.counted) refl c.in_err-write_line.ensures.written;
+      written = breaks_off _ _ _ _ _ part1 (part2 ++ part3) c.from_residual.result _ c.from_residual.ensures.1 (starts _ _) refl c.in_err-write_line.ensures.written;
     }
 
 pub returns-in_err-write_marks : goal.returns-in_err-write_marks
@@ -19,7 +18,7 @@ returns-in_err-write_marks g c =
     let part1 = line_text c.args.frame c.args.rows.now in
     let part2 = marks c.args.name.now c.args.frame c.args.rows.now in
     let part3 = all_labels c.args.frame c.args.rows.now in
-    let after1 = goes_on _ _ _ _ _ part1 (part2 ++ part3) (starts _ _ c.requires.counted) refl c.in_ok-write_line.ensures.written in
+    let after1 = goes_on _ _ _ _ _ part1 (part2 ++ part3) (starts _ _) refl c.in_ok-write_line.ensures.written in
     record {
       written = breaks_off _ _ _ _ _ part2 part3 c.from_residual-in_err-write_marks.result _ c.from_residual-in_err-write_marks.ensures.1
           after1 refl c.in_err-write_marks.ensures.written;
@@ -30,7 +29,7 @@ returns g c =
     let part1 = line_text c.args.frame c.args.rows.now in
     let part2 = marks c.args.name.now c.args.frame c.args.rows.now in
     let part3 = all_labels c.args.frame c.args.rows.now in
-    let after1 = goes_on _ _ _ _ _ part1 (part2 ++ part3) (starts _ _ c.requires.counted) refl c.in_ok-write_line.ensures.written in
+    let after1 = goes_on _ _ _ _ _ part1 (part2 ++ part3) (starts _ _) refl c.in_ok-write_line.ensures.written in
     let after2 = goes_on _ _ _ _ _ part2 part3 after1 refl c.in_ok-write_marks.ensures.written in
     record {
       written = closes _ _ _ _ _ c.write_all_labels.result after2 c.write_all_labels.ensures.written;

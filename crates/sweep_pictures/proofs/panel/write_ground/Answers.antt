@@ -9,8 +9,7 @@ returns-in_err-write_ticks g c =
     let part2 = axes c.args.frame in
     let part3 = name_text c.args.name.now c.args.frame in
     record {
-      written = breaks_off _ _ _ _ _ part1 (part2 ++ part3) c.from_residual.result _ c.from_residual.ensures.1 (starts _ _
-          c.requires.counted) refl c.in_err-write_ticks.ensures.written;
+      written = breaks_off _ _ _ _ _ part1 (part2 ++ part3) c.from_residual.result _ c.from_residual.ensures.1 (starts _ _) refl c.in_err-write_ticks.ensures.written;
     }
 
 pub returns-in_err-write_axes : goal.returns-in_err-write_axes
@@ -18,7 +17,7 @@ returns-in_err-write_axes g c =
     let part1 = ticks c.args.frame in
     let part2 = axes c.args.frame in
     let part3 = name_text c.args.name.now c.args.frame in
-    let after1 = goes_on _ _ _ _ _ part1 (part2 ++ part3) (starts _ _ c.requires.counted) refl c.in_ok-write_ticks.ensures.written in
+    let after1 = goes_on _ _ _ _ _ part1 (part2 ++ part3) (starts _ _) refl c.in_ok-write_ticks.ensures.written in
     record {
       written = breaks_off _ _ _ _ _ part2 part3 c.from_residual-in_err-write_axes.result _ c.from_residual-in_err-write_axes.ensures.1
           after1 refl c.in_err-write_axes.ensures.written;
@@ -29,7 +28,7 @@ returns g c =
     let part1 = ticks c.args.frame in
     let part2 = axes c.args.frame in
     let part3 = name_text c.args.name.now c.args.frame in
-    let after1 = goes_on _ _ _ _ _ part1 (part2 ++ part3) (starts _ _ c.requires.counted) refl c.in_ok-write_ticks.ensures.written in
+    let after1 = goes_on _ _ _ _ _ part1 (part2 ++ part3) (starts _ _) refl c.in_ok-write_ticks.ensures.written in
     let after2 = goes_on _ _ _ _ _ part2 part3 after1 refl c.in_ok-write_axes.ensures.written in
     record {
       written = closes _ _ _ _ _ c.write_name.result after2 c.write_name.ensures.written;

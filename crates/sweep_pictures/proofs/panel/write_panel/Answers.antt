@@ -8,7 +8,7 @@ returns-in_err-write_ground g c =
     let part1 = ground c.args.name.now c.args.frame in
     let part2 = figure c.args.name.now c.args.frame c.args.rows.now in
     record {
-      written = breaks_off _ _ _ _ _ part1 part2 c.from_residual.result _ c.from_residual.ensures.1 (starts _ _ c.requires.counted) refl
+      written = breaks_off _ _ _ _ _ part1 part2 c.from_residual.result _ c.from_residual.ensures.1 (starts _ _) refl
           c.in_err-write_ground.ensures.written;
     }
 
@@ -16,7 +16,7 @@ pub returns : goal.returns
 returns g c =
     let part1 = ground c.args.name.now c.args.frame in
     let part2 = figure c.args.name.now c.args.frame c.args.rows.now in
-    let after1 = goes_on _ _ _ _ _ part1 part2 (starts _ _ c.requires.counted) refl c.in_ok-write_ground.ensures.written in
+    let after1 = goes_on _ _ _ _ _ part1 part2 (starts _ _) refl c.in_ok-write_ground.ensures.written in
     record {
       written = closes _ _ _ _ _ c.write_figure.result after1 c.write_figure.ensures.written;
     }

@@ -11,8 +11,7 @@ returns-in_err-write_measured g c =
     let part2 = panel c.args.name.now (frame_of Work 450 c.args.rows.now) c.args.rows.now in
     let part3 = codes "</svg>\n" in
     record {
-      written = breaks_off _ _ _ _ _ part1 (part2 ++ part3) c.from_residual.result _ c.from_residual.ensures.1 (starts _ _
-          c.requires.counted) refl c.in_err-write_measured.ensures.written;
+      written = breaks_off _ _ _ _ _ part1 (part2 ++ part3) c.from_residual.result _ c.from_residual.ensures.1 (starts _ _) refl c.in_err-write_measured.ensures.written;
     }
 
 pub returns-in_err-write_measured-2 : goal.returns-in_err-write_measured-2
@@ -20,7 +19,7 @@ returns-in_err-write_measured-2 g c =
     let part1 = panel c.args.name.now (frame_of Time 220 c.args.rows.now) c.args.rows.now in
     let part2 = panel c.args.name.now (frame_of Work 450 c.args.rows.now) c.args.rows.now in
     let part3 = codes "</svg>\n" in
-    let after1 = goes_on _ _ _ _ _ part1 (part2 ++ part3) (starts _ _ c.requires.counted) refl c.in_ok-write_measured.ensures.written in
+    let after1 = goes_on _ _ _ _ _ part1 (part2 ++ part3) (starts _ _) refl c.in_ok-write_measured.ensures.written in
     record {
       written = breaks_off _ _ _ _ _ part2 part3 c.from_residual-in_err-write_measured-2.result _
           c.from_residual-in_err-write_measured-2.ensures.1 after1 refl c.in_err-write_measured-2.ensures.written;
@@ -31,7 +30,7 @@ returns g c =
     let part1 = panel c.args.name.now (frame_of Time 220 c.args.rows.now) c.args.rows.now in
     let part2 = panel c.args.name.now (frame_of Work 450 c.args.rows.now) c.args.rows.now in
     let part3 = codes "</svg>\n" in
-    let after1 = goes_on _ _ _ _ _ part1 (part2 ++ part3) (starts _ _ c.requires.counted) refl c.in_ok-write_measured.ensures.written in
+    let after1 = goes_on _ _ _ _ _ part1 (part2 ++ part3) (starts _ _) refl c.in_ok-write_measured.ensures.written in
     let after2 = goes_on _ _ _ _ _ part2 part3 after1 refl c.in_ok-write_measured-2.ensures.written in
     record {
       written = closes _ _ _ _ _ c.write_all.result after2 c.write_all.ensures.written;

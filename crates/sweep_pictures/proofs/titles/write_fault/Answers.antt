@@ -10,7 +10,7 @@ returns-in_err-write_number g c =
     let part1 = number_text c.args.measure c.args.counts.now (codes " ") in
     let part2 = letters c.args.fault.now in
     record {
-      written = breaks_off _ _ _ _ _ part1 part2 c.from_residual.result _ c.from_residual.ensures.1 (starts _ _ c.requires.counted) refl
+      written = breaks_off _ _ _ _ _ part1 part2 c.from_residual.result _ c.from_residual.ensures.1 (starts _ _) refl
           c.in_err-write_number.ensures.written;
     }
 
@@ -18,7 +18,7 @@ pub returns : goal.returns
 returns g c =
     let part1 = number_text c.args.measure c.args.counts.now (codes " ") in
     let part2 = letters c.args.fault.now in
-    let after1 = goes_on _ _ _ _ _ part1 part2 (starts _ _ c.requires.counted) refl c.in_ok-write_number.ensures.written in
+    let after1 = goes_on _ _ _ _ _ part1 part2 (starts _ _) refl c.in_ok-write_number.ensures.written in
     record {
       written = closes _ _ _ _ _ c.write_letters.result after1 c.write_letters.ensures.written;
     }

@@ -8,7 +8,7 @@ returns-in_err-write_size g c =
     let part1 = size_text c.args.row.now.size in
     let part2 = ending_text c.args.measure c.args.row.now.ending in
     record {
-      written = breaks_off _ _ _ _ _ part1 part2 c.from_residual.result _ c.from_residual.ensures.1 (starts _ _ c.requires.counted) refl
+      written = breaks_off _ _ _ _ _ part1 part2 c.from_residual.result _ c.from_residual.ensures.1 (starts _ _) refl
           c.in_err-write_size.ensures.written;
     }
 
@@ -16,7 +16,7 @@ pub returns : goal.returns
 returns g c =
     let part1 = size_text c.args.row.now.size in
     let part2 = ending_text c.args.measure c.args.row.now.ending in
-    let after1 = goes_on _ _ _ _ _ part1 part2 (starts _ _ c.requires.counted) refl c.in_ok-write_size.ensures.written in
+    let after1 = goes_on _ _ _ _ _ part1 part2 (starts _ _) refl c.in_ok-write_size.ensures.written in
     record {
       written = closes _ _ _ _ _ c.write_ending.result after1 c.write_ending.ensures.written;
     }

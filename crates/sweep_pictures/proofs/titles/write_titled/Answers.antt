@@ -10,8 +10,7 @@ returns-in_err-write_all g c =
     let part2 = title_text c.args.name.now c.args.measure c.args.row.now in
     let part3 = codes "</title>" in
     record {
-      written = breaks_off _ _ _ _ _ part1 (part2 ++ part3) c.from_residual.result _ c.from_residual.ensures.1 (starts _ _
-          c.requires.counted) refl c.in_err-write_all.ensures.written;
+      written = breaks_off _ _ _ _ _ part1 (part2 ++ part3) c.from_residual.result _ c.from_residual.ensures.1 (starts _ _) refl c.in_err-write_all.ensures.written;
     }
 
 pub returns-in_err-write_title : goal.returns-in_err-write_title
@@ -19,7 +18,7 @@ returns-in_err-write_title g c =
     let part1 = codes "<g><title>" in
     let part2 = title_text c.args.name.now c.args.measure c.args.row.now in
     let part3 = codes "</title>" in
-    let after1 = goes_on _ _ _ _ _ part1 (part2 ++ part3) (starts _ _ c.requires.counted) refl c.in_ok-write_all.ensures.written in
+    let after1 = goes_on _ _ _ _ _ part1 (part2 ++ part3) (starts _ _) refl c.in_ok-write_all.ensures.written in
     record {
       written = breaks_off _ _ _ _ _ part2 part3 c.from_residual-in_err-write_title.result _ c.from_residual-in_err-write_title.ensures.1
           after1 refl c.in_err-write_title.ensures.written;
@@ -30,7 +29,7 @@ returns g c =
     let part1 = codes "<g><title>" in
     let part2 = title_text c.args.name.now c.args.measure c.args.row.now in
     let part3 = codes "</title>" in
-    let after1 = goes_on _ _ _ _ _ part1 (part2 ++ part3) (starts _ _ c.requires.counted) refl c.in_ok-write_all.ensures.written in
+    let after1 = goes_on _ _ _ _ _ part1 (part2 ++ part3) (starts _ _) refl c.in_ok-write_all.ensures.written in
     let after2 = goes_on _ _ _ _ _ part2 part3 after1 refl c.in_ok-write_title.ensures.written in
     record {
       written = closes _ _ _ _ _ c.write_all-2.result after2 c.write_all-2.ensures.written;

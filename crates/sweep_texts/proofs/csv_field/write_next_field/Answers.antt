@@ -9,7 +9,7 @@ returns-in_err-write_all g c =
     let front = codes "," in
     let rest = field_text c.args.field.now in
     record {
-      written = breaks_off _ _ _ _ _ front rest c.from_residual.result _ c.from_residual.ensures.1 (starts _ _ c.requires.counted) refl
+      written = breaks_off _ _ _ _ _ front rest c.from_residual.result _ c.from_residual.ensures.1 (starts _ _) refl
           c.in_err-write_all.ensures.written;
     }
 
@@ -19,6 +19,6 @@ returns g c =
     let rest = field_text c.args.field.now in
     record {
       written = closes _ _ _ _ _ c.write_field.result
-          (goes_on _ _ _ _ _ front rest (starts _ _ c.requires.counted) refl c.in_ok-write_all.ensures.written)
+          (goes_on _ _ _ _ _ front rest (starts _ _) refl c.in_ok-write_all.ensures.written)
           c.write_field.ensures.written;
     }

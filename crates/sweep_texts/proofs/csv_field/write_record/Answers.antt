@@ -9,7 +9,7 @@ returns-in_err-write_field g c =
     let front = field_text c.args.first.now in
     let rest = next_fields (map (λ f. f.now) c.args.more.now) in
     record {
-      written = breaks_off _ _ _ _ _ front rest c.from_residual.result _ c.from_residual.ensures.1 (starts _ _ c.requires.counted) refl
+      written = breaks_off _ _ _ _ _ front rest c.from_residual.result _ c.from_residual.ensures.1 (starts _ _) refl
           c.in_err-write_field.ensures.written;
     }
 
@@ -19,6 +19,6 @@ returns g c =
     let rest = next_fields (map (λ f. f.now) c.args.more.now) in
     record {
       written = closes _ _ _ _ _ c.write_next_fields.result
-          (goes_on _ _ _ _ _ front rest (starts _ _ c.requires.counted) refl c.in_ok-write_field.ensures.written)
+          (goes_on _ _ _ _ _ front rest (starts _ _) refl c.in_ok-write_field.ensures.written)
           c.write_next_fields.ensures.written;
     }

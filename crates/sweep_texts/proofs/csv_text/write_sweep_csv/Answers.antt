@@ -9,7 +9,7 @@ returns-in_err-write_names g c =
     let front = record_text (c.args.name.now ∷ column_names) in
     let rest = records_text (map row_fields c.args.rows.now) in
     record {
-      written = breaks_off _ _ _ _ _ front rest c.from_residual.result _ c.from_residual.ensures.1 (starts _ _ c.requires.counted) refl
+      written = breaks_off _ _ _ _ _ front rest c.from_residual.result _ c.from_residual.ensures.1 (starts _ _) refl
           c.in_err-write_names.ensures.written;
     }
 
@@ -19,6 +19,6 @@ returns g c =
     let rest = records_text (map row_fields c.args.rows.now) in
     record {
       written = closes _ _ _ _ _ c.write_rows.result
-          (goes_on _ _ _ _ _ front rest (starts _ _ c.requires.counted) refl c.in_ok-write_names.ensures.written)
+          (goes_on _ _ _ _ _ front rest (starts _ _) refl c.in_ok-write_names.ensures.written)
           c.write_rows.ensures.written;
     }

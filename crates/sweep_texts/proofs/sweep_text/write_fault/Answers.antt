@@ -8,7 +8,7 @@ returns-in_err-write_counts g c =
     let front = counts_text c.args.counts.now in
     let rest = refusal_text c.args.fault.now in
     record {
-      written = breaks_off _ _ _ _ _ front rest c.from_residual.result _ c.from_residual.ensures.1 (starts _ _ c.requires.counted) refl
+      written = breaks_off _ _ _ _ _ front rest c.from_residual.result _ c.from_residual.ensures.1 (starts _ _) refl
           c.in_err-write_counts.ensures.written;
     }
 
@@ -18,6 +18,6 @@ returns g c =
     let rest = refusal_text c.args.fault.now in
     record {
       written = closes _ _ _ _ _ c.write_refusal.result
-          (goes_on _ _ _ _ _ front rest (starts _ _ c.requires.counted) refl c.in_ok-write_counts.ensures.written)
+          (goes_on _ _ _ _ _ front rest (starts _ _) refl c.in_ok-write_counts.ensures.written)
           c.write_refusal.ensures.written;
     }

@@ -8,7 +8,7 @@ returns-in_err-write_size g c =
     let front = size_text c.args.name.now c.args.row.now.size in
     let rest = ending_text c.args.row.now.ending in
     record {
-      written = breaks_off _ _ _ _ _ front rest c.from_residual.result _ c.from_residual.ensures.1 (starts _ _ c.requires.counted) refl
+      written = breaks_off _ _ _ _ _ front rest c.from_residual.result _ c.from_residual.ensures.1 (starts _ _) refl
           c.in_err-write_size.ensures.written;
     }
 
@@ -18,6 +18,6 @@ returns g c =
     let rest = ending_text c.args.row.now.ending in
     record {
       written = closes _ _ _ _ _ c.write_ending.result
-          (goes_on _ _ _ _ _ front rest (starts _ _ c.requires.counted) refl c.in_ok-write_size.ensures.written)
+          (goes_on _ _ _ _ _ front rest (starts _ _) refl c.in_ok-write_size.ensures.written)
           c.write_ending.ensures.written;
     }

@@ -8,7 +8,7 @@ returns-in_err-write_rows g c =
     let front = rows_text c.args.name.now c.args.rows.now in
     let rest = growths_text c.args.name.now c.args.growths.now in
     record {
-      written = breaks_off _ _ _ _ _ front rest c.from_residual.result _ c.from_residual.ensures.1 (starts _ _ c.requires.counted) refl
+      written = breaks_off _ _ _ _ _ front rest c.from_residual.result _ c.from_residual.ensures.1 (starts _ _) refl
           c.in_err-write_rows.ensures.written;
     }
 
@@ -18,6 +18,6 @@ returns g c =
     let rest = growths_text c.args.name.now c.args.growths.now in
     record {
       written = closes _ _ _ _ _ c.write_growths.result
-          (goes_on _ _ _ _ _ front rest (starts _ _ c.requires.counted) refl c.in_ok-write_rows.ensures.written)
+          (goes_on _ _ _ _ _ front rest (starts _ _) refl c.in_ok-write_rows.ensures.written)
           c.write_growths.ensures.written;
     }

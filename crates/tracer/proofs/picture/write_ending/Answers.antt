@@ -8,14 +8,14 @@ returns-in_err-write_scale g c =
     let part1 = scale c.args.width c.args.most in
     let part2 = outcome_text c.args.outcome.now in
     record {
-      written = breaks_off _ _ _ _ _ part1 part2 c.from_residual.result _ c.from_residual.ensures.1 (starts _ _ c.requires.counted) refl c.in_err-write_scale.ensures.written;
+      written = breaks_off _ _ _ _ _ part1 part2 c.from_residual.result _ c.from_residual.ensures.1 (starts _ _) refl c.in_err-write_scale.ensures.written;
     }
 
 pub returns : goal.returns
 returns g c =
     let part1 = scale c.args.width c.args.most in
     let part2 = outcome_text c.args.outcome.now in
-    let after1 = goes_on _ _ _ _ _ part1 part2 (starts _ _ c.requires.counted) refl c.in_ok-write_scale.ensures.written in
+    let after1 = goes_on _ _ _ _ _ part1 part2 (starts _ _) refl c.in_ok-write_scale.ensures.written in
     record {
       written = closes _ _ _ _ _ c.write_outcome.result after1 c.write_outcome.ensures.written;
     }

@@ -8,14 +8,14 @@ returns-in_err-write_head g c =
     let part1 = head_text c.args.workers c.args.exchanges in
     let part2 = key_text in
     record {
-      written = breaks_off _ _ _ _ _ part1 part2 c.from_residual.result _ c.from_residual.ensures.1 (starts _ _ c.requires.counted) refl c.in_err-write_head.ensures.written;
+      written = breaks_off _ _ _ _ _ part1 part2 c.from_residual.result _ c.from_residual.ensures.1 (starts _ _) refl c.in_err-write_head.ensures.written;
     }
 
 pub returns : goal.returns
 returns g c =
     let part1 = head_text c.args.workers c.args.exchanges in
     let part2 = key_text in
-    let after1 = goes_on _ _ _ _ _ part1 part2 (starts _ _ c.requires.counted) refl c.in_ok-write_head.ensures.written in
+    let after1 = goes_on _ _ _ _ _ part1 part2 (starts _ _) refl c.in_ok-write_head.ensures.written in
     record {
       written = closes _ _ _ _ _ c.write_key.result after1 c.write_key.ensures.written;
     }

@@ -10,8 +10,7 @@ returns-in_err-write_all g c =
     let part2 = letters c.args.word.now in
     let part3 = wanted_text c.args.given in
     record {
-      written = breaks_off _ _ _ _ _ part1 (part2 ++ part3) c.from_residual.result _ c.from_residual.ensures.1 (starts _ _
-          c.requires.counted) refl c.in_err-write_all.ensures.written;
+      written = breaks_off _ _ _ _ _ part1 (part2 ++ part3) c.from_residual.result _ c.from_residual.ensures.1 (starts _ _) refl c.in_err-write_all.ensures.written;
     }
 
 pub returns-in_err-write_letters : goal.returns-in_err-write_letters
@@ -19,7 +18,7 @@ returns-in_err-write_letters g c =
     let part1 = codes "invalid `" in
     let part2 = letters c.args.word.now in
     let part3 = wanted_text c.args.given in
-    let after1 = goes_on _ _ _ _ _ part1 (part2 ++ part3) (starts _ _ c.requires.counted) refl c.in_ok-write_all.ensures.written in
+    let after1 = goes_on _ _ _ _ _ part1 (part2 ++ part3) (starts _ _) refl c.in_ok-write_all.ensures.written in
     record {
       written = breaks_off _ _ _ _ _ part2 part3 c.from_residual-in_err-write_letters.result _
           c.from_residual-in_err-write_letters.ensures.1 after1 refl c.in_err-write_letters.ensures.written;
@@ -30,7 +29,7 @@ returns g c =
     let part1 = codes "invalid `" in
     let part2 = letters c.args.word.now in
     let part3 = wanted_text c.args.given in
-    let after1 = goes_on _ _ _ _ _ part1 (part2 ++ part3) (starts _ _ c.requires.counted) refl c.in_ok-write_all.ensures.written in
+    let after1 = goes_on _ _ _ _ _ part1 (part2 ++ part3) (starts _ _) refl c.in_ok-write_all.ensures.written in
     let after2 = goes_on _ _ _ _ _ part2 part3 after1 refl c.in_ok-write_letters.ensures.written in
     record {
       written = closes _ _ _ _ _ c.write_wanted.result after2 c.write_wanted.ensures.written;

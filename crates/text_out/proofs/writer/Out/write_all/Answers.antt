@@ -2,10 +2,7 @@ use Rattle.text_out.proofs.Progress.{fails, starts, takes}
 use Rattle.text_out.proofs.writer.Out.write_all.Goals as goal
 
 pub loop-rest-init : goal.loop-rest-init
-loop-rest-init g c = starts _ _ c.requires.counted
-
-pub write-requires : goal.write-requires
-write-requires g c = record { counted = c.loop-rest.invariant.counted }
+loop-rest-init g c = starts _ _
 
 pub loop-rest-preserved : goal.loop-rest-preserved
 loop-rest-preserved g c =
