@@ -11,7 +11,7 @@ import sys
 from pathlib import Path
 
 CRATE = Path(__file__).resolve().parent.parent / "crates" / "mpi_export"
-MOST_LINES = 1000
+MOST_LINES = 1010
 FILES = {
     "state_text": ("what a rank has", ["head", "state", "faults", "values"]),
     "exchange_text": ("what ranks exchange", ["exchange", "joins", "held", "sending", "module"]),

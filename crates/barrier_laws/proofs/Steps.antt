@@ -14,7 +14,8 @@ use Rattle.turnstile.specs.Loads.{ColumnPlaced, RowPlaced}
 use Rattle.turnstile.specs.Turns.{Sound, finished, message, phase, saw, slot, taken, weight}
 use Rattle.turnstile.proofs.Grids.{put_here}
 use Rattle.turnstile.proofs.Orders.{same_put, steps_keep_the_rule}
-use Rattle.barrier_laws.specs.Progress.{NeverSticks, NobodyIsTwoAhead, TellsSomething, crossings, maker}
+use Rattle.barrier_laws.specs.Progress.{HasWhatItTakes, NeverSticks, NobodyIsTwoAhead, TellsSomething, crossings, maker}
+use Rattle.barrier_laws.proofs.Hands.{AllTakenOut, all_taken_out, holds_all}
 
 -- ---- the fewest crossings
 
@@ -28,7 +29,8 @@ one_more : (f : ℕ → ℕ) (n : ℕ) → Least f n → Least f (suc n)
 one_more f n l = by (nat_le (f l.at) (f n)) refl
   where
     keeps : f l.at ≤ f n → (i : ℕ) → i < suc n → f l.at ≤ f i
-    keeps below i lt = dite (ℕ_discrete i n) (λ is. subst (λ k. f l.at ≤ f k) (sym is) below) (λ other. l.least i (omega (arith, lt, other)))
+    keeps below i lt = dite (ℕ_discrete i n) (λ is. subst (λ k. f l.at ≤ f k) (sym is) below)
+        (λ other. l.least i (omega (arith, lt, other)))
 
     moves : f n ≤ f l.at → (i : ℕ) → i < suc n → f n ≤ f i
     moves below i lt =
@@ -121,15 +123,16 @@ look_tells b c w i come within unseen =
     let new : after b c (look w i) ≡ seen_by b c w i =
     is_new b (nat_le (phase (c.team w)) (get_or c.words i 0)) (saw (c.team w) i) (seen_by b c w i) c
     (le-leb (phase (c.team w)) (get_or c.words i 0) come) unseen in
-    (unseen, ap (λ (k : Core). saw (k.team w) i) new ∙ ap (λ x. saw x i) (here c.team w _) ∙ get_or-set_same (c.team w).seen i true false within)
+    (unseen, ap (λ (k : Core). saw (k.team w) i) new ∙ ap (λ x. saw x i) (here c.team w _)
+        ∙ get_or-set_same (c.team w).seen i true false within)
 
 -- ---- the laws
 
 -- a worker with the fewest crossings has a step that tells something
-step_of : (b : TwoBlocks) (c : Core) (s v : ℕ) → Sound b b.side c.words c.homes c.team → v < b.side → crossings c v < s →
-    ((i : ℕ) → i < b.side → crossings c v ≤ crossings c i) →
-    (e : Event) × May b c e × (crossings c (maker e) < s) × TellsSomething b c e
-step_of b c s v sound lv less fewest = by (seen_or_not (c.team v) b.side)
+step_of : (b : TwoBlocks) (c : Core) (s v : ℕ) → Sound b b.side c.words c.homes c.team → AllTakenOut b c → v < b.side →
+    crossings c v < s → ((i : ℕ) → i < b.side → crossings c v ≤ crossings c i) →
+    (e : Event) × May b c e × HasWhatItTakes b c e × (crossings c (maker e) < s) × TellsSomething b c e
+step_of b c s v sound out lv less fewest = by (seen_or_not (c.team v) b.side)
   where
     round : ℕ
     round = phase (c.team v) + 1
@@ -141,7 +144,7 @@ step_of b c s v sound lv less fewest = by (seen_or_not (c.team v) b.side)
     back = column_from b v (round + 1) 0 b.side
 
     by : ((i : ℕ) → i < b.side → saw (c.team v) i ≡ true) ⊎ ((i : ℕ) × (i < b.side) × (saw (c.team v) i ≡ false)) →
-        (e : Event) × May b c e × (crossings c (maker e) < s) × TellsSomething b c e
+        (e : Event) × May b c e × HasWhatItTakes b c e × (crossings c (maker e) < s) × TellsSomething b c e
     by (inl all) = (
       finish v row back,
       (
@@ -152,6 +155,7 @@ step_of b c s v sound lv less fewest = by (seen_or_not (c.team v) b.side)
         row_placed b v round 0 b.side,
         column_placed b v (round + 1) 0 b.side,
       ),
+      holds_all b c v row back out lv (row_long b v round 0 b.side) all,
       less,
       finish_tells b c v row back,
     )
@@ -159,14 +163,15 @@ step_of b c s v sound lv less fewest = by (seen_or_not (c.team v) b.side)
         let come : phase (c.team v) ≤ get_or c.words i 0 =
         subst (λ k. crossings c v ≤ k) (sym (sound.counts i li)) (fewest i li) in
         let within : i < length (c.team v).seen = subst (λ k. i < k) (sym (sound.looks v lv)) li in
-        (look v i, (lv, li), less, look_tells b c v i come within unseen)
+        (look v i, (lv, li), tt, less, look_tells b c v i come within unseen)
 
 pub never_sticks : NeverSticks
 never_sticks b es s w is lw left =
     let some : 0 < b.side = omega (arith, lw) in
     let l = least_of (crossings (run b es)) b.side some in
     let fewest : crossings (run b es) l.at ≤ crossings (run b es) w = l.least w lw in
-    step_of b (run b es) s l.at (steps_keep_the_rule b es some is) l.within (omega (arith, fewest, left)) l.least
+    step_of b (run b es) s l.at (steps_keep_the_rule b es some is) (all_taken_out b es some is) l.within (omega
+        (arith, fewest, left)) l.least
 
 pub nobody_is_two_ahead : NobodyIsTwoAhead
 nobody_is_two_ahead b es w v is lw lv =

@@ -37,6 +37,7 @@ enum word {
  * arrays raise them: CELL_BITS to at most 31, and 2 to that power is at least the number of all cells. */
 #define CELL_BITS 20
 #define INPUT_BYTES 1048576
+_Static_assert(CELL_BITS >= 1 && CELL_BITS <= 31, "CELL_BITS is from 1 to 31");
 
 /* The plan. PROCS, the most processors of a range, and the bounds of arrays may be raised. The instructions are for the sizes
  * that the program was compiled for, and name entries, registers and each other by number: leave them as they are. */

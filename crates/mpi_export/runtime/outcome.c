@@ -4,7 +4,7 @@ static struct item {
     uint64_t count;
     int64_t value;
 } *items;
-static size_t printed, items_room;
+static size_t printed, written, items_room;
 
 static void print(int64_t value) {
     if (self != 0)
@@ -16,6 +16,13 @@ static void print(int64_t value) {
             stop("refused E16 OutOfMemory");
     }
     items[printed++] = (struct item){count, value};
+}
+
+/* Writes the items of all statements before that one. */
+static void write_items(uint64_t behind) {
+    for (; written < printed && items[written].count < behind; written++)
+        printf("%" PRId64 "\n", items[written].value);
+    fflush(stdout);
 }
 
 static uint64_t size_of(const struct entry *entry) { return (uint64_t)entry->high - (uint64_t)entry->low + 1; }
@@ -64,12 +71,11 @@ static void write_fault(void) {
     printf(" line %" PRIu64 "\n", of[key_line]);
 }
 
-/* Writes the outcome of this status; of a faulted run the items that were printed before. */
+/* Writes what is left of the outcome of this status; of a faulted run the items that were printed before. */
 static enum status told(enum status status) {
     if (is_silent)
         return status;
-    for (size_t i = 0; i < printed && (status != status_faulted || items[i].count < least.of[key_count]); i++)
-        printf("%" PRId64 "\n", items[i].value);
+    write_items(status == status_faulted ? least.of[key_count] : UINT64_MAX);
     if (self == 0 && status == status_faulted)
         write_fault();
     else if (self == 0)

@@ -1,13 +1,13 @@
 //! The text of the runtime: the outcome and the run. Written by `gate/mpi.py` from the files of `runtime/`.
 
 /// The outcome, and the close.
-pub(crate) const OUTCOME: [u8; 3329] = *b"
+pub(crate) const OUTCOME: [u8; 3525] = *b"
 /* ---- The outcome, which rank 0 writes */
 static struct item {
     uint64_t count;
     int64_t value;
 } *items;
-static size_t printed, items_room;
+static size_t printed, written, items_room;
 
 static void print(int64_t value) {
     if (self != 0)
@@ -19,6 +19,13 @@ static void print(int64_t value) {
             stop(\"refused E16 OutOfMemory\");
     }
     items[printed++] = (struct item){count, value};
+}
+
+/* Writes the items of all statements before that one. */
+static void write_items(uint64_t behind) {
+    for (; written < printed && items[written].count < behind; written++)
+        printf(\"%\" PRId64 \"\\n\", items[written].value);
+    fflush(stdout);
 }
 
 static uint64_t size_of(const struct entry *entry) { return (uint64_t)entry->high - (uint64_t)entry->low + 1; }
@@ -67,12 +74,11 @@ static void write_fault(void) {
     printf(\" line %\" PRIu64 \"\\n\", of[key_line]);
 }
 
-/* Writes the outcome of this status; of a faulted run the items that were printed before. */
+/* Writes what is left of the outcome of this status; of a faulted run the items that were printed before. */
 static enum status told(enum status status) {
     if (is_silent)
         return status;
-    for (size_t i = 0; i < printed && (status != status_faulted || items[i].count < least.of[key_count]); i++)
-        printf(\"%\" PRId64 \"\\n\", items[i].value);
+    write_items(status == status_faulted ? least.of[key_count] : UINT64_MAX);
     if (self == 0 && status == status_faulted)
         write_fault();
     else if (self == 0)
@@ -92,7 +98,7 @@ static enum status closed(enum status status) {
 ";
 
 /// The run, instruction by instruction.
-pub(crate) const RUN: [u8; 2493] = *b"
+pub(crate) const RUN: [u8; 2758] = *b"
 /* ---- The run */
 #define OPERATION(name, left, right, position) \\
     case op_u##name: operate(of_all, op_u##name, at[1], left, right, position); break; \\
@@ -146,6 +152,9 @@ static enum status run(void) {
         case op_halt: return closed(status_ended);
         default: act(at);
         }
+        /* here no statement before this one can fault any more, unless one has a write held; a trace goes before all items */
+        if ((at[0] == op_reply || at[0] == op_vote) && !is_over && !is_put_held && asks == 0 && !tracing)
+            write_items(count);
     }
     return told(status_faulted);
 }

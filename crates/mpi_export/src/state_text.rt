@@ -1,7 +1,7 @@
 //! The text of the runtime: what a rank has. Written by `gate/mpi.py` from the files of `runtime/`.
 
 /// What stands before the plan.
-pub(crate) const HEAD: [u8; 2176] =
+pub(crate) const HEAD: [u8; 2256] =
     *b"/* A plan for the bulk-synchronous machine, as a program in C11 over MPI.
  *
  *     mpicc -O3 -Wall -Wextra -pedantic plan.c -o plan
@@ -41,6 +41,7 @@ enum word {
  * arrays raise them: CELL_BITS to at most 31, and 2 to that power is at least the number of all cells. */
 #define CELL_BITS 20
 #define INPUT_BYTES 1048576
+_Static_assert(CELL_BITS >= 1 && CELL_BITS <= 31, \"CELL_BITS is from 1 to 31\");
 
 /* The plan. PROCS, the most processors of a range, and the bounds of arrays may be raised. The instructions are for the sizes
  * that the program was compiled for, and name entries, registers and each other by number: leave them as they are. */

@@ -114,3 +114,12 @@ module _ (code packed : SuperstepCode) (is : IsPacked code packed) (alike : Runs
       IfErr found (IsCodeRefusedWith packed input options reserve) → IfErr found (IsCodeRefusedWith code input options reserve)
   refusals_of_code reserve (Ok x) h = tt
   refusals_of_code reserve (Err r) h = refused_with reserve r h
+
+-- the run of the packed code, told with that code
+pub runs_packed : {X : Type 0} (code packed : SuperstepCode) → IsPacked code packed → (input : List ℤ) (options : Options)
+    (reserve : Option Reserve) (verdict : X → Verdict) (found : Result X Refusal) →
+    IfOk found (λ x. (exchanges : List Exchange) × IsCodeRunWith packed input options reserve (verdict x) exchanges) →
+    IfOk found (λ x. (packed : SuperstepCode) × IsPacked code packed
+    × ((exchanges : List Exchange) × IsCodeRunWith packed input options reserve (verdict x) exchanges))
+runs_packed code packed is input options reserve verdict (Ok x) ran = (packed, is, ran)
+runs_packed code packed is input options reserve verdict (Err r) ran = tt

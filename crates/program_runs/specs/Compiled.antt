@@ -28,3 +28,8 @@ HasOneCode = (p : Checked) (one other : SuperstepCode) → IsCodeOf p one → Is
 
 abbrev pub HasACode : Type 0
 HasACode = (p : Checked) → IsBounded p → (code : SuperstepCode) × IsCodeOf p code
+
+-- any two codes of the programs of one text are equal
+abbrev pub TextsHaveOneCode : Type 0
+TextsHaveOneCode = (text : List ℕ) (p q : Checked) → IsProgramOf text p → IsProgramOf text q → (code other : SuperstepCode) →
+    IsCodeOf p code → IsCodeOf q other → code ≡ other

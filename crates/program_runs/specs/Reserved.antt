@@ -81,3 +81,18 @@ abbrev pub IsRunRefusedWith : {X : Type 0} → List ℕ → List ℤ → Options
 IsRunRefusedWith text input options None result = IsRunRefused text input options result
 IsRunRefusedWith text input options (Some reserve) result =
     IsRunRefused text input options result ⊎ ((result ≡ Err OutOfReserve) × IsTextPast text input options reserve)
+
+-- ---- laws
+
+-- Two runs of a text on one input, by workers of one map, within one bound, have the same exchanges.
+abbrev pub TextsHaveOneList : Type 0
+TextsHaveOneList = (text : List ℕ) (input : List ℤ) (options : Options) (verdict other : Verdict) (exchanges more : List Exchange)
+    (run : IsRunByWorkers text input options verdict exchanges) (also : IsRunByWorkers text input options other more) →
+    run.ran.run.shape ≡ also.ran.run.shape → exchanges ≡ more
+
+-- By the workers of one map a text is not both run with a reserve and refused for it.
+abbrev pub TextsHaveOneReserve : Type 0
+TextsHaveOneReserve = (text : List ℕ) (input : List ℤ) (options : Options) (reserve : Reserve) (verdict : Verdict)
+    (exchanges : List Exchange)
+    (run : IsRunByWorkersWith text input options (Some reserve) verdict exchanges) (past : IsTextPast text input options reserve) →
+    run.by_workers.ran.run.shape ≡ past.past.past.shape → ⊥

@@ -55,7 +55,8 @@ pub record IsCodeRun (code : SuperstepCode) (input : List ℤ) (options : Option
   pub outcome : IsBspOutcome code shape input options.bound verdict
   pub made : AreBspExchanges code shape input options.bound verdict exchanges
 
--- So was the code of a program. Where the verdict is no fault there are at most as many exchanges as the program's bound says, and in all of
+-- So was the code of a program. Where the verdict is no fault there are at most as many exchanges as the program's bound says, and in all
+-- of
 -- them the workers sent at most as many words as the accesses of the program's run take.
 pub record IsProgramRun (program : Checked) (input : List ℤ) (options : Options) (verdict : Verdict)
     (exchanges : List Exchange) : Type 0 where

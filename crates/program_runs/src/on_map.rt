@@ -9,6 +9,7 @@ ghost use Rattle.pram_model.specs.Layout.{total_size};
 ghost use Rattle.write_rules.specs.Verdict.{verdict_of};
 ghost use Rattle.run_options.specs.Places.{IsLeastPower};
 ghost use Rattle.run_options.specs.declared.reserve.Reserve.{Reserve as Given};
+ghost use Rattle.renaming.specs.Packed.{IsPacked};
 ghost use Rattle.program_runs.specs.Runs.{IsChoice, IsCodeRefused, IsMapOf, IsNoMap};
 ghost use Rattle.superstep_machine.specs.Trace.{Exchange};
 ghost use Rattle.program_runs.specs.Reserved.{IsCodeRefusedWith, IsCodeRunKept, IsCodeRunWith};
@@ -179,7 +180,8 @@ fn refused_memory(code: &Verified, input: &[i64], options: Options) -> Refusal
 }
 
 /// The same run, of which only the outcome is wanted: nothing is kept of an exchange, so that on the way memory is asked for by the output
-/// alone. Registers take memory where an instruction names them, and not where they are only declared. It is refused as `run_code` is.
+/// alone. What is run is the code with its registers numbered anew, so that none takes room which no instruction names. It is refused as
+/// `run_code` is.
 pub fn outcome_of_code<R: Threads + Wait + Sync, G: Gate + Sync>(
     rt: &R,
     alloc: Global,
@@ -191,6 +193,9 @@ pub fn outcome_of_code<R: Threads + Wait + Sync, G: Gate + Sync>(
 ) -> Result<Outcome, Refusal>
     ensures run { IfOk result (λ outcome. (exchanges : List Exchange)
         × IsCodeRunWith code.now input.now options reserve (verdict_of outcome) exchanges) }
+    // That is a run of the code whose registers are those that an instruction names.
+    ensures packed { IfOk result (λ outcome. (packed : SuperstepCode) × IsPacked code.now packed × ((exchanges : List Exchange)
+        × IsCodeRunWith packed input.now options reserve (verdict_of outcome) exchanges)) }
     ensures refused { IfErr result (IsCodeRefusedWith code.now input.now options reserve) }
 {
     match pack(alloc, code) {
