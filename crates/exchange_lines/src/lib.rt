@@ -1,4 +1,5 @@
-//! The line of the statement that each exchange of a run serves, as a definition: that of the workers of every map is that of one memory.
+//! The line of each exchange of a run, that of the statement that began last, as a definition: of the workers of every map it is that of one
+//! memory.
 #![tactic(auto)]
 
 pub mod line_laws;
