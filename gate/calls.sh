@@ -21,4 +21,4 @@ fi
 grep '^plans: ' "$work/log"
 grep "^listings: $laid of $laid come" "$work/log"
 grep '^changes ' "$work/log"
-grep '^calls: 25 come' "$work/log"
+grep '^calls: 27 come' "$work/log"
