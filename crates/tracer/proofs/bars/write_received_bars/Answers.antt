@@ -5,13 +5,13 @@ use Rattle.exchange_counts.specs.CountedExchanges.{exchange_at}
 use Rattle.tracer.proofs.BarTexts.{received_at, received_fits}
 use Rattle.tracer.proofs.bars.write_received_bars.Goals as goal
 
-pub write_received_bar-requires-clause-words : goal.write_received_bar-requires-clause-words
-write_received_bar-requires-clause-words g c =
+pub write_received_bar-requires : goal.write_received_bar-requires
+write_received_bar-requires g c =
     let e = exchange_at c.args.counts.now c.args.k in
     let as_many = c.workers-workers.ensures.received c.args.k c.requires.first c.requires.last in
     let test = c.workers-test.true in
     let below : c.workers.w < length e.received = omega (arith, as_many, test) in
-    received_fits e c.workers.w c.received.result c.args.scale.most below c.received.ensures c.requires.most
+    record { words = received_fits e c.workers.w c.received.result c.args.scale.most below c.received.ensures c.requires.most }
 
 -- the writer stopped within one bar
 pub returns-in_err-write_received_bar : goal.returns-in_err-write_received_bar

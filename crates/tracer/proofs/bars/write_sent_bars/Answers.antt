@@ -5,13 +5,13 @@ use Rattle.exchange_counts.specs.CountedExchanges.{exchange_at}
 use Rattle.tracer.proofs.BarTexts.{sent_at, sent_fits}
 use Rattle.tracer.proofs.bars.write_sent_bars.Goals as goal
 
-pub write_sent_bar-requires-clause-words : goal.write_sent_bar-requires-clause-words
-write_sent_bar-requires-clause-words g c =
+pub write_sent_bar-requires : goal.write_sent_bar-requires
+write_sent_bar-requires g c =
     let e = exchange_at c.args.counts.now c.args.k in
     let as_many = c.workers-workers.ensures.sent c.args.k c.requires.first c.requires.last in
     let test = c.workers-test.true in
     let below : c.workers.w < length e.sent = omega (arith, as_many, test) in
-    sent_fits e c.workers.w c.sent.result c.args.scale.most below c.sent.ensures c.requires.most
+    record { words = sent_fits e c.workers.w c.sent.result c.args.scale.most below c.sent.ensures c.requires.most }
 
 -- the writer stopped within one bar
 pub returns-in_err-write_sent_bar : goal.returns-in_err-write_sent_bar
