@@ -2,7 +2,7 @@
 use Rattle.std.specs.Prelude.{◌≡◌, ◌⊎◌, ℕ, ℤ, List, [], ◌++◌, Bool, true, false, Option, Some, None, codes, decimal}
 use Rattle.text_out.specs.Out.{OutState}
 use Rattle.pram_check.specs.Checked.{Checked}
-use Rattle.endless_runs.specs.Endless.{NeverEnds}
+use Rattle.endless_runs.specs.Endless.{HasCycle, NeverEnds}
 use Rattle.endless_runs.specs.declared.cycle.Cycle.{Cycle}
 use Rattle.write_rules.specs.declared.fault.Fault.{Fault}
 use Rattle.write_rules.specs.declared.outcome.Outcome.{Outcome}
@@ -77,9 +77,10 @@ abbrev pub cycle_text : Option Cycle → List ℕ
 cycle_text None = []
 cycle_text (Some c) = cycle_sentence c
 
--- it is said of a program that never ends on an input, and of others nothing; nor of one of which that isn't known
+-- It is said of a program that never ends on an input, of a loop of its run that comes back. Of others nothing is said, nor of one of which
+-- that isn't known.
 abbrev pub IsCycleSaid : Checked → (input : List ℤ) → List ℕ → Type 0
-IsCycleSaid p input text = (text ≡ []) ⊎ ((c : Cycle) × NeverEnds p input × (text ≡ cycle_sentence c))
+IsCycleSaid p input text = (text ≡ []) ⊎ ((c : Cycle) × NeverEnds p input × HasCycle p input c × (text ≡ cycle_sentence c))
 
 -- a run met its bound, and what is known of it without one
 abbrev pub IsBoundSaid : FoundRun → OutState → OutState → Type 0

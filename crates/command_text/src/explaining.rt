@@ -5,7 +5,7 @@ ghost use Rattle.std.specs.String.{string_bytes};
 ghost use Rattle.text_out.specs.Out.{Writes};
 ghost use Rattle.diagnoses.specs.FaultTexts.{fault_diagnosis, fault_sentence};
 ghost use Rattle.diagnoses.specs.Reasons.{Reason as Why, reason_is, run_reason as why, unknown};
-ghost use Rattle.endless_runs.specs.Endless.{NeverEnds};
+ghost use Rattle.endless_runs.specs.Endless.{HasCycle, NeverEnds};
 ghost use Rattle.command_facts.specs.Written.{IsReported};
 ghost use Rattle.command_text.specs.Explained as spec;
 
@@ -174,7 +174,8 @@ fn write_cycle<E: Out>(err: &mut E, cycle: Cycle) -> Result<(), WriteFault>
 
 // A loop by which a run never ends, where it has no more cells than these: it is run again for that, with some of its states kept.
 fn cycle_of<V: Watch>(alloc: Global, watch: &mut V, run: &FoundRun<'_>) -> Option<Cycle>
-    ensures { (cycle : Cycle) → result ≡ Some cycle → NeverEnds run.now.loaded.program run.now.input.items }
+    ensures never { (cycle : Cycle) → result ≡ Some cycle → NeverEnds run.now.loaded.program run.now.input.items }
+    ensures found { (cycle : Cycle) → result ≡ Some cycle → HasCycle run.now.loaded.program run.now.input.items cycle }
 {
     let program = &run.loaded.program;
     if program.layout().cells() > MOST_SEARCHED {

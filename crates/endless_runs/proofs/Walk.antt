@@ -1,6 +1,6 @@
 -- What is known of a part of a program, from what is known of its parts.
-use Rattle.std.proofs.Common.{◌≡◌, ◌≤◌, ◌<◌, ◌∙◌, ℕ, zero, suc, ◌+◌, List, [], ◌∷◌, Bool, true, false, Global, Option, Some, None, Result, Ok, Err, Vec}
-use Rattle.std.proofs.Common.{◌⊎◌, ap, drop, get_or, inl, inr, length, refl, subst, sym, ℤ}
+use Rattle.std.proofs.Common.{◌≡◌, ◌≤◌, ◌<◌, ◌∙◌, ℕ, ◌+◌, List, [], ◌∷◌, Bool, true, false, Global, Result, Ok, Err, Vec, ℤ}
+use Rattle.std.proofs.Common.{ap, drop, get_or, if◌then◌else◌, length, refl, subst, sym}
 use Rattle.std.proofs.lemmas.List.{drop_all, drop_more}
 use Rattle.pram_check.specs.Checked.{Checked}
 use Rattle.pram_tokens.specs.declared.token.Location.{Location}
@@ -10,19 +10,17 @@ use Rattle.pram_names.specs.declared.body.Statement.{items_hidden-the_row-Statem
 use Rattle.pram_names.specs.declared.body.Statement.TheBlock.{hidden-the_row-Statement-0}
 use Rattle.pram_meaning.specs.Bounded.{Goes, found, perform, perform_list, tested, then_do}
 use Rattle.pram_values.specs.Truth.{is_nonzero}
-use Rattle.pram_meaning.specs.Meaning as relation
-use Rattle.pram_meaning.specs.Meaning.{Does, Either, Ends, Fate, IsEnd, Means, MeansList, MeansRow, Tested, Then, Turns, at_fault, at_start, on}
-use Rattle.pram_meaning.specs.Store.{State, no_team}
+use Rattle.pram_meaning.specs.Meaning.{Does, Either, Ends, Fate, Means, MeansList, MeansRow, Tested, Then, Turns, at_fault, at_start, on}
+use Rattle.pram_meaning.specs.Moments.{list_moments}
+use Rattle.pram_meaning.specs.Store.{State}
 use Rattle.pram_meaning.proofs.Agree.{Loop, Shows, agree_tested}
 use Rattle.pram_meaning.proofs.AgreeAll.{agree_list}
 use Rattle.endless_runs.specs.Endless.{IsEndless}
-use Rattle.endless_runs.specs.declared.kept.Kept.{Kept}
-use Rattle.endless_runs.specs.Search.{HasKept, IsKnown, IsStill}
+use Rattle.endless_runs.specs.Search.{IsKnown, RunPart, of_list, of_loop, of_statement}
 use Rattle.endless_runs.specs.declared.stop.Stop.{Stop}
 use Rattle.endless_runs.specs.declared.stop.Stop.TheVariants as stop
-use Rattle.endless_runs.proofs.Alike.{blind_tested}
-use Rattle.endless_runs.proofs.AlikeAll.{blind_list}
-use Rattle.endless_runs.proofs.Cycles.{IsSure, More, Once, Turned, Turning, endless_behind, endless_cycle, endless_first, endless_then, endless_turn, sure}
+use Rattle.endless_runs.proofs.Cycles.{IsSure, endless_first, endless_then, sure}
+use Rattle.endless_runs.proofs.Told.{Holds, branch_holds, first_holds, holds_on, holds_same, list_of_means, rest_holds, shown_in, while_told}
 
 -- ---- statements and lists of them
 
@@ -30,11 +28,6 @@ means_of_list : (w : Checked) (s : Statement) (m : State) (f : Fate (Unit {0})) 
 means_of_list w s m f (on {a} {m = k} p q) = subst (Means w s m) (sym q) p
 means_of_list w s m f (at_fault p) = p
 means_of_list w s m f (at_start p) = p
-
-list_of_means : (w : Checked) (s : Statement) (m : State) (f : Fate (Unit {0})) → Means w s m f → MeansList w (s ∷ []) m f
-list_of_means w s m (Ends u k) p = on p refl
-list_of_means w s m (relation.Stops fault c out) p = at_fault p
-list_of_means w s m (relation.Reaches c out) p = at_start p
 
 -- what the bounded run of a statement comes to, it means
 pub ran : (w : Checked) (n : ℕ) (s : Statement) (m new : State) → m.count ≤ n → perform w n s m ≡ Goes tt new →
@@ -57,7 +50,7 @@ ran_found w n line e m new v z low is same =
 pub sure_list : (w : Checked) (ss : List Statement) → IsSure (MeansList w ss)
 sure_list w ss = sure (MeansList w ss) (λ n. perform_list w n ss) (λ n. agree_list w n ss)
 
-sure_tested : (w : Checked) (line : ℕ) (e : Expression) → IsSure (Tested w line e)
+pub sure_tested : (w : Checked) (line : ℕ) (e : Expression) → IsSure (Tested w line e)
 sure_tested w line e = sure (Tested w line e) (λ n. tested w n line e) (λ n. agree_tested w n line e)
 
 sure_means : (w : Checked) (s : Statement) → IsSure (Means w s)
@@ -76,11 +69,14 @@ block_means w body = λ j m. (sym (items_mean w (hidden-the_row-Statement-0 body
 -- ---- a statement of each kind
 
 pub while_known : (w : Checked) (here : Location) (s : Statement) (e : Expression) (body : Vec Statement Global) (m new : State)
-    (r : Result (Unit {0}) Stop) → s ≡ While here e body → IsKnown (Loop (Tested w here.line e) (MeansList w body.items) m) new r →
-    IsKnown (Means w s m) new r
-while_known w here s e body m new r is known =
-    subst (λ M. IsKnown M new r) (sym (ap (λ s. Means w s m) is
-    ∙ ap (λ B. λ f. (k : ℕ) × Turns k (Tested w here.line e) B m f) (block_means w body))) known
+    (r : Result (Unit {0}) Stop) → s ≡ While here e body → IsKnown (of_loop w here e body.items m) new r → IsKnown (of_statement w s m) new r
+while_known w here s e body m new r is known = subst (λ p. IsKnown p new r) (sym same) known
+  where
+    means : Means w s m ≡ Loop (Tested w here.line e) (MeansList w body.items) m
+    means = ap (λ s. Means w s m) is ∙ ap (λ B. λ f. (k : ℕ) × Turns k (Tested w here.line e) B m f) (block_means w body)
+
+    same : of_statement w s m ≡ of_loop w here e body.items m
+    same = λ j. record { means = means j; told = λ n. while_told w n here s e body m is j }
 
 if_means : (w : Checked) (here : Location) (s : Statement) (e : Expression) (a b : Vec Statement Global) (m : State) → s ≡ If here e a b →
     Means w s m ≡ Then Bool (Unit {0}) (Tested w here.line e m) (λ z m. Either z (MeansList w a.items m) (MeansList w b.items m))
@@ -90,172 +86,90 @@ if_means w here s e a b m is =
     (block_means w a)
     ∙ ap (λ B. Then Bool (Unit {0}) (Tested w here.line e m) (λ z m. Either z (MeansList w a.items m) (B m))) (block_means w b)
 
--- first a test, then what is known
-test_known : (T : State → relation.Fates Bool) (N : Bool → State → Does) (m k new : State) (z : Bool) (r : Result (Unit {0}) Stop) → IsSure T →
-    T m (Ends z k) → IsKnown (N z k) new r → IsKnown (Then Bool (Unit {0}) (T m) N) new r
-test_known T N m k new z (Ok u) st p known = on p known
-test_known T N m k new z (Err (stop.Cycle c)) st p known = endless_then T N st m k z p known
-test_known T N m k new z (Err stop.Unknown) st p known = tt
+-- the branch that a test takes
+abbrev of_branch : Checked → (a b : List Statement) → Bool → State → RunPart
+of_branch w a b z m = record {
+  means = Either z (MeansList w a m) (MeansList w b m);
+  told = λ n. if z then list_moments w n a m else list_moments w n b m;
+}
+
+branch_known : (w : Checked) (here : Location) (s : Statement) (e : Expression) (a b : Vec Statement Global) (m k new : State) (z : Bool)
+    (r : Result (Unit {0}) Stop) → s ≡ If here e a b → Tested w here.line e m (Ends z k) →
+    IsKnown (of_branch w a.items b.items z k) new r → IsKnown (of_statement w s m) new r
+branch_known w here s e a b m k new z (Ok u) is p known =
+    subst (λ M. M (Ends tt new)) (sym (if_means w here s e a b m is)) (on p known)
+branch_known w here s e a b m k new z (Err (stop.Cycle c)) is p known = (
+  subst (λ (M : Does). IsEndless M) (sym (if_means w here s e a b m is)) (endless_then (Tested w here.line e)
+      (λ z m. Either z (MeansList w a.items m) (MeansList w b.items m)) (sure_tested w here.line e) m k z p known.0),
+  shown_in (of_statement w s m).told (of_branch w a.items b.items z k).told c (branch_holds w here s e a b m k z is p) known.1,
+)
+branch_known w here s e a b m k new z (Err stop.Unknown) is p known = tt
 
 pub then_known : (w : Checked) (here : Location) (s : Statement) (e : Expression) (a b : Vec Statement Global) (m k new : State) (z : Bool)
-    (r : Result (Unit {0}) Stop) → s ≡ If here e a b → Tested w here.line e m (Ends z k) → z ≡ true → IsKnown (MeansList w a.items k) new r →
-    IsKnown (Means w s m) new r
+    (r : Result (Unit {0}) Stop) → s ≡ If here e a b → Tested w here.line e m (Ends z k) → z ≡ true → IsKnown (of_list w a.items k) new r →
+    IsKnown (of_statement w s m) new r
 then_known w here s e a b m k new z r is p so_it_is known =
-    subst (λ M. IsKnown M new r) (sym (if_means w here s e a b m is)) (test_known (Tested w here.line e)
-    (λ z m. Either z (MeansList w a.items m) (MeansList w b.items m)) m k new z r (sure_tested w here.line e) p
-    (subst (λ z. IsKnown (Either z (MeansList w a.items k) (MeansList w b.items k)) new r) (sym so_it_is) known))
+    branch_known w here s e a b m k new z r is p (subst (λ z. IsKnown (of_branch w a.items b.items z k) new r) (sym so_it_is) known)
 
 pub else_known : (w : Checked) (here : Location) (s : Statement) (e : Expression) (a b : Vec Statement Global) (m k new : State) (z : Bool)
-    (r : Result (Unit {0}) Stop) → s ≡ If here e a b → Tested w here.line e m (Ends z k) → z ≡ false → IsKnown (MeansList w b.items k) new r →
-    IsKnown (Means w s m) new r
+    (r : Result (Unit {0}) Stop) → s ≡ If here e a b → Tested w here.line e m (Ends z k) → z ≡ false → IsKnown (of_list w b.items k) new r →
+    IsKnown (of_statement w s m) new r
 else_known w here s e a b m k new z r is p no_so known =
-    subst (λ M. IsKnown M new r) (sym (if_means w here s e a b m is)) (test_known (Tested w here.line e)
-    (λ z m. Either z (MeansList w a.items m) (MeansList w b.items m)) m k new z r (sure_tested w here.line e) p
-    (subst (λ z. IsKnown (Either z (MeansList w a.items k) (MeansList w b.items k)) new r) (sym no_so) known))
+    branch_known w here s e a b m k new z r is p (subst (λ z. IsKnown (of_branch w a.items b.items z k) new r) (sym no_so) known)
 
 -- ---- one thing behind the other
 
 -- what is known of the one is known of the other, which begins with what has run already
-pub record Leads (from to : Does) : Type 0 where
-  pub ends : (k : State) → to (Ends tt k) → from (Ends tt k)
-  pub endless : IsEndless to → IsEndless from
+pub record Leads (from to : RunPart) : Type 0 where
+  pub ends : (k : State) → to.means (Ends tt k) → from.means (Ends tt k)
+  pub endless : IsEndless to.means → IsEndless from.means
+  pub told : Holds from.told to.told
 
-pub leads_known : (from to : Does) (new : State) (r : Result (Unit {0}) Stop) → Leads from to → IsKnown to new r → IsKnown from new r
+pub leads_here : (part : RunPart) → Leads part part
+leads_here part = record { ends = λ k p. p; endless = λ p. p; told = holds_same part.told }
+
+pub leads_known : (from to : RunPart) (new : State) (r : Result (Unit {0}) Stop) → Leads from to → IsKnown to new r → IsKnown from new r
 leads_known from to new (Ok u) leads known = leads.ends new known
-leads_known from to new (Err (stop.Cycle c)) leads known = leads.endless known
+leads_known from to new (Err (stop.Cycle c)) leads known = (leads.endless known.0, shown_in from.told to.told c leads.told known.1)
 leads_known from to new (Err stop.Unknown) leads known = tt
 
 -- a block of which the first i statements have run
 abbrev pub InBlock : Checked → List Statement → ℕ → (start now : State) → Type 0
-InBlock w items i start now = Leads (MeansList w items start) (MeansList w (drop i items) now)
+InBlock w items i start now = Leads (of_list w items start) (of_list w (drop i items) now)
 
 pub block_starts : (w : Checked) (items : List Statement) (m : State) → InBlock w items 0 m m
-block_starts w items m = record { ends = λ k p. p; endless = λ p. p }
+block_starts w items m = leads_here (of_list w items m)
 
 one_more : (w : Checked) (items : List Statement) (i : ℕ) (s : Statement) (start now : State) → InBlock w items i start now → i < length items →
-    s ≡ get_or items i s → Leads (MeansList w items start) (MeansList w (s ∷ drop (i + 1) items) now)
+    s ≡ get_or items i s → Leads (of_list w items start) (of_list w (s ∷ drop (i + 1) items) now)
 one_more w items i s start now in_block low is =
-    subst (λ ss. Leads (MeansList w items start) (MeansList w ss now)) (drop_more items i s low ∙ ap (λ x. x ∷ drop (i + 1) items) (sym is))
+    subst (λ ss. Leads (of_list w items start) (of_list w ss now)) (drop_more items i s low ∙ ap (λ x. x ∷ drop (i + 1) items) (sym is))
     in_block
 
 pub block_goes : (w : Checked) (items : List Statement) (i : ℕ) (s : Statement) (start now new : State) → InBlock w items i start now →
     i < length items → s ≡ get_or items i s → Means w s now (Ends tt new) → InBlock w items (i + 1) start new
 block_goes w items i s start now new in_block low is p =
+    let ss = drop (i + 1) items in
     let leads = one_more w items i s start now in_block low is in
     record {
       ends = λ k q. leads.ends k (on p q);
-      endless = λ never. leads.endless (endless_then (Means w s) (λ u. MeansList w (drop (i + 1) items)) (sure_means w s) now new tt p never);
+      endless = λ never. leads.endless (endless_then (Means w s) (λ u. MeansList w ss) (sure_means w s) now new tt p never);
+      told = holds_on (of_list w items start).told (of_list w (s ∷ ss) now).told (of_list w ss new).told leads.told
+          (rest_holds w s ss now new p);
     }
 
 pub block_stops : (w : Checked) (items : List Statement) (i : ℕ) (s : Statement) (start now new : State) (why : Stop) →
-    InBlock w items i start now → i < length items → s ≡ get_or items i s → IsKnown (Means w s now) new (Err why) →
-    IsKnown (MeansList w items start) new (Err why)
-block_stops w items i s start now new (stop.Cycle c) in_block low is never =
-    (one_more w items i s start now in_block low is).endless (endless_first (Means w s now) (λ u. MeansList w (drop (i + 1) items)) never)
+    InBlock w items i start now → i < length items → s ≡ get_or items i s → IsKnown (of_statement w s now) new (Err why) →
+    IsKnown (of_list w items start) new (Err why)
+block_stops w items i s start now new (stop.Cycle c) in_block low is known =
+    let ss = drop (i + 1) items in
+    leads_known (of_list w items start) (of_list w (s ∷ ss) now) new (Err (stop.Cycle c)) (one_more w items i s start now in_block low is) (
+      endless_first (Means w s now) (λ u. MeansList w ss) known.0,
+      shown_in (of_list w (s ∷ ss) now).told (of_statement w s now).told c (first_holds w s ss now) known.1,
+    )
 block_stops w items i s start now new stop.Unknown in_block low is known = tt
 
 pub block_ends : (w : Checked) (items : List Statement) (i : ℕ) (start now : State) → InBlock w items i start now → length items ≤ i →
     MeansList w items start (Ends tt now)
 block_ends w items i start now in_block all =
     in_block.ends now (subst (λ ss. MeansList w ss now (Ends tt now)) (sym (drop_all i items all)) refl)
-
--- ---- turns of a loop
-
-module _ (w : Checked) (line : ℕ) (e : Expression) (body : List Statement) where
-  abbrev Test : State → relation.Fates Bool
-  Test = Tested w line e
-
-  abbrev Body : State → Does
-  Body = MeansList w body
-
-  -- none or some turns
-  abbrev pub Star : (from to : State) → Type 0
-  Star from to = (from ≡ to) ⊎ Turning Test Body from to
-
-  one_turn : (from now to : State) → Star from now → Turned Test Body now to → Turning Test Body from to
-  one_turn from now to (inl same) t = Once (subst (λ m. Turned Test Body m to) (sym same) t)
-  one_turn from now to (inr ts) t = More ts t
-
-  -- the state that is kept was that of the loop behind some turns, and it has made some since
-  abbrev pub IsKept : Option Kept → (start now : State) → Type 0
-  IsKept None start now = Unit {0}
-  IsKept (Some k) start now =
-      (s : State) × ((k.uniforms.items ≡ s.uniforms) × (k.cells.items ≡ s.cells)) × (s.team ≡ no_team) × Star start s × Star s now
-
-  -- where a loop stands that began in one state and is in another now
-  pub record InLoop (start now : State) (kept : Option Kept) : Type 0 where
-    pub turned : Star start now
-    pub is_kept : IsKept kept start now
-
-  pub loop_starts : (m : State) (kept : Option Kept) → kept ≡ None → InLoop m m kept
-  loop_starts m kept none = record { turned = inl refl; is_kept = subst (λ k. IsKept k m m) (sym none) tt }
-
-  kept_on : (kept : Option Kept) (start now to : State) → IsKept kept start now → Turned Test Body now to → IsKept kept start to
-  kept_on None start now to is t = tt
-  kept_on (Some k) start now to is t = (is.0, is.1, is.2, is.3, inr (one_turn is.0 now to is.4 t))
-
-  new_kept : (kept : Option Kept) (start now : State) → now.team ≡ no_team → Star start now → HasKept kept now → IsKept kept start now
-  new_kept None start now out star has = tt
-  new_kept (Some k) start now out star has = (now, has, out, star, inl refl)
-
-  -- a turn more, behind which a state may be kept
-  pub loop_goes : (start now at to : State) (kept new : Option Kept) → to.team ≡ no_team → InLoop start now kept → Test now (Ends true at) →
-      Body at (Ends tt to) → IsStill kept to new → InLoop start to new
-  loop_goes start now at to kept new out in_loop yes_so p still = record { turned = inr on_way; is_kept = behind still }
-    where
-      t : Turned Test Body now to
-      t = record { tested = at; is_true = yes_so; ends = p }
-
-      on_way : Turning Test Body start to
-      on_way = one_turn start now to in_loop.turned t
-
-      behind : IsStill kept to new → IsKept new start to
-      behind (inl same) = subst (λ k. IsKept k start to) (sym same) (kept_on kept start now to in_loop.is_kept t)
-      behind (inr has) = new_kept new start to out (inr on_way) has
-
-  loop_first : (from to : State) → Turned Test Body from to → (f : Fate (Unit {0})) → Loop Test Body to f → Loop Test Body from f
-  loop_first from to t f r = (suc r.0, on t.is_true (on t.ends r.1))
-
-  loop_before : (from to : State) → Turning Test Body from to → (f : Fate (Unit {0})) → Loop Test Body to f → Loop Test Body from f
-  loop_before from to (Once t) f r = loop_first from to t f r
-  loop_before from to (More {now} ts t) f r = loop_before from now ts f (loop_first now to t f r)
-
-  star_before : (from to : State) → Star from to → (f : Fate (Unit {0})) → Loop Test Body to f → Loop Test Body from f
-  star_before from to (inl same) f r = subst (λ m. Loop Test Body m f) (sym same) r
-  star_before from to (inr ts) f r = loop_before from to ts f r
-
-  star_endless : (from to : State) → Star from to → IsEndless (Loop Test Body to) → IsEndless (Loop Test Body from)
-  star_endless from to (inl same) never = subst (λ m. IsEndless (Loop Test Body m)) (sym same) never
-  star_endless from to (inr ts) never = endless_behind Test Body (sure_tested w line e) (sure_list w body) from to ts never
-
-  -- its test is false
-  pub loop_ends : (start now at : State) (kept : Option Kept) → InLoop start now kept → Test now (Ends false at) →
-      Loop Test Body start (Ends tt at)
-  loop_ends start now at kept in_loop p = star_before start now in_loop.turned (Ends tt at) (suc zero, on p refl)
-
-  -- its body goes no further
-  pub loop_stops : (start now at new : State) (kept : Option Kept) (why : Stop) → InLoop start now kept → Test now (Ends true at) →
-      IsKnown (Body at) new (Err why) → IsKnown (Loop Test Body start) new (Err why)
-  loop_stops start now at new kept (stop.Cycle c) in_loop p never =
-      star_endless start now in_loop.turned (endless_turn Test Body (sure_tested w line e) (sure_list w body) now at p never)
-  loop_stops start now at new kept stop.Unknown in_loop p known = tt
-
-  cycle_in : (kept : Option Kept) (start now to : State) → to.team ≡ no_team → IsKept kept start now → Turned Test Body now to →
-      HasKept kept to → IsEndless (Loop Test Body start)
-  cycle_in None start now to out is t has = absurd has
-  cycle_in (Some k) start now to out is t has =
-      let s = is.0 in
-      star_endless start s is.3 (endless_cycle Test Body (sure_tested w line e) (sure_list w body) (blind_tested w line e) (blind_list w body)
-      s to (one_turn s now to is.4 t) (λ j. record {
-        count = s.count;
-        output = s.output;
-        uniforms = (sym has.0 ∙ is.1.0) j;
-        cells = (sym has.1 ∙ is.1.1) j;
-        team = (out ∙ sym is.2) j;
-      }))
-
-  -- it is back
-  pub loop_cycles : (start now at to : State) (kept : Option Kept) → to.team ≡ no_team → InLoop start now kept → Test now (Ends true at) →
-      Body at (Ends tt to) → HasKept kept to → IsEndless (Loop Test Body start)
-  loop_cycles start now at to kept out in_loop p q has =
-      cycle_in kept start now to out in_loop.is_kept (record { tested = at; is_true = p; ends = q }) has

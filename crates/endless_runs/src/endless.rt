@@ -2,7 +2,7 @@
 
 ghost use Rattle.std.specs.Prelude.{◌≡◌, ◌≤◌, length, Some};
 ghost use Rattle.pram_model.specs.Layout.{total_size};
-ghost use Rattle.endless_runs.specs.Endless.{NeverEnds};
+ghost use Rattle.endless_runs.specs.Endless.{HasCycle, NeverEnds};
 
 use crate::cycle::Cycle;
 use crate::search::Search;
@@ -14,10 +14,10 @@ use pram_meaning::open;
 use std::alloc::Global;
 
 /// A loop outside pardo that comes back, on an input, to the state that it had: then the run never ends, and its outcome is within every
-/// bound that it goes on. `bound` statements are searched at most, by running them; two states of a loop are compared by its cells and its
-/// uniform variables, of which one is kept each time that the loop has run twice as many statements. The watch is told how far the search
-/// is. None where nothing is known: there is no such loop or it comes later, the run ends or faults, there are more values than cells, or
-/// memory was refused.
+/// bound that it goes on. Its line is told, and how many statements run from the one state to the other. `bound` statements are searched at
+/// most, by running them; two states of a loop are compared by its cells and its uniform variables, of which one is kept each time that the
+/// loop has run twice as many statements. The watch is told how far the search is. None where nothing is known: there is no such loop or it
+/// comes later, the run ends or faults, there are more values than cells, or memory was refused.
 pub fn find_cycle<V: Watch>(
     alloc: Global,
     program: &Program,
@@ -25,7 +25,8 @@ pub fn find_cycle<V: Watch>(
     bound: u32,
     watch: &mut V,
 ) -> Option<Cycle>
-    ensures { (cycle : Cycle) → result ≡ Some cycle → NeverEnds program.now input.now }
+    ensures never { (cycle : Cycle) → result ≡ Some cycle → NeverEnds program.now input.now }
+    ensures found { (cycle : Cycle) → result ≡ Some cycle → HasCycle program.now input.now cycle }
 {
     if input.len() > program.layout().cells() as usize {
         return None;

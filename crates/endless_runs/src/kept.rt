@@ -3,7 +3,7 @@
 ghost use Rattle.std.specs.Prelude.{◌≡◌, IfOk, None, OnOk, Some, true};
 ghost use Rattle.std.specs.Bool.{Decides};
 ghost use Rattle.pram_meaning.specs.Runs.{state_of};
-ghost use Rattle.endless_runs.specs.Search.{HasKept, IsStill};
+ghost use Rattle.endless_runs.specs.Search.{IsBack, IsStill};
 
 use crate::cycle::Cycle;
 use pram_meaning::run::Run;
@@ -30,6 +30,7 @@ fn same_values(a: &[i64], b: &[i64]) -> bool
 impl Kept {
     /// The state of a run.
     fn of(alloc: Global, run: &Run) -> Result<Kept, AllocError>
+        ensures count { IfOk result (λ k. k.count ≡ run.now.count) }
         ensures uniforms { IfOk result (λ k. k.uniforms.items ≡ run.now.uniforms.items) }
         ensures cells { IfOk result (λ k. k.cells.items ≡ run.now.cells.items) }
     {
@@ -72,7 +73,7 @@ impl Keeper {
 
     /// Whether the loop of this line is back at the state that was kept.
     pub(crate) fn find(&self, run: &Run, line: u32) -> Option<Cycle>
-        ensures { (cycle : Cycle) → result ≡ Some cycle → HasKept self.now.kept (state_of run.now) }
+        ensures { (cycle : Cycle) → result ≡ Some cycle → IsBack self.now.kept line (state_of run.now) cycle }
     {
         match &self.kept {
             Some(kept) if kept.is_back(run) => Some(Cycle {

@@ -1,13 +1,12 @@
 //! A run that is searched for a loop that comes back to a state that it had.
 
 ghost use Rattle.std.specs.Prelude.{◌≡◌, ◌≤◌, ◌<◌, ◌+◌, IfOk, OnOk};
-ghost use Rattle.pram_meaning.proofs.Agree.{Loop};
-ghost use Rattle.pram_model.specs.Layout.{width};
+ghost use Rattle.pram_tokens.specs.declared.token.Location.{Location};
 ghost use Rattle.pram_meaning.specs.Attempt.{attempt_bounds};
-ghost use Rattle.pram_meaning.specs.Meaning.{Begins, Ends, Evaluated, ForTurns, Means, MeansList, Tested};
+ghost use Rattle.pram_meaning.specs.Meaning.{Begins, Ends, Evaluated, Tested};
 ghost use Rattle.pram_meaning.specs.Store.{State, seen, with_uniform};
 ghost use Rattle.pram_meaning.specs.Runs.{state_of};
-ghost use Rattle.endless_runs.specs.Search.{ForFrom, IsKnown};
+ghost use Rattle.endless_runs.specs.Search.{IsKnown, of_for, of_list, of_loop, of_statement, of_turns};
 
 use crate::kept::Keeper;
 use crate::stop::Stop;
@@ -52,7 +51,7 @@ impl<'a> Search<'a> {
     // A statement that is no loop of the one processor: it is run.
     fn run(&self, run: &mut Run, s: &Statement) -> Result<(), Stop>
         requires within { run.old.count ≤ self.now.interpreter.bound }
-        ensures known { IsKnown (Means self.now.interpreter.program.now s.now (state_of run.old)) (state_of run.new) result }
+        ensures known { IsKnown (of_statement self.now.interpreter.program.now s.now (state_of run.old)) (state_of run.new) result }
         ensures grows { OnOk result (run.old.count ≤ run.new.count) }
         ensures within { OnOk result (run.new.count ≤ self.now.interpreter.bound) }
     {
@@ -106,7 +105,7 @@ impl<'a> Search<'a> {
         s: &Statement,
     ) -> Result<(), Stop>
         requires within { run.old.count ≤ self.now.interpreter.bound }
-        ensures known { IsKnown (Means self.now.interpreter.program.now s.now (state_of run.old)) (state_of run.new) result }
+        ensures known { IsKnown (of_statement self.now.interpreter.program.now s.now (state_of run.old)) (state_of run.new) result }
         ensures grows { OnOk result (run.old.count ≤ run.new.count) }
         ensures within { OnOk result (run.new.count ≤ self.now.interpreter.bound) }
     {
@@ -153,7 +152,7 @@ impl<'a> Search<'a> {
         body: &Vec<Statement>,
     ) -> Result<(), Stop>
         requires within { run.old.count ≤ self.now.interpreter.bound }
-        ensures known { IsKnown (MeansList self.now.interpreter.program.now body.now.items (state_of run.old)) (state_of run.new) result }
+        ensures known { IsKnown (of_list self.now.interpreter.program.now body.now.items (state_of run.old)) (state_of run.new) result }
         ensures grows { OnOk result (run.old.count ≤ run.new.count) }
         ensures within { OnOk result (run.new.count ≤ self.now.interpreter.bound) }
     {
@@ -168,7 +167,7 @@ impl<'a> Search<'a> {
 
     // The turns of a loop. Its state is kept now and then, and compared behind each turn.
     #[cycle(search)]
-    #[tactic(auto, using(crate::proofs::Walk::loop_starts, crate::proofs::Walk::loop_stops, crate::proofs::Walk::loop_goes, crate::proofs::Walk::loop_ends, crate::proofs::Walk::loop_cycles))]
+    #[tactic(auto, using(crate::proofs::LoopWalk::loop_starts, crate::proofs::LoopWalk::loop_stops, crate::proofs::LoopWalk::loop_goes, crate::proofs::LoopWalk::loop_ends, crate::proofs::LoopWalk::loop_cycles))]
     fn search_while<V: Watch>(
         &self,
         run: &mut Run,
@@ -178,8 +177,8 @@ impl<'a> Search<'a> {
         test: &Expression,
     ) -> Result<(), Stop>
         requires within { run.old.count ≤ self.now.interpreter.bound }
-        ensures known { IsKnown (Loop (Tested self.now.interpreter.program.now location.line test.now)
-            (MeansList self.now.interpreter.program.now body.now.items) (state_of run.old)) (state_of run.new) result }
+        ensures known { IsKnown (of_loop self.now.interpreter.program.now location test.now body.now.items (state_of run.old))
+            (state_of run.new) result }
         ensures grows { OnOk result (run.old.count ≤ run.new.count) }
         ensures within { OnOk result (run.new.count ≤ self.now.interpreter.bound) }
     {
@@ -217,8 +216,8 @@ impl<'a> Search<'a> {
         high: &Expression,
     ) -> Result<(), Stop>
         requires within { run.old.count ≤ self.now.interpreter.bound }
-        ensures known { IsKnown (ForFrom self.now.interpreter.program.now location.line low.now high.now (state_of run.old) variable
-            (MeansList self.now.interpreter.program.now body.now.items)) (state_of run.new) result }
+        ensures known { IsKnown (of_for self.now.interpreter.program.now location low.now high.now variable body.now.items (state_of run.old))
+            (state_of run.new) result }
         ensures grows { OnOk result (run.old.count ≤ run.new.count) }
         ensures within { OnOk result (run.new.count ≤ self.now.interpreter.bound) }
     {
@@ -240,8 +239,8 @@ impl<'a> Search<'a> {
         numbers: &Numbers,
     ) -> Result<(), Stop>
         requires within { run.old.count ≤ self.now.interpreter.bound }
-        ensures known { IsKnown (ForTurns (width numbers.now.next numbers.now.last) variable numbers.now.next
-            (MeansList self.now.interpreter.program.now body.now.items) (state_of run.old)) (state_of run.new) result }
+        ensures known { (here : Location) → IsKnown (of_turns self.now.interpreter.program.now here numbers.now.next numbers.now.last variable
+            body.now.items (state_of run.old)) (state_of run.new) result }
         ensures grows { OnOk result (run.old.count ≤ run.new.count) }
         ensures within { OnOk result (run.new.count ≤ self.now.interpreter.bound) }
     {
@@ -267,7 +266,7 @@ impl<'a> Search<'a> {
     #[tactic(auto, using(crate::proofs::Walk::block_starts, crate::proofs::Walk::block_stops, crate::proofs::Walk::block_goes, crate::proofs::Walk::block_ends))]
     pub(crate) fn search_body<V: Watch>(&self, run: &mut Run, watch: &mut V) -> Result<(), Stop>
         requires within { run.old.count ≤ self.now.interpreter.bound }
-        ensures known { IsKnown (MeansList self.now.interpreter.program.now self.now.interpreter.program.now.body (state_of run.old))
+        ensures known { IsKnown (of_list self.now.interpreter.program.now self.now.interpreter.program.now.body (state_of run.old))
             (state_of run.new) result }
     {
         for s in self.interpreter.program.body() {

@@ -2,7 +2,8 @@ use Rattle.std.proofs.Common.{arith, subst, Bool}
 use Rattle.pram_meaning.specs.Meaning.{Ends, Tested}
 use Rattle.pram_meaning.specs.Runs.{state_of}
 use Rattle.endless_runs.proofs.ForWalk.{bounds_known, for_ends, for_goes, for_known, for_stops}
-use Rattle.endless_runs.proofs.Walk.{loop_ends, loop_goes, while_known}
+use Rattle.endless_runs.proofs.LoopWalk.{loop_cycles, loop_ends, loop_goes}
+use Rattle.endless_runs.proofs.Walk.{block_goes, while_known}
 use Rattle.std.proofs.Common.{refl}
 use Rattle.endless_runs.proofs.search.Search.+search.Goals as goal
 
@@ -15,7 +16,7 @@ search_statement-returns-in-While-clause-known g t c =
 pub search_while-returns-then-not-holds-clause-known :
     goal.search_while-returns-then-not-holds-clause-known
 search_while-returns-then-not-holds-clause-known g t c =
-    loop_ends c.args.self.now.interpreter.program.now c.args.location.line c.args.test.now c.args.body.now.items
+    loop_ends c.args.self.now.interpreter.program.now c.args.location c.args.test.now c.args.body.now.items
     (state_of c.args.run.now) (state_of c.turns.run) (state_of c.test.new.run) c.turns.keeper.kept c.turns.invariant.0
     (subst (λ (z : Bool). Tested c.args.self.now.interpreter.program.now c.args.location.line c.args.test.now (state_of c.turns.run)
     (Ends z (state_of c.test.new.run))) c.if-not-holds.true c.in-Ok.ensures.tested)
@@ -25,7 +26,7 @@ search_while-turns-preserved g t c =
     let a = c.turns.invariant.1 in
     let b = c.in-Ok.ensures.more in
     let d = c.in_default-search_block.ensures.grows in (
-      loop_goes c.args.self.now.interpreter.program.now c.args.location.line c.args.test.now c.args.body.now.items
+      loop_goes c.args.self.now.interpreter.program.now c.args.location c.args.test.now c.args.body.now.items
           (state_of c.args.run.now) (state_of c.turns.run) (state_of c.test.new.run) (state_of c.search_block.new.run) c.turns.keeper.kept
           c.look.new.self.kept refl c.turns.invariant.0
           (subst (λ (z : Bool). Tested c.args.self.now.interpreter.program.now c.args.location.line c.args.test.now (state_of c.turns.run)
@@ -37,9 +38,9 @@ search_while-turns-preserved g t c =
 
 pub search_for-returns-clause-known : goal.search_for-returns-clause-known
 search_for-returns-clause-known g t c =
-    bounds_known c.args.self.now.interpreter.program.now c.args.location.line c.args.variable c.args.low.now c.args.high.now
+    bounds_known c.args.self.now.interpreter.program.now c.args.location c.args.variable c.args.low.now c.args.high.now
     c.args.body.now.items (state_of c.args.run.now) (state_of c.bounds.new.run) (state_of c.search_turns.new.run) c.in-Ok.numbers.next
-    c.in-Ok.numbers.last c.search_turns.result c.in-Ok.ensures.bounds c.search_turns.ensures.known
+    c.in-Ok.numbers.last c.search_turns.result c.in-Ok.ensures.bounds (c.search_turns.ensures.known c.args.location)
 
 pub search_statement-returns-in-For-clause-known :
     goal.search_statement-returns-in-For-clause-known
@@ -78,3 +79,24 @@ search_turns-turns-preserved g t c =
       omega (arith, a, b, d),
       c.in_default-search_block.ensures.within,
     )
+
+pub search_block-loop-s-preserved : goal.search_block-loop-s-preserved
+search_block-loop-s-preserved g t c =
+    let i = c.loop-s.invariant in
+    let a = i.1 in
+    let d = c.in_default.ensures.grows in (
+      block_goes c.args.self.now.interpreter.program.now c.deref-s-items.result.now c.loop-s.s-index _ (state_of c.args.run.now)
+          (state_of c.loop-s.run) (state_of c.search_statement.new.run) i.0 c.loop-s-test.true c.s-item.is c.in_default.ensures.known,
+      omega (arith, a, d),
+      c.in_default.ensures.within,
+      i.3,
+    )
+
+pub search_while-returns-in-Some-clause-known : goal.search_while-returns-in-Some-clause-known
+search_while-returns-in-Some-clause-known g t c =
+    loop_cycles c.args.self.now.interpreter.program.now c.args.location c.args.test.now c.args.body.now.items
+    (state_of c.args.run.now) (state_of c.turns.run) (state_of c.test.new.run) (state_of c.search_block.new.run) c.turns.keeper.kept
+    c.in-Some.cycle refl c.turns.invariant.0
+    (subst (λ (z : Bool). Tested c.args.self.now.interpreter.program.now c.args.location.line c.args.test.now (state_of c.turns.run)
+    (Ends z (state_of c.test.new.run))) c.if-not-holds.false c.in-Ok.ensures.tested)
+    c.in_default-search_block.ensures.known (c.find.ensures c.in-Some.cycle c.in-Some.is)

@@ -1,7 +1,8 @@
 use Rattle.std.proofs.Common.{◌≡◌, ◌≤◌, ◌-◌}
 use Rattle.pram_meaning.specs.Runs.{state_of}
 use Rattle.endless_runs.proofs.ForWalk.{InFor}
-use Rattle.endless_runs.proofs.Walk.{InBlock, InLoop}
+use Rattle.endless_runs.proofs.LoopWalk.{InLoop}
+use Rattle.endless_runs.proofs.Walk.{InBlock}
 use Rattle.endless_runs.proofs.search.Search.+search.Given as goal
 
 abbrev pub invariant-search_block-loop-s : goal.invariant-search_block-loop-s
@@ -11,7 +12,7 @@ invariant-search_block-loop-s g l =
 
 abbrev pub invariant-search_while-turns : goal.invariant-search_while-turns
 invariant-search_while-turns g l =
-    InLoop l.self.interpreter.program.now l.location.line l.test l.body.items (state_of l.fn.run) (state_of l.run) l.keeper.kept
+    InLoop l.self.interpreter.program.now l.location l.test l.body.items (state_of l.fn.run) (state_of l.run) l.keeper.kept
     × (l.fn.run.count ≤ l.run.count) × (l.run.count ≤ l.self.interpreter.bound)
 
 abbrev pub decreases-search_while-turns : goal.decreases-search_while-turns
