@@ -2,7 +2,7 @@
 
 ghost use Rattle.work_time.specs.Communication.{AccessesAreCounted, InsideAndOutsideAreAll};
 ghost use Rattle.work_time.specs.Cost.{BrentsPrinciple};
-ghost use Rattle.work_time.specs.Time.{GoingOnTakesTheBound, TimeIsTheLeastBound, TimeIsWithinTheBound};
+ghost use Rattle.work_time.specs.Time.{GoesOnBeforeTheTime, GoingOnTakesTheBound, TimeIsTheLeastBound, TimeIsWithinTheBound};
 
 /// Brent's scheduling principle: q processors need no more rounds for a run than its work divided by
 /// q, and its time.
@@ -10,13 +10,14 @@ pub fn brents_principle()
     ensures { BrentsPrinciple }
 {}
 
-/// The time of a run is at most its bound, and is the bound where the run goes on; and a program
-/// ends within a bound exactly where its time is at most that bound.
+/// The time of a run is at most its bound, and is the bound where the run goes on; and a program that ends or faults does so within a bound
+/// exactly where its time is at most that bound, and goes on within each smaller one.
 #[tactic(auto, using(crate::proofs::Timed::time_is_within_the_bound, crate::proofs::Timed::going_on_takes_the_bound))]
 pub fn time_keeps_to_the_bound()
     ensures within { TimeIsWithinTheBound }
     ensures goes_on { GoingOnTakesTheBound }
     ensures ends { TimeIsTheLeastBound }
+    ensures before { GoesOnBeforeTheTime }
 {}
 
 /// Work bounds communication: in a run that doesn't fault the words of its accesses, with p workers and of so

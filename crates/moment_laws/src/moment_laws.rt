@@ -1,0 +1,28 @@
+//! Laws of the moments of a run.
+
+ghost use Rattle.moment_laws.specs.Following.{BoundOnlyCuts, FinalIsWithin, FinalMomentsStay, GoesOnBefore, GoingOnHasTheBound};
+ghost use Rattle.moment_laws.specs.Following.{MomentsLeadToTheOutcome, StatementsAreWithin};
+
+/// The moments of a run lead from its opening state to its outcome: the first statement begins in the opening store, each other one in the
+/// store that the one before it left, as the next by its count, and the last one leaves what the outcome tells.
+#[tactic(auto, using(crate::proofs::Whole::moments_lead_to_the_outcome))]
+pub fn moments_lead_to_the_outcome()
+    ensures { MomentsLeadToTheOutcome }
+{}
+
+/// A bound only cuts: a larger one adds statements behind those of a smaller one, and none behind an end or a fault. So a run ends or faults
+/// within a bound exactly where it has at most that many statements, and goes on within each smaller one.
+#[tactic(auto, using(crate::proofs::Whole::bound_only_cuts, crate::proofs::Whole::final_moments_stay))]
+pub fn a_bound_only_cuts()
+    ensures cuts { BoundOnlyCuts }
+    ensures stay { FinalMomentsStay }
+    ensures within { FinalIsWithin }
+    ensures before { GoesOnBefore }
+{}
+
+/// A run has at most as many statements as its bound, and where it goes on as many.
+#[tactic(auto, using(crate::proofs::Whole::statements_are_within, crate::proofs::Whole::going_on_has_the_bound))]
+pub fn statements_keep_to_the_bound()
+    ensures within { StatementsAreWithin }
+    ensures goes_on { GoingOnHasTheBound }
+{}
