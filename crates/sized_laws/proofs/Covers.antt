@@ -131,13 +131,19 @@ unfolding g.Further
 further_over sizes zero text v rest is = absurd is
 further_over sizes (suc d) text v rest is = sum_over sizes (g.Further sizes d) (further_over sizes d) text v rest is
 
+-- what an expression takes, and the text behind it
+pub expression_parts : (sizes : List Size) (text : List ℕ) (v : ℕ) (rest : List ℕ) → g.IsExpression sizes text v rest → Over text rest
+expression_parts sizes text v rest is =
+    over_then text is.mid rest
+    (sum_over sizes (g.Further sizes 64) (further_over sizes 64) text v is.mid is.sum) (then_over 125 is.mid rest refl is.closed)
+
+pub how_many : (text mid rest : List ℕ) → text ≡ mid ++ rest → length text - length rest ≡ length mid
+how_many text mid rest parts = let whole = ap length parts in let both = length-append mid rest in omega (arith, whole, both)
+
 -- what an expression takes has no line end
 pub expression_over : (sizes : List Size) (text : List ℕ) (v : ℕ) (rest : List ℕ) → g.IsExpression sizes text v rest →
     ends (take (length text - length rest) text) ≡ 0
 expression_over sizes text v rest is =
-    let o : Over text rest = over_then text is.mid rest
-    (sum_over sizes (g.Further sizes 64) (further_over sizes 64) text v is.mid is.sum) (then_over 125 is.mid rest refl is.closed) in
-    let whole = ap length o.parts in
-    let both = length-append o.mid rest in
-    let many : length text - length rest ≡ length o.mid = omega (arith, whole, both) in
-    ap (λ n. ends (take n text)) many ∙ ap (λ t. ends (take (length o.mid) t)) o.parts ∙ ap ends (take-append_seam o.mid rest) ∙ o.one_line
+    let o = expression_parts sizes text v rest is in
+    ap (λ n. ends (take n text)) (how_many text o.mid rest o.parts) ∙ ap (λ t. ends (take (length o.mid) t)) o.parts
+    ∙ ap ends (take-append_seam o.mid rest) ∙ o.one_line

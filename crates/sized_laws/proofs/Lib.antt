@@ -8,3 +8,5 @@ pub mod Heads
 pub mod Names
 pub mod Again
 pub mod Grammar
+pub mod Expanding
+pub mod Exactly

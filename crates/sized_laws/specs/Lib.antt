@@ -1,3 +1,4 @@
 pub mod Lines
 pub mod Comments
 pub mod Again
+pub mod Expands

@@ -7,6 +7,7 @@ ghost use Rattle.sized_texts.specs.Expressions.{braced};
 ghost use Rattle.sized_texts.specs.Grammar.{IsExpression};
 ghost use Rattle.sized_laws.specs.Again.{ExpansionsAreFinal};
 ghost use Rattle.sized_laws.specs.Comments.{NoBraceIsLeft};
+ghost use Rattle.sized_laws.specs.Expands.{TextsAreFilled, TextsExpand};
 ghost use Rattle.sized_laws.specs.Lines.{LinesAreKept};
 
 /// An expansion has as many lines as its text, and each of its bytes stands in the line of the place that it came from.
@@ -28,4 +29,15 @@ pub fn expansions_are_final()
 pub fn expressions_are_read()
     ensures { (sizes : List Size) (text : List ℕ) (v : ℕ) (rest : List ℕ) →
         IsExpression sizes text v rest → braced sizes text ≡ Ok (v, rest) }
+{}
+
+/// A text expands to its bytes as they stand, but for expressions of the grammar in braces, which give their numbers; and to nothing else.
+/// Comments stand as they are, so size lines do too. A text without sizes is itself.
+pub fn expansions_are_exact()
+    ensures { TextsExpand }
+{}
+
+/// The same of a text that is filled.
+pub fn fillings_are_exact()
+    ensures { TextsAreFilled }
 {}
