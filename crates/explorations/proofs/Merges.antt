@@ -6,6 +6,7 @@ use Rattle.std.proofs.lemmas.List.Folds.{list_any-append}
 use Rattle.std.proofs.lemmas.List.Sums.{fold_push}
 use Rattle.std.proofs.lemmas.Bool.Decides.{nat_tests}
 use Rattle.std.specs.List.{fold, list_any}
+use Rattle.std.specs.Option.{option_or}
 use Rattle.pram_check.specs.Checked.{Checked}
 use Rattle.work_time.specs.Cost.{time, work}
 use Rattle.work_time.specs.Steps.{run_steps}
@@ -31,6 +32,16 @@ widened_both k (Some s) (Some t) =
 none_behind : (s : Option Span) → both_spans s None ≡ s
 none_behind None = refl
 none_behind (Some s) = refl
+
+-- ---- the first input
+
+or_behind : (o p q : Option (List ℤ)) → option_or o (option_or p q) ≡ option_or (option_or o p) q
+or_behind None p q = refl
+or_behind (Some x) p q = refl
+
+or_nothing : (o : Option (List ℤ)) → option_or o None ≡ o
+or_nothing None = refl
+or_nothing (Some x) = refl
 
 -- ---- faults
 
@@ -106,6 +117,7 @@ merged_more f g (Ended output memory) t w x =
       faulted = f.faulted + g.faulted;
       go_on = f.go_on + g.go_on;
       faults = fold noted f.faults g.faults;
+      goes_on_at = option_or f.goes_on_at g.goes_on_at;
       time = widened_both t f.time g.time i;
       work = widened_both w f.work g.work i;
     }
@@ -119,6 +131,7 @@ merged_more f g (Faulted fault output) t w x =
       faulted = faults i;
       go_on = f.go_on + g.go_on;
       faults = noted_by f.faults g.faults m (is_there g.faults m) refl i;
+      goes_on_at = option_or f.goes_on_at g.goes_on_at;
       time = both_spans f.time g.time;
       work = both_spans f.work g.work;
     }
@@ -131,6 +144,7 @@ merged_more f g (GoesOn output) t w x =
       faulted = f.faulted + g.faulted;
       go_on = goes i;
       faults = fold noted f.faults g.faults;
+      goes_on_at = or_behind f.goes_on_at g.goes_on_at (Some x) i;
       time = both_spans f.time g.time;
       work = both_spans f.work g.work;
     }
@@ -144,6 +158,7 @@ merged_none f =
       faulted = zero f.faulted i;
       go_on = zero f.go_on i;
       faults = f.faults;
+      goes_on_at = or_nothing f.goes_on_at i;
       time = none_behind f.time i;
       work = none_behind f.work i;
     }

@@ -5,7 +5,8 @@ use Rattle.std.proofs.lemmas.List.{append-nil, length_push, map_push}
 use Rattle.std.proofs.lemmas.List.Elements.{filter-append, filter_map-append}
 use Rattle.std.proofs.lemmas.List.Sums.{fold_push}
 use Rattle.std.specs.List.{cons_option, filter, filter_map}
-use Rattle.std.specs.Option.{option_map}
+use Rattle.std.specs.Option.{option_map, option_or}
+use Rattle.std.specs.Prelude.{slice_get}
 use Rattle.pram_check.specs.Checked.{Checked}
 use Rattle.work_time.specs.Cost.{time, work}
 use Rattle.work_time.specs.Steps.{run_steps}
@@ -35,6 +36,10 @@ spanned [] k = refl
 spanned (j ∷ ks) k =
     λ i. Some (record { least = (fold_push min j ks k) i; greatest = (fold_push max j ks k) i })
 
+pub first_push : (ys : List (List ℤ)) (x : List ℤ) → slice_get (ys ++ x ∷ []) 0 ≡ option_or (slice_get ys 0) (Some x)
+first_push [] x = refl
+first_push (y ∷ ys) x = refl
+
 -- the numbers of those that end, with one more
 numbered : (g : List ℤ → ℕ) (es fs : List (List ℤ)) (x : List ℤ) → fs ≡ es ++ x ∷ [] →
     span_of (map g fs) ≡ widened (g x) (span_of (map g es))
@@ -57,6 +62,7 @@ added_is p n xs x (Ended output memory) e =
       faulted = length (meets i);
       go_on = length (goes i);
       faults = firsts (meets i);
+      goes_on_at = slice_get (goes i) 0;
       time = (numbered (λ (y : List ℤ). time (run_steps p y n)) (ending p n xs) (ending p n (xs ++ x ∷ [])) x ends) i;
       work = (numbered (λ (y : List ℤ). work (run_steps p y n)) (ending p n xs) (ending p n (xs ++ x ∷ [])) x ends) i;
     }
@@ -72,6 +78,7 @@ added_is p n xs x (Faulted fault output) e =
       faulted = (ap (λ (ys : List Met). length ys) meets ∙ length_push (met p n xs) m) i;
       go_on = length (goes i);
       faults = (ap firsts meets ∙ one_more (met p n xs) m) i;
+      goes_on_at = slice_get (goes i) 0;
       time = (unchanged (λ (y : List ℤ). time (run_steps p y n)) (ending p n xs) (ending p n (xs ++ x ∷ [])) ends) i;
       work = (unchanged (λ (y : List ℤ). work (run_steps p y n)) (ending p n xs) (ending p n (xs ++ x ∷ [])) ends) i;
     }
@@ -86,6 +93,7 @@ added_is p n xs x (GoesOn output) e =
       faulted = length (meets i);
       go_on = (ap (λ (ys : List (List ℤ)). length ys) goes ∙ length_push (going_on p n xs) x) i;
       faults = firsts (meets i);
+      goes_on_at = (ap (λ (ys : List (List ℤ)). slice_get ys 0) goes ∙ first_push (going_on p n xs) x) i;
       time = (unchanged (λ (y : List ℤ). time (run_steps p y n)) (ending p n xs) (ending p n (xs ++ x ∷ [])) ends) i;
       work = (unchanged (λ (y : List ℤ). work (run_steps p y n)) (ending p n xs) (ending p n (xs ++ x ∷ [])) ends) i;
     }

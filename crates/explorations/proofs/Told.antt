@@ -6,11 +6,13 @@ use Rattle.std.proofs.lemmas.List.Elements.{All-cons, All-filter, All-head, All-
 use Rattle.std.proofs.lemmas.List.Kept.{AllPairs-cons, AllPairs-filter}
 use Rattle.std.specs.List.{All, AllPairs, Contains, cons_option, filter, list_any}
 use Rattle.std.specs.Option.{option_map}
+use Rattle.std.specs.Prelude.{◌↔◌, slice_get}
 use Rattle.pram_check.specs.Checked.{Checked}
 use Rattle.write_rules.specs.declared.fault.Fault.{Fault}
 use Rattle.write_rules.specs.Verdict.{Verdict, Ended, Faulted, GoesOn}
 use Rattle.explorations.specs.Firsts.{Met, are_alike, firsts}
 use Rattle.explorations.specs.Found.{ending, fault_of, found, going_on, is_end, is_going_on, met, met_on, verdict_on}
+use Rattle.explorations.specs.Told.{IsFirstGoingOn}
 use Rattle.explorations.proofs.FirstFaults.{any_kept}
 
 -- ---- how many
@@ -180,3 +182,40 @@ first_told p n before after input f h none =
     ∙ ap (λ (o : Option Met). met p n before ++ cons_option o (met p n after)) (met_at p n input f h) in
     subst (λ (ms : List Met). Contains (firsts ms) m) (sym split)
     (first_kept (met p n before) m (met p n after) (unlike_all p n f before none))
+
+-- ---- the first input on which the run goes on
+
+going_step : (p : Checked) (n : ℕ) (x : List ℤ) (xs : List (List ℤ)) (input : List ℤ) (b : Bool) → is_going_on (verdict_on p n x) ≡ b →
+    (slice_get (going_on p n xs) 0 ≡ Some input → IsFirstGoingOn p n xs input) →
+    slice_get (cond b (x ∷ going_on p n xs) (going_on p n xs)) 0 ≡ Some input → IsFirstGoingOn p n (x ∷ xs) input
+going_step p n x xs input true e further h =
+    let same : x ≡ input = cc h in
+    record {
+      before = [];
+      behind = xs;
+      all = ap (λ (y : List ℤ). y ∷ xs) same;
+      over = All-nil (λ (y : List ℤ). is_going_on (verdict_on p n y) ≡ false);
+      goes_on = ap (λ (y : List ℤ). is_going_on (verdict_on p n y)) (sym same) ∙ e;
+    }
+going_step p n x xs input false e further h =
+    let f = further h in
+    record {
+      before = x ∷ f.before;
+      behind = f.behind;
+      all = ap (λ (ys : List (List ℤ)). x ∷ ys) f.all;
+      over = All-cons (λ (y : List ℤ). is_going_on (verdict_on p n y) ≡ false) x f.before e f.over;
+      goes_on = f.goes_on;
+    }
+
+pub first_goes_on : (p : Checked) (n : ℕ) (inputs : List (List ℤ)) (input : List ℤ) → (found p n inputs).goes_on_at ≡ Some input →
+    IsFirstGoingOn p n inputs input
+first_goes_on p n [] input h = absurd (cc h)
+first_goes_on p n (x ∷ xs) input h =
+    going_step p n x xs input (is_going_on (verdict_on p n x)) refl (first_goes_on p n xs input) h
+
+none_there : (ys : List (List ℤ)) → (slice_get ys 0 ≡ None) ↔ (length ys ≡ 0)
+none_there [] = (λ h. refl, λ h. refl)
+none_there (y ∷ ys) = (λ h. absurd (cc h), λ h. absurd (omega (arith, h)))
+
+pub none_goes_on : (p : Checked) (n : ℕ) (inputs : List (List ℤ)) → ((found p n inputs).goes_on_at ≡ None) ↔ ((found p n inputs).go_on ≡ 0)
+none_goes_on p n inputs = none_there (going_on p n inputs)

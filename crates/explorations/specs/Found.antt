@@ -1,7 +1,8 @@
 -- What is found of the runs of a program on inputs.
-use Rattle.std.specs.Prelude.{ℕ, ◌+◌, min, max, Bool, true, false, Option, Some, None, List, [], ◌∷◌, ℤ, map, length}
+use Rattle.std.specs.Global.{Global}
+use Rattle.std.specs.Prelude.{ℕ, ◌+◌, min, max, Bool, true, false, Option, Some, None, List, [], ◌∷◌, ℤ, Vec, map, length, slice_get}
 use Rattle.std.specs.List.{filter, filter_map, fold}
-use Rattle.std.specs.Option.{option_map}
+use Rattle.std.specs.Option.{option_map, option_or}
 use Rattle.pram_check.specs.Checked.{Checked}
 use Rattle.pram_meaning.specs.Computed.{body_done, verdict_at}
 use Rattle.work_time.specs.Cost.{time, work}
@@ -69,10 +70,11 @@ pub record Found : Type 0 where
   pub faulted : ℕ
   pub go_on : ℕ
   pub faults : List Met
+  pub goes_on_at : Option (List ℤ)
   pub time : Option Span
   pub work : Option Span
 
--- of a program's runs on these inputs, within so many statements each
+-- of a program's runs on these inputs, within so many statements each; the first on which the run goes on is told
 abbrev pub found : Checked → ℕ → List (List ℤ) → Found
 found p n inputs = record {
   inputs = length inputs;
@@ -80,6 +82,7 @@ found p n inputs = record {
   faulted = length (met p n inputs);
   go_on = length (going_on p n inputs);
   faults = firsts (met p n inputs);
+  goes_on_at = slice_get (going_on p n inputs) 0;
   time = span_of (times p n inputs);
   work = span_of (works p n inputs);
 }
@@ -89,6 +92,9 @@ found p n inputs = record {
 abbrev pub met_is : FoundFault → Met
 met_is f = record { fault = f.fault; input = f.input.items }
 
+abbrev pub values_of : Vec ℤ Global → List ℤ
+values_of input = input.items
+
 abbrev pub found_is : Findings → Found
 found_is f = record {
   inputs = f.inputs;
@@ -96,6 +102,7 @@ found_is f = record {
   faulted = f.faulted;
   go_on = f.go_on;
   faults = map met_is f.faults.items;
+  goes_on_at = option_map values_of f.goes_on_at;
   time = f.time;
   work = f.work;
 }
@@ -104,7 +111,7 @@ found_is f = record {
 
 -- nothing yet
 abbrev pub nothing : Found
-nothing = record { inputs = 0; ended = 0; faulted = 0; go_on = 0; faults = []; time = None; work = None }
+nothing = record { inputs = 0; ended = 0; faulted = 0; go_on = 0; faults = []; goes_on_at = None; time = None; work = None }
 
 abbrev pub widened : ℕ → Option Span → Option Span
 widened k None = Some (record { least = k; greatest = k })
@@ -117,11 +124,12 @@ abbrev pub faulted_more : Fault → List ℤ → Found → Found
 faulted_more k input f =
     record f { inputs = f.inputs + 1; faulted = f.faulted + 1; faults = noted f.faults (record { fault = k; input = input }) }
 
-abbrev pub going_on_more : Found → Found
-going_on_more f = record f { inputs = f.inputs + 1; go_on = f.go_on + 1 }
+abbrev pub going_on_more : List ℤ → Found → Found
+going_on_more input f =
+    record f { inputs = f.inputs + 1; go_on = f.go_on + 1; goes_on_at = option_or f.goes_on_at (Some input) }
 
 -- by how the run came out, its time and its work
 abbrev pub added : Verdict → (time work : ℕ) → List ℤ → Found → Found
 added (Ended output memory) t w input f = ended_more t w f
 added (Faulted fault output) t w input f = faulted_more fault input f
-added (GoesOn output) t w input f = going_on_more f
+added (GoesOn output) t w input f = going_on_more input f

@@ -1,3 +1,4 @@
 pub mod Firsts
 pub mod Found
 pub mod Merged
+pub mod Told

@@ -10,6 +10,7 @@ ghost use Rattle.explorations.specs.declared.findings.Span as rust;
 ghost use Rattle.explorations.specs.Firsts.{are_alike};
 ghost use Rattle.explorations.specs.Found.{fault_of, found, span_of, verdict_on};
 ghost use Rattle.explorations.specs.Merged.{merged};
+ghost use Rattle.explorations.specs.Told.{IsFirstGoingOn};
 
 /// What a run comes to is its outcome; and each run is counted once, as one that ends, faults or goes on.
 pub fn every_run_is_counted()
@@ -31,6 +32,14 @@ pub fn the_first_faults_are_told()
         fault_of (verdict_on p n input) ≡ Some f →
         All (λ x. (g : Fault) → fault_of (verdict_on p n x) ≡ Some g → are_alike g f ≡ false) before →
         Contains (found p n (before ++ input ∷ behind)).faults (record { fault = f; input = input }) }
+{}
+
+/// The input that is told as one on which the run goes on is the first of these, and none is told exactly where there is none.
+pub fn the_first_that_goes_on_is_told()
+    ensures first { (p : Checked) (n : ℕ) (inputs : List (List ℤ)) (input : List ℤ) → (found p n inputs).goes_on_at ≡ Some input →
+        IsFirstGoingOn p n inputs input }
+    ensures none { (p : Checked) (n : ℕ) (inputs : List (List ℤ)) →
+        ((found p n inputs).goes_on_at ≡ None) ↔ ((found p n inputs).go_on ≡ 0) }
 {}
 
 /// A span is of the least and the greatest of the numbers, which are among them; there is none of no numbers.

@@ -19,8 +19,8 @@ pub struct Span {
 }
 
 /// What is found of the runs of a program on some inputs: how many inputs there are, on how many the run ends, faults and goes on; of each
-/// kind of fault at each line the first one, in the order in which they are met; and the time and the work of the runs that end, where
-/// any does.
+/// kind of fault at each line the first one, in the order in which they are met; the first input on which the run goes on, if there is one;
+/// and the time and the work of the runs that end, where any does.
 #[derive(Drop)]
 pub struct Findings {
     pub inputs: u64,
@@ -28,6 +28,7 @@ pub struct Findings {
     pub faulted: u64,
     pub go_on: u64,
     pub faults: Vec<FoundFault>,
+    pub goes_on_at: Option<Vec<i64>>,
     pub time: Option<Span>,
     pub work: Option<Span>,
     ghost parts: { ended + (faulted + go_on) ≡ inputs },

@@ -4,6 +4,7 @@
 pub mod exploration_laws;
 mod exploring;
 pub mod findings;
+mod going_on;
 pub mod kinds;
 mod merging;
 mod noting;

@@ -8,6 +8,7 @@ ghost use Rattle.explorations.specs.Merged.{merged};
 ghost use Rattle.explorations.specs.Merged as spec;
 
 use crate::findings::{Findings, FoundFault, Span};
+use crate::going_on::keep_first;
 use crate::noting::is_met;
 use std::alloc::AllocError;
 
@@ -55,6 +56,7 @@ impl Findings {
         ensures { OnOk result (found_is self.new ≡ merged (found_is self.old) (found_is others)) }
     {
         keep_all(&mut self.faults, others.faults)?;
+        keep_first(&mut self.goes_on_at, others.goes_on_at);
         self.time = both_spans(self.time, others.time);
         self.work = both_spans(self.work, others.work);
         self.ended += others.ended;

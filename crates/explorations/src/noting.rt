@@ -7,6 +7,7 @@ ghost use Rattle.explorations.specs.Firsts.{are_alike, noted};
 ghost use Rattle.explorations.specs.Found.{added, ended_more, faulted_more, found_is, going_on_more, met_is, nothing};
 
 use crate::findings::{Findings, FoundFault};
+use crate::going_on::keep_going_on;
 use crate::kinds::is_alike;
 use crate::span::with_number;
 use std::alloc::{AllocError, Global};
@@ -54,6 +55,7 @@ impl Findings {
             faulted: 0,
             go_on: 0,
             faults: Vec::new(alloc),
+            goes_on_at: None,
             time: None,
             work: None,
         }
@@ -82,12 +84,14 @@ impl Findings {
     }
 
     // A run that went on at its bound.
-    fn add_going_on(&mut self)
+    fn add_going_on(&mut self, alloc: Global, input: &[i64]) -> Result<(), AllocError>
         requires room { self.old.inputs + 1 < 2 ^ 64 }
-        ensures { found_is self.new ≡ going_on_more (found_is self.old) }
+        ensures { OnOk result (found_is self.new ≡ going_on_more input.now (found_is self.old)) }
     {
+        keep_going_on(alloc, &mut self.goes_on_at, input)?;
         self.go_on += 1;
         self.inputs += 1;
+        Ok(())
     }
 
     /// Notes a run on an input more: how it came out, and its time and work.
@@ -105,7 +109,7 @@ impl Findings {
         match outcome {
             Outcome::Ended { .. } => self.add_end(time, work),
             Outcome::Faulted { fault, .. } => self.add_fault(alloc, *fault, input)?,
-            Outcome::GoesOn { .. } => self.add_going_on(),
+            Outcome::GoesOn { .. } => self.add_going_on(alloc, input)?,
         }
         Ok(())
     }
