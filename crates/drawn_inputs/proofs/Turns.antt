@@ -1,5 +1,5 @@
 -- One word more of a generator.
-use Rattle.std.proofs.Common.{◌≡◌, ◌++◌, ◌∷◌, [], ◌∙◌, ◌+◌, ◌-◌, ◌<◌, suc, List, length, length-append, ap, append_assoc, arith, map, refl, subst, sym, ℕ, ℤ}
+use Rattle.std.proofs.Common.{◌≡◌, ◌++◌, ◌∷◌, [], ◌∙◌, ◌+◌, ◌-◌, ◌<◌, ◌≤◌, zero, suc, List, length, length-append, ap, append_assoc, arith, map, refl, subst, sym, take, ℕ, ℤ}
 use Rattle.std.proofs.lemmas.List.{append-nil}
 use Rattle.std.proofs.lemmas.List.Elements.{All-push}
 use Rattle.std.specs.List.{All}
@@ -7,7 +7,7 @@ use Rattle.std.specs.Prelude.{◌≤ℤ◌, ◌^◌}
 use Rattle.rand_core.specs.Steps.{first_words, u64_via_u32}
 use Rattle.rand_pcg.specs.Lcg.{Lcg}
 use Rattle.rand_pcg.specs.Pcg.{pcg32}
-use Rattle.drawn_inputs.specs.Drawn.{IsWithin, drawn, number_of, words}
+use Rattle.drawn_inputs.specs.Drawn.{IsWithin, drawn, generator, number_of, words}
 use Rattle.drawn_inputs.proofs.Parts.{is_within}
 
 words_more : {S : Type 0} (step : S → ℕ × S) (k : ℕ) (s : S) → first_words step (suc k) s ≡ (step s).0 ∷ first_words step k (step s).1
@@ -62,3 +62,16 @@ pub all_drawn : (low high : ℤ) (seed count : ℕ) (found : List ℤ) (turn : �
     IsDrawnTo low high seed count found turn g → found ≡ drawn low high seed count
 all_drawn low high seed count found turn g over before =
     none_left (u64_via_u32 pcg32) (number_of low high) found (drawn low high seed count) turn count g over before.drawn
+
+-- ---- fewer of them
+
+first_few : {S : Type 0} (step : S → ℕ × S) (f : ℕ → ℤ) (few more : ℕ) (s : S) → few ≤ more →
+    map f (first_words step few s) ≡ take few (map f (first_words step more s))
+first_few step f zero more s le = ap (map f) (words_none step s)
+first_few step f (suc k) zero s le = absurd (omega (arith, le))
+first_few step f (suc k) (suc m) s le =
+    ap (map f) (words_more step k s) ∙ ap (λ zs. f (step s).0 ∷ zs) (first_few step f k m (step s).1 (omega (arith, le)))
+    ∙ ap (λ ws. take (suc k) (map f ws)) (sym (words_more step m s))
+
+pub fewer_drawn : (low high : ℤ) (seed few more : ℕ) → few ≤ more → drawn low high seed few ≡ take few (drawn low high seed more)
+fewer_drawn low high seed few more le = first_few (u64_via_u32 pcg32) (number_of low high) few more (generator seed) le

@@ -1,6 +1,7 @@
 //! Inputs drawn at random: whole numbers of an interval, by a generator that a seed starts.
 #![tactic(auto)]
 
+pub mod draw_laws;
 mod drawing;
 mod interval;
 mod numbers;
