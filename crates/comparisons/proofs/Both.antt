@@ -30,7 +30,7 @@ one_bounds (Some (low, high)) (Some (from, to)) h =
     let highs = (Decides-int_eq high to).0 parts.1 in
     λ i. Some (lows i, highs i)
 
-one_entry : (e f : SharedEntry) → same_entry e f ≡ true → e ≡ f
+pub one_entry : (e f : SharedEntry) → same_entry e f ≡ true → e ≡ f
 one_entry e f h =
     let parts = both_true (same_text e.name f.name) (same_bounds e.bounds f.bounds) h in
     let names = same_is e.name f.name parts.0 in
@@ -46,7 +46,7 @@ bounds_itself None = refl
 bounds_itself (Some (low, high)) =
     ap (λ (b : Bool). b && int_eq high high) ((Decides-int_eq low low).1 refl) ∙ (Decides-int_eq high high).1 refl
 
-entry_itself : (e : SharedEntry) → same_entry e e ≡ true
+pub entry_itself : (e : SharedEntry) → same_entry e e ≡ true
 entry_itself e = ap (λ (b : Bool). b && same_bounds e.bounds e.bounds) (text_itself e.name) ∙ bounds_itself e.bounds
 
 -- ---- some item

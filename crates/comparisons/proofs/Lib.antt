@@ -1,5 +1,6 @@
 pub mod Both
 pub mod Commons
+pub mod Fronts
 pub mod Gone
 pub mod Inputs
 pub mod Lists

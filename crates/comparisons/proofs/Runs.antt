@@ -24,11 +24,11 @@ use Rattle.comparisons.proofs.Values.{all_same, none_unequal, one_list}
 
 -- ---- lists
 
-append_none : {X : Type 0} (xs ys : List X) → xs ++ ys ≡ [] → (xs ≡ []) × (ys ≡ [])
+pub append_none : {X : Type 0} (xs ys : List X) → xs ++ ys ≡ [] → (xs ≡ []) × (ys ≡ [])
 append_none [] ys h = (refl, h)
 append_none (x ∷ xs) ys h = absurd (cc h)
 
-map_none : {X Y : Type 0} (f : X → Y) (xs : List X) → map f xs ≡ [] → xs ≡ []
+pub map_none : {X Y : Type 0} (f : X → Y) (xs : List X) → map f xs ≡ [] → xs ≡ []
 map_none f [] h = refl
 map_none f (x ∷ xs) h = absurd (cc h)
 
@@ -64,7 +64,7 @@ kind_itself WriteConflict = refl
 
 -- ---- output and cells
 
-outputs_one : (o p : List ℤ) → output_differences o p ≡ [] → o ≡ p
+pub outputs_one : (o p : List ℤ) → output_differences o p ≡ [] → o ≡ p
 outputs_one o p h =
     let none = map_none output_difference (unequals o 0 p 0 (max (length o) (length p))) h in
     one_list o p (λ k lt. ap (slice_get o) (sym (zero-add k))
@@ -76,7 +76,7 @@ outputs_none true o p h =
     ap (map output_difference) (all_same o 0 p 0 0 (max (length o) (length p))
     (λ k le lt. ap (λ (q : List ℤ). slice_get q (0 + k)) (h refl)))
 
-cells_agree : (rs : List CommonRange) (m q : List ℤ) → cell_differences rs m q ≡ [] → AgreeOn rs m q
+pub cells_agree : (rs : List CommonRange) (m q : List ℤ) → cell_differences rs m q ≡ [] → AgreeOn rs m q
 cells_agree rs m q h = λ i d lt k inside.
     let r = get_or rs i d in
     let none = map_none (cell_difference r) (unequals m r.first_start q r.second_start r.length)
@@ -96,7 +96,7 @@ keeps_one : (told : ℕ → Difference) (taken limit : ℕ) (b : Bool) → nat_l
 keeps_one told taken limit true e h = absurd (cc h)
 keeps_one told taken limit false e h = grind (arith, nat_tests)
 
-keeps : (told : ℕ → Difference) (taken : ℕ) (limit : Option ℕ) → listed (option_map told (exceeded taken limit)) ≡ [] → IsAtMost taken limit
+pub keeps : (told : ℕ → Difference) (taken : ℕ) (limit : Option ℕ) → listed (option_map told (exceeded taken limit)) ≡ [] → IsAtMost taken limit
 keeps told taken None h = tt
 keeps told taken (Some limit) h = keeps_one told taken limit (nat_lt limit taken) refl h
 

@@ -1,92 +1,184 @@
--- What is told of two runs is so.
-use Rattle.std.proofs.Common.{◌≡◌, ℕ, ◌+◌, ◌<◌, max, nat_lt, Bool, true, false, Option, Some, None, ℤ, List, [], ◌∷◌, ◌++◌}
-use Rattle.std.proofs.Common.{get_or, length, refl, ap, sym, subst, arith, zero-add}
+-- What is told of two runs is so, and all that is told before it agrees.
+use Rattle.std.proofs.Common.{◌≡◌, ◌≢◌, ◌⊎◌, ℕ, ◌+◌, ◌<◌, max, nat_lt, Bool, true, false, Option, Some, None, ℤ, List, [], ◌∷◌, ◌++◌, map}
+use Rattle.std.proofs.Common.{length, refl, ap, sym, subst, inl, inr, ◌∙◌, arith, zero-add}
 use Rattle.std.proofs.lemmas.Bool.Decides.{nat_tests}
-use Rattle.std.proofs.lemmas.List.{get_or_default}
-use Rattle.std.proofs.lemmas.List.Elements.{All-append, All-cons, All-head, All-map, All-nil, All-tail}
-use Rattle.std.specs.List.{All, flat_map}
+use Rattle.std.proofs.lemmas.List.Elements.{All-cons, All-nil}
 use Rattle.std.specs.Option.{option_map}
 use Rattle.std.specs.Prelude.{if◌then◌else◌, slice_get}
 use Rattle.write_rules.specs.Verdict.{Verdict, Ended, Faulted, GoesOn}
+use Rattle.comparisons.specs.declared.compared.CommonRange.{CommonRange}
 use Rattle.comparisons.specs.declared.compared.Compared.{Compared}
 use Rattle.comparisons.specs.declared.difference.Difference.{Difference}
 use Rattle.comparisons.specs.declared.difference.Difference.TheVariants as differ
+use Rattle.comparisons.specs.declared.difference.Ending.{Ending}
+use Rattle.comparisons.specs.declared.difference.Ending.TheVariants as ending
 use Rattle.comparisons.specs.declared.unequal.Beside.{Beside}
-use Rattle.comparisons.specs.Differences.{Run, differences, ending_differences, ending_of, end_differences, exceeded, first_difference}
-use Rattle.comparisons.specs.Differences.{limit_differences, listed, same_ending}
+use Rattle.comparisons.specs.Differences.{Run, ending_differences, ending_of, end_differences, exceeded, first_difference}
+use Rattle.comparisons.specs.Differences.{limit_differences, listed, same_ending, same_kind}
 use Rattle.comparisons.specs.Ends.{cell_difference, cell_differences, output_difference, output_differences, range_differences}
-use Rattle.comparisons.specs.Told.{IsSo}
-use Rattle.comparisons.specs.Unequal.{unequals}
-use Rattle.comparisons.proofs.Values.{each_unequal, other_values}
+use Rattle.comparisons.specs.Told.{ComeToTheSame, IsAtMost, IsFirstCell, IsSo}
+use Rattle.comparisons.specs.Unequal.{beside, unequals}
+use Rattle.comparisons.proofs.Runs.{append_none, cells_agree, keeps, map_none, one_kind, outputs_one}
+use Rattle.comparisons.proofs.Values.{first_unequal_is, none_unequal}
 
-first_holds : {X : Type 0} (P : X → Type 0) (xs : List X) (x : X) → All P xs → slice_get xs 0 ≡ Some x → P x
-first_holds P [] x all h = absurd (cc h)
-first_holds P (y ∷ ys) x all h = let e : y ≡ x = cc h in subst P e (All-head P y ys all)
+-- ---- lists
 
-all_flat : {X Y : Type 0} (P : Y → Type 0) (f : X → List Y) (xs : List X) → All (λ (x : X). All P (f x)) xs → All P (flat_map f xs)
-all_flat P f [] h = All-nil P
-all_flat {X} P f (x ∷ xs) h =
-    All-append P (f x) (flat_map f xs) (All-head (λ (y : X). All P (f y)) x xs h)
-    (all_flat P f xs (All-tail (λ (y : X). All P (f y)) x xs h))
+-- the first of two lists is that of the one before, or this is empty
+first_of : {X : Type 0} (xs ys : List X) (x : X) → slice_get (xs ++ ys) 0 ≡ Some x →
+    (slice_get xs 0 ≡ Some x) ⊎ ((xs ≡ []) × (slice_get ys 0 ≡ Some x))
+first_of [] ys x h = inr (refl, h)
+first_of (z ∷ zs) ys x h = inl h
+
+first_mapped : {X Y : Type 0} (f : X → Y) (xs : List X) (y : Y) → slice_get (map f xs) 0 ≡ Some y →
+    (x : X) × (slice_get xs 0 ≡ Some x) × (f x ≡ y)
+first_mapped f [] y h = absurd (cc h)
+first_mapped f (x ∷ xs) y h = let e : f x ≡ y = cc h in (x, refl, e)
 
 -- ---- how they come out
 
-endings : (c : Compared) (v : Verdict) (b : Run) (e : Bool) → same_ending (ending_of v) (ending_of b.verdict) ≡ e →
-    All (IsSo c v b) (if e then [] else differ.Endings (ending_of v) (ending_of b.verdict) ∷ [])
-endings c v b true is = All-nil (IsSo c v b)
-endings c v b false is =
-    All-cons (IsSo c v b) (differ.Endings (ending_of v) (ending_of b.verdict)) [] (refl, refl, is) (All-nil (IsSo c v b))
+endings : (c : Compared) (v : Verdict) (b : Run) (e : Bool) → same_ending (ending_of v) (ending_of b.verdict) ≡ e → (d : Difference) →
+    slice_get (if e then [] else differ.Endings (ending_of v) (ending_of b.verdict) ∷ []) 0 ≡ Some d → IsSo c v b d
+endings c v b true is d h = absurd (cc h)
+endings c v b false is d h =
+    let e : differ.Endings (ending_of v) (ending_of b.verdict) ≡ d = cc h in
+    subst (IsSo c v b) e (refl, refl, is)
 
 -- ---- two ends
 
-outputs : (c : Compared) (o m p q : List ℤ) (t k : ℕ) (e : Bool) → c.output ≡ e →
-    All (IsSo c (Ended o m) (record { verdict = Ended p q; time = t; work = k })) (if e then output_differences o p else [])
-outputs c o m p q t k false is = All-nil (IsSo c (Ended o m) (record { verdict = Ended p q; time = t; work = k }))
-outputs c o m p q t k true is =
+outputs : (c : Compared) (o m p q : List ℤ) (t k : ℕ) (e : Bool) → c.output ≡ e → (d : Difference) →
+    slice_get (if e then output_differences o p else []) 0 ≡ Some d →
+    IsSo c (Ended o m) (record { verdict = Ended p q; time = t; work = k }) d
+outputs c o m p q t k false is d h = absurd (cc h)
+outputs c o m p q t k true is d h =
     let n = max (length o) (length p) in
     let P : Difference → Type 0 = IsSo c (Ended o m) (record { verdict = Ended p q; time = t; work = k }) in
-    All-map P output_difference (unequals o 0 p 0 n)
-    (each_unequal (λ (b : Beside). P (output_difference b)) o 0 p 0 0 n (λ j le lt differs. (
+    let g = first_mapped output_difference (unequals o 0 p 0 n) d h in
+    let f = first_unequal_is o 0 p 0 0 n g.0 g.1 in
+    let at = ap (slice_get o) (zero-add f.place) in
+    let other = ap (slice_get p) (zero-add f.place) in
+    let there : P (output_difference (beside o 0 p 0 f.place)) = (
       is,
       (refl, refl),
       record {
-        place = j;
+        place = f.place;
         number = refl;
-        first = ap (slice_get o) (sym (zero-add j));
-        second = ap (slice_get p) (sym (zero-add j));
+        first = sym at;
+        second = sym other;
+        agree = λ j lt. sym (ap (slice_get o) (zero-add j)) ∙ f.agree j (omega arith) lt ∙ ap (slice_get p) (zero-add j);
       },
-      other_values (slice_get o (0 + j)) (slice_get p (0 + j)) differs,
-    )))
+      f.differs,
+    ) in
+    subst P g.2 (subst (λ (b : Beside). P (output_difference b)) f.is there)
 
-cells : (c : Compared) (o m p q : List ℤ) (t k : ℕ) →
-    All (IsSo c (Ended o m) (record { verdict = Ended p q; time = t; work = k })) (cell_differences c.ranges.items m q)
-cells c o m p q t k =
-    let rs = c.ranges.items in
-    let P : Difference → Type 0 = IsSo c (Ended o m) (record { verdict = Ended p q; time = t; work = k }) in
-    all_flat P (range_differences m q) rs (λ i d lt.
-    let r = get_or rs i d in
-    All-map P (cell_difference r) (unequals m r.first_start q r.second_start r.length)
-    (each_unequal (λ (b : Beside). P (cell_difference r b)) m r.first_start q r.second_start 0 r.length (λ j le inside differs. (
-      (refl, refl),
-      record {
+-- a cell that is told
+record CellTold (rs : List CommonRange) (m q : List ℤ) (d : Difference) : Type 0 where
+  cell : ℕ
+  x : Option ℤ
+  y : Option ℤ
+  is : differ.Cell cell x y ≡ d
+  there : IsFirstCell rs m q cell x y
+  differs : x ≢ y
+
+in_range : (r : CommonRange) (rs : List CommonRange) (m q : List ℤ) (d : Difference) → slice_get (range_differences m q r) 0 ≡ Some d →
+    CellTold (r ∷ rs) m q d
+in_range r rs m q d h =
+    let g = first_mapped (cell_difference r) (unequals m r.first_start q r.second_start r.length) d h in
+    let f = first_unequal_is m r.first_start q r.second_start 0 r.length g.0 g.1 in
+    let below = f.below in
+    record {
+      cell = r.first_start + f.place;
+      x = slice_get m (r.first_start + f.place);
+      y = slice_get q (r.second_start + f.place);
+      is = ap (cell_difference r) f.is ∙ g.2;
+      there = record {
+        before = [];
         range = r;
-        place = j;
-        compared = (i, lt, get_or_default rs i r d lt);
-        within = omega arith;
+        behind = rs;
+        compared = refl;
+        place = f.place;
+        within = omega (arith, below);
         number = refl;
         first = refl;
         second = refl;
-      },
-      other_values (slice_get m (r.first_start + j)) (slice_get q (r.second_start + j)) differs,
-    ))))
+        agree = All-nil (λ (s : CommonRange). (j : ℕ) → j < s.length → slice_get m (s.first_start + j) ≡ slice_get q (s.second_start + j));
+        here = λ j lt. f.agree j (omega arith) lt;
+      };
+      differs = f.differs;
+    }
 
-ends : (c : Compared) (v w : Verdict) (t k : ℕ) →
-    All (IsSo c v (record { verdict = w; time = t; work = k })) (end_differences c.output c.ranges.items v w)
-ends c (Ended o m) (Ended p q) t k =
-    All-append (IsSo c (Ended o m) (record { verdict = Ended p q; time = t; work = k }))
-    (if c.output then output_differences o p else []) (cell_differences c.ranges.items m q)
-    (outputs c o m p q t k c.output refl) (cells c o m p q t k)
-ends c v w t k = All-nil (IsSo c v (record { verdict = w; time = t; work = k }))
+behind_range : (r : CommonRange) (rs : List CommonRange) (m q : List ℤ) (d : Difference) → range_differences m q r ≡ [] →
+    CellTold rs m q d → CellTold (r ∷ rs) m q d
+behind_range r rs m q d none g =
+    let unequal = map_none (cell_difference r) (unequals m r.first_start q r.second_start r.length) none in
+    let f = g.there in
+    record {
+      cell = g.cell;
+      x = g.x;
+      y = g.y;
+      is = g.is;
+      there = record {
+        before = r ∷ f.before;
+        range = f.range;
+        behind = f.behind;
+        compared = ap (λ (ss : List CommonRange). r ∷ ss) f.compared;
+        place = f.place;
+        within = f.within;
+        number = f.number;
+        first = f.first;
+        second = f.second;
+        agree = All-cons
+            (λ (s : CommonRange). (j : ℕ) → j < s.length → slice_get m (s.first_start + j) ≡ slice_get q (s.second_start + j))
+            r f.before
+            (λ j lt. none_unequal m r.first_start q r.second_start 0 r.length unequal j (omega arith) (omega arith)) f.agree;
+        here = f.here;
+      };
+      differs = g.differs;
+    }
+
+cell_told : (rs : List CommonRange) (m q : List ℤ) (d : Difference) → slice_get (cell_differences rs m q) 0 ≡ Some d → CellTold rs m q d
+cell_told [] m q d h = absurd (cc h)
+cell_told (r ∷ rs) m q d h =
+    elim (first_of (range_differences m q r) (cell_differences rs m q) d h) [
+      | inl here ↦ in_range r rs m q d here
+      | inr further ↦ behind_range r rs m q d further.0 (cell_told rs m q d further.1)
+    ]
+
+cells : (c : Compared) (o m p q : List ℤ) (t k : ℕ) (d : Difference) → (c.output ≡ true → o ≡ p) →
+    slice_get (cell_differences c.ranges.items m q) 0 ≡ Some d →
+    IsSo c (Ended o m) (record { verdict = Ended p q; time = t; work = k }) d
+cells c o m p q t k d agree h =
+    let g = cell_told c.ranges.items m q d h in
+    subst (IsSo c (Ended o m) (record { verdict = Ended p q; time = t; work = k })) g.is ((refl, refl), agree, g.there, g.differs)
+
+-- outputs of which nothing is told are one, where they are compared
+outputs_agree : (b : Bool) (o p : List ℤ) → (if b then output_differences o p else []) ≡ [] → b ≡ true → o ≡ p
+outputs_agree true o p none is = outputs_one o p none
+outputs_agree false o p none is = absurd (cc is)
+
+ends : (c : Compared) (v w : Verdict) (t k : ℕ) (d : Difference) → slice_get (end_differences c.output c.ranges.items v w) 0 ≡ Some d →
+    IsSo c v (record { verdict = w; time = t; work = k }) d
+ends c (Ended o m) (Ended p q) t k d h =
+    elim (first_of (if c.output then output_differences o p else []) (cell_differences c.ranges.items m q) d h) [
+      | inl item ↦ outputs c o m p q t k c.output refl d item
+      | inr cell ↦ cells c o m p q t k d (outputs_agree c.output o p cell.0) cell.1
+    ]
+ends c v w t k d h = absurd (cc h)
+
+-- ---- runs of which nothing is told
+
+one_ending : (b : Bool) (e f : Ending) → (if b then [] else differ.Endings e f ∷ []) ≡ [] → b ≡ true
+one_ending true e f h = refl
+one_ending false e f h = absurd (cc h)
+
+came : (c : Compared) (v w : Verdict) → ending_differences (ending_of v) (ending_of w) ≡ [] →
+    end_differences c.output c.ranges.items v w ≡ [] → ComeToTheSame c v w
+came c (Ended o m) (Ended p q) e h =
+    let both = append_none (if c.output then output_differences o p else []) (cell_differences c.ranges.items m q) h in
+    (outputs_agree c.output o p both.0, cells_agree c.ranges.items m q both.1)
+came c (Faulted f o) (Faulted g p) e h =
+    one_kind f.kind g.kind (one_ending (same_kind f.kind g.kind) (ending.Faulted f) (ending.Faulted g) e)
+came c (GoesOn o) (GoesOn p) e h = tt
+came c _ _ e h = absurd (cc e)
 
 -- ---- limits
 
@@ -94,46 +186,60 @@ above : (taken limit : ℕ) → nat_lt limit taken ≡ true → limit < taken
 above taken limit h = grind (arith, nat_tests)
 
 times : (c : Compared) (v : Verdict) (p q : List ℤ) (t k : ℕ) (limit : Option ℕ) → c.limits.time ≡ limit →
-    All (IsSo c v (record { verdict = Ended p q; time = t; work = k })) (listed (option_map (differ.Time t) (exceeded t limit)))
-times c v p q t k None is = All-nil (IsSo c v (record { verdict = Ended p q; time = t; work = k }))
-times c v p q t k (Some limit) is = step (nat_lt limit t) refl
+    ComeToTheSame c v (Ended p q) → (d : Difference) →
+    slice_get (listed (option_map (differ.Time t) (exceeded t limit))) 0 ≡ Some d →
+    IsSo c v (record { verdict = Ended p q; time = t; work = k }) d
+times c v p q t k None is same d h = absurd (cc h)
+times c v p q t k (Some limit) is same d h = step (nat_lt limit t) refl h
   where
     P : Difference → Type 0
     P = IsSo c v (record { verdict = Ended p q; time = t; work = k })
 
-    step : (b : Bool) → nat_lt limit t ≡ b → All P (listed (option_map (differ.Time t) (if b then Some limit else None)))
-    step true e = All-cons P (differ.Time t limit) [] (refl, refl, is, above t limit e) (All-nil P)
-    step false e = All-nil P
+    step : (b : Bool) → nat_lt limit t ≡ b →
+        slice_get (listed (option_map (differ.Time t) (if b then Some limit else None))) 0 ≡ Some d → P d
+    step true e h = let told : differ.Time t limit ≡ d = cc h in subst P told (same, refl, refl, is, above t limit e)
+    step false e h = absurd (cc h)
 
 works : (c : Compared) (v : Verdict) (p q : List ℤ) (t k : ℕ) (limit : Option ℕ) → c.limits.work ≡ limit →
-    All (IsSo c v (record { verdict = Ended p q; time = t; work = k })) (listed (option_map (differ.Work k) (exceeded k limit)))
-works c v p q t k None is = All-nil (IsSo c v (record { verdict = Ended p q; time = t; work = k }))
-works c v p q t k (Some limit) is = step (nat_lt limit k) refl
+    ComeToTheSame c v (Ended p q) → IsAtMost t c.limits.time → (d : Difference) →
+    slice_get (listed (option_map (differ.Work k) (exceeded k limit))) 0 ≡ Some d →
+    IsSo c v (record { verdict = Ended p q; time = t; work = k }) d
+works c v p q t k None is same kept d h = absurd (cc h)
+works c v p q t k (Some limit) is same kept d h = step (nat_lt limit k) refl h
   where
     P : Difference → Type 0
     P = IsSo c v (record { verdict = Ended p q; time = t; work = k })
 
-    step : (b : Bool) → nat_lt limit k ≡ b → All P (listed (option_map (differ.Work k) (if b then Some limit else None)))
-    step true e = All-cons P (differ.Work k limit) [] (refl, refl, is, above k limit e) (All-nil P)
-    step false e = All-nil P
+    step : (b : Bool) → nat_lt limit k ≡ b →
+        slice_get (listed (option_map (differ.Work k) (if b then Some limit else None))) 0 ≡ Some d → P d
+    step true e h = let told : differ.Work k limit ≡ d = cc h in subst P told (same, kept, refl, refl, is, above k limit e)
+    step false e h = absurd (cc h)
 
-limits : (c : Compared) (v w : Verdict) (t k : ℕ) →
-    All (IsSo c v (record { verdict = w; time = t; work = k })) (limit_differences c.limits (record { verdict = w; time = t; work = k }))
-limits c v (Ended p q) t k =
-    All-append (IsSo c v (record { verdict = Ended p q; time = t; work = k }))
-    (listed (option_map (differ.Time t) (exceeded t c.limits.time))) (listed (option_map (differ.Work k) (exceeded k c.limits.work)))
-    (times c v p q t k c.limits.time refl) (works c v p q t k c.limits.work refl)
-limits c v (Faulted f p) t k = All-nil (IsSo c v (record { verdict = Faulted f p; time = t; work = k }))
-limits c v (GoesOn p) t k = All-nil (IsSo c v (record { verdict = GoesOn p; time = t; work = k }))
+limits : (c : Compared) (v w : Verdict) (t k : ℕ) (d : Difference) → ComeToTheSame c v w →
+    slice_get (limit_differences c.limits (record { verdict = w; time = t; work = k })) 0 ≡ Some d →
+    IsSo c v (record { verdict = w; time = t; work = k }) d
+limits c v (Ended p q) t k d same h =
+    let time = listed (option_map (differ.Time t) (exceeded t c.limits.time)) in
+    let work = listed (option_map (differ.Work k) (exceeded k c.limits.work)) in
+    elim (first_of time work d h) [
+      | inl more ↦ times c v p q t k c.limits.time refl same d more
+      | inr more ↦ works c v p q t k c.limits.work refl same (keeps (differ.Time t) t c.limits.time more.0) d more.1
+    ]
+limits c v (Faulted f p) t k d same h = absurd (cc h)
+limits c v (GoesOn p) t k d same h = absurd (cc h)
 
 -- ---- all of it
 
 pub told_is_so : (c : Compared) (v : Verdict) (b : Run) (d : Difference) → first_difference c v b ≡ Some d → IsSo c v b d
 told_is_so c v b d h =
-    let P : Difference → Type 0 = IsSo c v b in
     let front = ending_differences (ending_of v) (ending_of b.verdict) in
     let middle = end_differences c.output c.ranges.items v b.verdict in
     let rest = limit_differences c.limits b in
-    first_holds P (differences c v b) d
-    (All-append P front (middle ++ rest) (endings c v b (same_ending (ending_of v) (ending_of b.verdict)) refl)
-    (All-append P middle rest (ends c v b.verdict b.time b.work) (limits c v b.verdict b.time b.work))) h
+    elim (first_of front (middle ++ rest) d h) [
+      | inl e ↦ endings c v b (same_ending (ending_of v) (ending_of b.verdict)) refl d e
+      | inr further ↦
+          elim (first_of middle rest d further.1) [
+            | inl e ↦ ends c v b.verdict b.time b.work d e
+            | inr last ↦ limits c v b.verdict b.time b.work d (came c v b.verdict further.0 last.0) last.1
+          ]
+    ]

@@ -4,11 +4,9 @@ use Rattle.std.proofs.Common.{◌∷◌}
 use Rattle.std.proofs.Common.{length, refl, ap, sym, subst, inl, inr, ◌∙◌, arith}
 use Rattle.std.proofs.lemmas.Bool.{cases_lt}
 use Rattle.std.proofs.lemmas.Bool.Decides.{Decides-int_eq}
-use Rattle.std.proofs.lemmas.List.Elements.{All-cons, All-nil}
-use Rattle.std.specs.List.{All}
 use Rattle.std.specs.Prelude.{slice_get}
 use Rattle.comparisons.specs.declared.unequal.Beside.{Beside}
-use Rattle.comparisons.specs.Unequal.{beside, is_unequal, same_value}
+use Rattle.comparisons.specs.Unequal.{beside, same_value}
 use Rattle.comparisons.proofs.Unequals.{unequals_from}
 
 -- ---- one place
@@ -77,17 +75,52 @@ one_list (x ∷ xs) (y ∷ ys) h =
     let tail = one_list xs ys (λ k lt. h (suc k) (omega arith)) in
     λ i. head i ∷ tail i
 
--- ---- places that differ
+-- ---- the first place that differs
 
-unequal_step : (P : Beside → Type 0) (b : Beside) (rest : List Beside) (v : Bool) → is_unequal b ≡ v → (is_unequal b ≡ true → P b) →
-    All P rest → All P (cond v (b ∷ rest) rest)
-unequal_step P b rest true e h all = All-cons P b rest (h e) all
-unequal_step P b rest false e h all = all
+-- one of n places from a on has that; there the lists differ, and at those before it they have the same
+pub record IsFirstUnequal (xs : List ℤ) (s : ℕ) (ys : List ℤ) (t a n : ℕ) (b : Beside) : Type 0 where
+  pub place : ℕ
+  pub is : beside xs s ys t place ≡ b
+  pub above : a ≤ place
+  pub below : place < a + n
+  pub differs : slice_get xs (s + place) ≢ slice_get ys (t + place)
+  pub agree : (k : ℕ) → a ≤ k → k < place → SameAt xs s ys t k
 
-pub each_unequal : (P : Beside → Type 0) (xs : List ℤ) (s : ℕ) (ys : List ℤ) (t a n : ℕ) →
-    ((k : ℕ) → a ≤ k → k < a + n → is_unequal (beside xs s ys t k) ≡ true → P (beside xs s ys t k)) →
-    All P (unequals_from xs s ys t a n)
-each_unequal P xs s ys t a zero h = All-nil P
-each_unequal P xs s ys t a (suc n) h =
-    unequal_step P (beside xs s ys t a) (unequals_from xs s ys t (a + 1) n) (is_unequal (beside xs s ys t a)) refl
-    (h a (omega arith) (omega arith)) (each_unequal P xs s ys t (a + 1) n (λ k le lt. h k (omega arith) (omega arith)))
+first_step : (xs : List ℤ) (s : ℕ) (ys : List ℤ) (t a n : ℕ) (b : Beside) (v : Bool) →
+    same_value (slice_get xs (s + a)) (slice_get ys (t + a)) ≡ v →
+    (slice_get (unequals_from xs s ys t (a + 1) n) 0 ≡ Some b → IsFirstUnequal xs s ys t (a + 1) n b) →
+    slice_get (cond (not v) (beside xs s ys t a ∷ unequals_from xs s ys t (a + 1) n) (unequals_from xs s ys t (a + 1) n)) 0 ≡ Some b →
+    IsFirstUnequal xs s ys t a (suc n) b
+first_step xs s ys t a n b true e further h =
+    let f = further h in
+    let above = f.above in
+    let below = f.below in
+    record {
+      place = f.place;
+      is = f.is;
+      above = omega (arith, above);
+      below = omega (arith, below);
+      differs = f.differs;
+      agree = λ k le lt. elim (cases_lt a k) [
+        | inl behind ↦ f.agree k (omega arith) lt
+        | inr here ↦
+            let at : a ≡ k = omega arith in
+            subst (SameAt xs s ys t) at (one_value (slice_get xs (s + a)) (slice_get ys (t + a)) e)
+      ];
+    }
+first_step xs s ys t a n b false e further h =
+    let is : beside xs s ys t a ≡ b = cc h in
+    record {
+      place = a;
+      is = is;
+      above = omega arith;
+      below = omega arith;
+      differs = other_values (slice_get xs (s + a)) (slice_get ys (t + a)) (ap not e);
+      agree = λ k le lt. absurd (omega arith);
+    }
+
+pub first_unequal_is : (xs : List ℤ) (s : ℕ) (ys : List ℤ) (t a n : ℕ) (b : Beside) → slice_get (unequals_from xs s ys t a n) 0 ≡ Some b →
+    IsFirstUnequal xs s ys t a n b
+first_unequal_is xs s ys t a zero b h = absurd (cc h)
+first_unequal_is xs s ys t a (suc n) b h =
+    first_step xs s ys t a n b (same_value (slice_get xs (s + a)) (slice_get ys (t + a))) refl (first_unequal_is xs s ys t (a + 1) n b) h

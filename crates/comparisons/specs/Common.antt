@@ -1,5 +1,5 @@
 -- What two programs both declare: the declarations of one name with the same bounds, and their cells.
-use Rattle.std.specs.Prelude.{◌≡◌, ℕ, ◌+◌, ℤ, Bool, true, false, ◌&&◌, List, [], ◌∷◌, ◌++◌, Option, Some, None, map}
+use Rattle.std.specs.Prelude.{◌≡◌, ℕ, ◌+◌, ℤ, Bool, true, false, ◌&&◌, List, [], ◌∷◌, ◌++◌, Option, Some, None, map, if◌then◌else◌}
 use Rattle.std.specs.List.{filter_map, find}
 use Rattle.std.specs.Option.{option_map}
 use Rattle.std.specs.Ordering.{int_eq}
@@ -59,6 +59,21 @@ is_named name s = same_text s.entry.name name
 
 abbrev pub common_named : (first second : List SharedEntry) → List ℕ → Option CommonRange
 common_named first second name = option_map range_of (find (is_named name) (shared first second))
+
+-- ---- where both begin
+
+-- the declarations with which both begin: the longest beginning that they have in common
+abbrev pub front : (first second : List SharedEntry) → List SharedEntry
+front [] second = []
+front (e ∷ es) [] = []
+front (e ∷ es) (f ∷ fs) = if same_entry e f then e ∷ front es fs else []
+
+-- the cells of these, which have the same numbers in both
+abbrev pub front_cells : (first second : List SharedEntry) → ℕ
+front_cells first second = total_size (front first second)
+
+abbrev pub IsBeginning : (before all : List SharedEntry) → Type 0
+IsBeginning before all = (behind : List SharedEntry) × (all ≡ before ++ behind)
 
 -- ---- where a declaration stands
 

@@ -1,6 +1,6 @@
 -- What a comparison says of two runs.
 use Rattle.std.specs.Prelude.{◌≡◌, ◌≢◌, ◌≤◌, ◌<◌, ℕ, ◌+◌, ℤ, true, false, List, [], ◌∷◌, ◌++◌, Option, Some, None, length, slice_get}
-use Rattle.std.specs.List.{All, Contains}
+use Rattle.std.specs.List.{All}
 use Rattle.pram_check.specs.Checked.{Checked}
 use Rattle.write_rules.specs.Verdict.{Verdict, Ended, Faulted, GoesOn}
 use Rattle.explorations.specs.Found.{is_end}
@@ -48,34 +48,43 @@ memory_of (GoesOn output) = []
 abbrev pub BothEnd : Verdict → Verdict → Type 0
 BothEnd v w = (is_end v ≡ true) × (is_end w ≡ true)
 
--- the item of that number is x in the first output, and y in the second
-pub record IsItem (o p : List ℤ) (item : ℕ) (x y : Option ℤ) : Type 0 where
+-- the item of that number is x in the first output, and y in the second; and on all items before it they agree
+pub record IsFirstItem (o p : List ℤ) (item : ℕ) (x y : Option ℤ) : Type 0 where
   pub place : ℕ
   pub number : item ≡ place + 1
   pub first : slice_get o place ≡ x
   pub second : slice_get p place ≡ y
+  pub agree : (k : ℕ) → k < place → slice_get o k ≡ slice_get p k
 
--- the cell of that number in the first program is x, and y is the one beside it in one of the ranges
-pub record IsCell (rs : List CommonRange) (m q : List ℤ) (cell : ℕ) (x y : Option ℤ) : Type 0 where
+-- The cell of that number in the first program is x, and y is the one beside it in one of the ranges. In the ranges before that one, and
+-- before it in that range, the memories agree.
+pub record IsFirstCell (rs : List CommonRange) (m q : List ℤ) (cell : ℕ) (x y : Option ℤ) : Type 0 where
+  pub before : List CommonRange
   pub range : CommonRange
+  pub behind : List CommonRange
+  pub compared : rs ≡ before ++ range ∷ behind
   pub place : ℕ
-  pub compared : Contains rs range
   pub within : place < range.length
   pub number : cell ≡ range.first_start + place
   pub first : slice_get m (range.first_start + place) ≡ x
   pub second : slice_get q (range.second_start + place) ≡ y
+  pub agree : AgreeOn before m q
+  pub here : (k : ℕ) → k < place → slice_get m (range.first_start + k) ≡ slice_get q (range.second_start + k)
 
--- two different values, or more than is allowed
+-- Two different values, and all that is told before them agrees; or more than is allowed, of runs that come to the same, and of the work
+-- where the time is kept.
 abbrev pub IsSo : Compared → Verdict → Run → Difference → Type 0
 IsSo c v b (differ.Endings e f) = (ending_of v ≡ e) × (ending_of b.verdict ≡ f) × (same_ending e f ≡ false)
 IsSo c v b (differ.Output item x y) =
-    (c.output ≡ true) × BothEnd v b.verdict × IsItem (output_of v) (output_of b.verdict) item x y × (x ≢ y)
+    (c.output ≡ true) × BothEnd v b.verdict × IsFirstItem (output_of v) (output_of b.verdict) item x y × (x ≢ y)
 IsSo c v b (differ.Cell cell x y) =
-    BothEnd v b.verdict × IsCell c.ranges.items (memory_of v) (memory_of b.verdict) cell x y × (x ≢ y)
+    BothEnd v b.verdict × (c.output ≡ true → output_of v ≡ output_of b.verdict)
+    × IsFirstCell c.ranges.items (memory_of v) (memory_of b.verdict) cell x y × (x ≢ y)
 IsSo c v b (differ.Time taken limit) =
-    (is_end b.verdict ≡ true) × (b.time ≡ taken) × (c.limits.time ≡ Some limit) × (limit < taken)
+    ComeToTheSame c v b.verdict × (is_end b.verdict ≡ true) × (b.time ≡ taken) × (c.limits.time ≡ Some limit) × (limit < taken)
 IsSo c v b (differ.Work taken limit) =
-    (is_end b.verdict ≡ true) × (b.work ≡ taken) × (c.limits.work ≡ Some limit) × (limit < taken)
+    ComeToTheSame c v b.verdict × IsAtMost b.time c.limits.time × (is_end b.verdict ≡ true) × (b.work ≡ taken)
+    × (c.limits.work ≡ Some limit) × (limit < taken)
 
 -- ---- the inputs on which they differ
 

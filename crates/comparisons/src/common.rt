@@ -1,9 +1,9 @@
 //! What two programs both declare.
 
-ghost use Rattle.std.specs.Prelude.{◌≡◌, ◌<◌, [], IfOk, List, Option, Some, length, slice_get};
+ghost use Rattle.std.specs.Prelude.{◌≡◌, ◌<◌, ◌≤◌, [], IfOk, List, Option, Some, length, slice_get, take};
 ghost use Rattle.std.specs.List.{cons_option, find};
 ghost use Rattle.std.specs.Option.{option_map};
-ghost use Rattle.pram_model.specs.Layout.{SharedEntry};
+ghost use Rattle.pram_model.specs.Layout.{SharedEntry, total_size};
 ghost use Rattle.pram_model.specs.Names.{same_text};
 ghost use Rattle.comparisons.specs.Common as spec;
 ghost use Rattle.comparisons.specs.Common.{Placed, placed};
@@ -107,4 +107,30 @@ pub fn named_range(first: &Layout, second: &Layout, name: &[u8]) -> Option<Commo
         }
     }
     None
+}
+
+// The cells of the declarations before that of a number, or of all.
+fn cells_before(layout: &Layout, number: usize) -> u32
+    requires { number ≤ length layout.now }
+    ensures { result ≡ total_size (take number layout.now) }
+{
+    if number < layout.len() {
+        start_of(layout, number)
+    } else {
+        layout.cells()
+    }
+}
+
+/// The cells of the declarations with which both programs begin, each of one name with the same bounds: these have the same numbers in
+/// both.
+pub fn front_cells(first: &Layout, second: &Layout) -> u32
+    ensures { result ≡ spec.front_cells first.now second.now }
+{
+    let most = first.len().min(second.len());
+    for i in 0..most {
+        if !is_same_entry(first, i, second, i) {
+            return cells_before(first, i);
+        }
+    }
+    cells_before(first, most)
 }

@@ -1,7 +1,6 @@
 //! The runs of two programs on the same inputs.
 
 ghost use Rattle.std.specs.Prelude.{◌≡◌, ◌≢◌, ◌↔◌, ◌+◌, ◌<◌, ◌^◌, [], ◌∷◌, ◌++◌, IfOk, OnOk, Some, length, map, List, ℤ};
-ghost use Rattle.pram_model.specs.Layout.{total_size};
 ghost use Rattle.small_scopes.specs.Scopes.{inputs_of};
 ghost use Rattle.comparisons.specs.Found.{difference_on, drawn_inputs, found, found_is, values_of};
 ghost use Rattle.comparisons.specs.Found as spec;
@@ -185,25 +184,24 @@ fn draw_input(
     }
 }
 
-/// The same on inputs that are drawn, each of values for all cells of the first program: what the seed of the drawing draws, what the next
-/// seed draws, and so on, as many as `count`. E11 where the second program has fewer cells than the first.
+/// The same on inputs that are drawn, each of `cells` values: what the seed of the drawing draws, what the next seed draws, and so on, as
+/// many as `count`. E11 where one of the programs has fewer cells.
 pub fn compare_drawn(
     alloc: Global,
     first: &Program,
     second: &Program,
     compared: &Compared,
     drawing: Drawing,
+    cells: u32,
     count: u32,
     bound: u32,
 ) -> Result<Comparison, ComparisonRefusal>
     requires seeds { drawing.seed + count < 2 ^ 64 }
     ensures found { IfOk result (λ r. found_is r ≡ found first.now second.now compared.now bound
-        (spec.most_told (total_size first.now.layout))
-        (drawn_inputs drawing.low drawing.high drawing.seed (total_size first.now.layout) count)) }
+        (spec.most_told cells) (drawn_inputs drawing.low drawing.high drawing.seed cells count)) }
     ensures too_long { (side : rust.Side) → (result ≡ Err (ComparisonRefusal.InputTooLong side))
-        ↔ (spec.too_long first.now second.now (total_size first.now.layout) ≡ Some side) }
+        ↔ (spec.too_long first.now second.now cells ≡ Some side) }
 {
-    let cells = first.layout().cells();
     if let Some(side) = too_long(first, second, cells as usize) {
         return Err(ComparisonRefusal::InputTooLong(side));
     }

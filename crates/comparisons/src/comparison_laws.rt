@@ -9,7 +9,7 @@ ghost use Rattle.write_rules.specs.Verdict.{Verdict};
 ghost use Rattle.explorations.specs.Found.{verdict_on};
 ghost use Rattle.comparisons.specs.declared.compared.Compared as rust;
 ghost use Rattle.comparisons.specs.declared.difference.Difference as told;
-ghost use Rattle.comparisons.specs.Common.{StandsAt, common};
+ghost use Rattle.comparisons.specs.Common.{IsBeginning, StandsAt, common, front};
 ghost use Rattle.comparisons.specs.Differences.{Run, first_difference};
 ghost use Rattle.comparisons.specs.Found.{Differing, difference_on, differing, found, most_told};
 ghost use Rattle.comparisons.specs.Told.{ComeToTheSame, IsDiffering, IsFirst, IsSo, KeepsTo};
@@ -41,7 +41,7 @@ pub fn the_inputs_that_differ_are_told()
 {}
 
 /// Nothing is told of two runs exactly where they come to the same, and the second keeps to the limits. What is told is so: the two
-/// values are those of the two runs, and are not the same.
+/// values are those of the two runs, and are not the same. It differs first: all outputs, cells and limits that are told before it agree.
 pub fn what_is_told_is_so()
     ensures none { (c : rust.Compared) (v : Verdict) (b : Run) →
         (first_difference c v b ≡ None) ↔ (ComeToTheSame c v b.verdict × KeepsTo c.limits b) }
@@ -65,4 +65,10 @@ pub fn common_ranges_are_of_both()
     ensures ascending { (l m : List SharedEntry) → AllPairs (λ r s. r.first_start + r.length ≤ s.first_start) (common l m) }
     ensures itself { (l : List SharedEntry) → AllPairs (λ e f. e.name ≢ f.name) l →
         All (λ r. r.first_start ≡ r.second_start) (common l l) }
+{}
+
+/// The declarations at the front of two programs are those with which both begin, as many as may be.
+pub fn the_front_is_the_longest_beginning()
+    ensures both { (l m : List SharedEntry) → IsBeginning (front l m) l × IsBeginning (front l m) m }
+    ensures longest { (es l m : List SharedEntry) → IsBeginning es l → IsBeginning es m → IsBeginning es (front l m) }
 {}

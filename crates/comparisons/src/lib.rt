@@ -14,7 +14,7 @@ mod outcomes;
 mod refusal;
 mod unequal;
 
-pub use common::{common_ranges, named_range};
+pub use common::{common_ranges, front_cells, named_range};
 pub use compared::{CommonRange, Compared, Limits};
 pub use comparing::{compare_drawn, compare_inputs, compare_scope, compare_two};
 pub use comparison::{Comparison, FoundDifference};
