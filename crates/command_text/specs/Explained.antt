@@ -9,7 +9,9 @@ use Rattle.write_rules.specs.declared.outcome.Outcome.{Outcome}
 use Rattle.write_rules.specs.declared.outcome.Outcome.TheVariants.{Faulted, GoesOn}
 use Rattle.program_texts.specs.declared.stop.Stop.{Stop}
 use Rattle.program_texts.specs.declared.stop.Stop.TheVariants as stop
+use Rattle.pram_model.specs.Layout.{SharedEntry}
 use Rattle.diagnoses.specs.declared.about.About.{About}
+use Rattle.diagnoses.specs.declared.source.Source.{Source}
 use Rattle.diagnoses.specs.FaultTexts.{fault_diagnosis, fault_sentence}
 use Rattle.diagnoses.specs.Reasons.{Reason, run_reason, unknown}
 use Rattle.diagnoses.specs.RefusedLines.{stop_line}
@@ -55,9 +57,21 @@ pub record IsRefusalReported (on : Terminal) (words : List (List ℕ)) (why : St
 
 -- ---- faults
 
--- why a run faults is told, or nothing of it, where memory for that was refused
-abbrev pub IsReasonOf : FoundRun → Reason → Type 0
-IsReasonOf r why = (why ≡ run_reason r.loaded.program r.input.items r.words.options.bound) ⊎ (why ≡ unknown)
+-- `why isn't told: memory to find it was refused`
+abbrev pub no_reason : List ℕ
+no_reason = codes "why isn't told: memory to find it was refused\n"
+
+-- a fault by the reason that was found, or that none was looked for to the end
+abbrev pub fault_said : Source → List SharedEntry → Fault → Option Reason → List ℕ
+fault_said source layout fault (Some why) = fault_diagnosis source layout fault why
+fault_said source layout fault None = fault_diagnosis source layout fault unknown ++ no_reason
+
+-- why a run faults is told, or that memory to find it was refused
+abbrev pub IsFaultSaid : FoundRun → Fault → List ℕ → Type 0
+IsFaultSaid r fault text =
+    let why = run_reason r.loaded.program r.input.items r.words.options.bound in
+    (text ≡ fault_said r.loaded.source r.loaded.program.layout fault (Some why))
+    ⊎ (text ≡ fault_said r.loaded.source r.loaded.program.layout fault None)
 
 -- `the run met its bound of 1000000 statements: --bound N gives it others`
 abbrev pub bound_sentence : ℕ → List ℕ
@@ -96,7 +110,7 @@ IsLimitSaid false None r old new = new ≡ old
 -- of a program's run a fault is explained with its line of the text, and with why it came
 abbrev pub IsFaultExplained : Bool → FoundRun → Fault → OutState → OutState → Type 0
 IsFaultExplained true r fault old new =
-    (why : Reason) × IsReasonOf r why × IsReported old new (fault_diagnosis r.loaded.source r.loaded.program.layout fault why)
+    (said : List ℕ) × IsFaultSaid r fault said × IsReported old new said
 IsFaultExplained false r fault old new = new ≡ old
 
 -- and that its bound was met, or its time over

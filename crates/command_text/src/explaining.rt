@@ -3,8 +3,9 @@
 ghost use Rattle.std.specs.Prelude.{◌≡◌, ◌⊎◌, ◌<◌, ◌^◌, ◌++◌, ℕ, List, Some, map};
 ghost use Rattle.std.specs.String.{string_bytes};
 ghost use Rattle.text_out.specs.Out.{Writes};
-ghost use Rattle.diagnoses.specs.FaultTexts.{fault_diagnosis, fault_sentence};
-ghost use Rattle.diagnoses.specs.Reasons.{Reason as Why, reason_is, run_reason as why, unknown};
+ghost use Rattle.diagnoses.specs.FaultTexts.{fault_sentence};
+ghost use Rattle.diagnoses.specs.Reasons.{reason_is, run_reason as why, unknown};
+ghost use Rattle.std.specs.Option.{option_map};
 ghost use Rattle.endless_runs.specs.Endless.{HasCycle, NeverEnds};
 ghost use Rattle.command_facts.specs.Written.{IsReported};
 ghost use Rattle.command_text.specs.Explained as spec;
@@ -14,12 +15,13 @@ use call_progress::Watch;
 use command_facts::{Found, FoundCode, FoundRun};
 use command_messages::write_for_editors;
 use diagnoses::{
-    Halted, Reason, run_reason, write_fault_sentence, write_refused_line, write_run_fault,
+    Halted, Reason, Source, run_reason, write_fault_sentence, write_refused_line, write_run_fault,
     write_stop_diagnosis,
 };
 use endless_runs::{Cycle, find_cycle};
 use itoa::Buffer;
 use pram_check::Program;
+use pram_trees::Layout;
 use program_texts::Stop;
 use std::alloc::Global;
 use text_out::{Out, WriteFault};
@@ -112,21 +114,51 @@ pub(crate) fn report<E: Out>(
     }
 }
 
-// Why a run faults, for which the meaning is run again; unknown where memory for that was refused.
+// Why a run faults, for which the meaning is run again; `None` where memory for that was refused.
 fn find_reason<V: Watch>(
     alloc: Global,
     program: &Program,
     input: &[i64],
     bound: u32,
     watch: &mut V,
-) -> Reason
-    ensures { (reason_is result ≡ why program.now input.now bound) ⊎ (reason_is result ≡ unknown) }
+) -> Option<Reason>
+    ensures { IfSome result (λ reason. reason_is reason ≡ why program.now input.now bound) }
 {
     let found = run_reason(alloc, program, input, bound, watch);
     watch.close();
-    match found {
-        Some(reason) => reason,
-        None => Reason::unknown(alloc),
+    found
+}
+
+// Writes what is said of a fault whose reason wasn't found.
+fn write_fault_alone<E: Out>(
+    alloc: Global,
+    err: &mut E,
+    source: &Source<'_>,
+    layout: &Layout,
+    fault: &Fault,
+) -> Result<(), WriteFault>
+    ensures written { Writes (E.Out.state err.old) (E.Out.state err.new) (spec.fault_said source.now layout.now fault.now None) result }
+{
+    let reason = Reason::unknown(alloc);
+    write_run_fault(err, source, layout, fault, &reason)?;
+    err.write_all(b"why isn't told: memory to find it was refused\n")
+}
+
+// Writes what is said of a fault by the reason that was found.
+fn write_fault_of<E: Out>(
+    alloc: Global,
+    err: &mut E,
+    source: &Source<'_>,
+    layout: &Layout,
+    fault: &Fault,
+    reason: &Option<Reason>,
+) -> Result<(), WriteFault>
+    ensures written { Writes (E.Out.state err.old) (E.Out.state err.new)
+        (spec.fault_said source.now layout.now fault.now (option_map reason_is reason.now)) result }
+{
+    match reason {
+        Some(reason) => write_run_fault(err, source, layout, fault, reason),
+        None => write_fault_alone(alloc, err, source, layout, fault),
     }
 }
 
@@ -138,13 +170,13 @@ fn say_run_fault<V: Watch, E: Out>(
     run: &FoundRun<'_>,
     fault: &Fault,
 )
-    ensures written { (why : Why) × spec.IsReasonOf run.now why × IsReported (E.Out.state err.old) (E.Out.state err.new)
-        (fault_diagnosis run.now.loaded.source run.now.loaded.program.layout fault.now why) }
+    ensures written { (said : List ℕ) × spec.IsFaultSaid run.now fault.now said
+        × IsReported (E.Out.state err.old) (E.Out.state err.new) said }
 {
     let program = &run.loaded.program;
     let bound = run.words.options.bound;
     let reason = find_reason(alloc, program, &run.input, bound, watch);
-    if write_run_fault(err, &run.loaded.source, program.layout(), fault, &reason).is_ok() {
+    if write_fault_of(alloc, err, &run.loaded.source, program.layout(), fault, &reason).is_ok() {
         let _ = err.flush();
     }
 }
