@@ -8,7 +8,7 @@ use Rattle.json_lines.specs.Lines.{IsJson}
 use Rattle.json_texts.specs.StepFacts.{step_facts, step_within, steps_from}
 use Rattle.step_entries.specs.Entries.{Entry}
 use Rattle.step_pages.specs.Kept.{Holds}
-use Rattle.step_pages.specs.State.{with_cells, with_printed, with_variables}
+use Rattle.step_entries.specs.Replay.{with_cells, with_printed, with_variables}
 use Rattle.step_pages.specs.declared.lines.KeptLines.{KeptLines}
 use Rattle.step_pages.specs.declared.state.RunState.{RunState}
 use Rattle.page_streams.specs.declared.asked.Asked.{Asked}

@@ -6,7 +6,8 @@ use Rattle.json_lines.specs.Lines.{IsJson}
 use Rattle.json_texts.specs.StepFacts.{steps_from}
 use Rattle.step_entries.specs.Entries.{Entry}
 use Rattle.step_pages.specs.Kept.{Holds}
-use Rattle.step_pages.specs.State.{state_of, with_cells, with_printed, with_variables}
+use Rattle.step_entries.specs.Replay.{with_cells, with_printed, with_variables}
+use Rattle.step_pages.specs.State.{state_of}
 use Rattle.step_pages.specs.declared.lines.KeptLines.{KeptLines}
 use Rattle.step_pages.specs.declared.state.RunState.{RunState}
 use Rattle.page_streams.specs.declared.asked.Asked.{Asked}

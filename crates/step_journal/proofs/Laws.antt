@@ -1,5 +1,6 @@
 -- The laws of runs that are told: the changes give the memory, the items the output, and the fault is the last entry.
 use Rattle.std.proofs.Common.{◌≡◌, ℕ, ℤ, List, ◌++◌, ap, sym, ◌∙◌, subst}
+use Rattle.std.specs.List.{fold}
 use Rattle.pram_check.specs.Checked.{Checked}
 use Rattle.write_rules.specs.Verdict.{Verdict}
 use Rattle.pram_meaning.specs.Bounded.{Done, Goes, Reaches, Stops}
@@ -8,12 +9,13 @@ use Rattle.pram_meaning.specs.Outcome.{IsOutcome, opening}
 use Rattle.pram_meaning.specs.Store.{State}
 use Rattle.pram_meaning.proofs.OneOutcome.{outcome_is_computed}
 use Rattle.step_entries.specs.Entries.{Entry}
+use Rattle.step_entries.specs.Replay.{with_cells}
 use Rattle.step_journal.specs.Entries.{ChangesGiveTheMemory, HasItsFault, HasMemory, ItemsGiveTheOutput, TheFaultIsLast, items_of}
-use Rattle.step_journal.specs.Entries.{output_of, replay, run_entries}
+use Rattle.step_journal.specs.Entries.{output_of, run_entries}
 use Rattle.step_journal.proofs.Parts.{list_told}
 use Rattle.step_journal.proofs.Sound.{IsTold}
 
-memory_of : (p : Checked) (m : State) (es : List Entry) (b : Done) → IsTold p m es b → HasMemory (verdict_at b) (replay es m.cells)
+memory_of : (p : Checked) (m : State) (es : List Entry) (b : Done) → IsTold p m es b → HasMemory (verdict_at b) (fold with_cells m.cells es)
 memory_of p m es (Goes u new) s = s.memory
 memory_of p m es (Stops k out) s = tt
 memory_of p m es (Reaches out) s = tt
@@ -33,7 +35,7 @@ whole p input n = list_told p n p.body (opening p input)
 
 pub changes_give_the_memory : ChangesGiveTheMemory
 changes_give_the_memory p input n v is =
-    subst (λ v. HasMemory v (replay (run_entries p input n) (opening p input).cells)) (sym ((outcome_is_computed p input n v).0 is))
+    subst (λ v. HasMemory v (fold with_cells (opening p input).cells (run_entries p input n))) (sym ((outcome_is_computed p input n v).0 is))
     (memory_of p (opening p input) (run_entries p input n) (body_done p input n) (whole p input n))
 
 pub items_give_the_output : ItemsGiveTheOutput
@@ -49,9 +51,9 @@ the_fault_is_last p input n v is =
 -- ---- the same where the entries are those that were told
 
 pub told_memory : (p : Checked) (input : List ℤ) (n : ℕ) (v : Verdict) (es : List Entry) → IsOutcome p input n v →
-    es ≡ run_entries p input n → HasMemory v (replay es (opening p input).cells)
+    es ≡ run_entries p input n → HasMemory v (fold with_cells (opening p input).cells es)
 told_memory p input n v es is e =
-    subst (λ es. HasMemory v (replay es (opening p input).cells)) (sym e) (changes_give_the_memory p input n v is)
+    subst (λ es. HasMemory v (fold with_cells (opening p input).cells es)) (sym e) (changes_give_the_memory p input n v is)
 
 pub told_output : (p : Checked) (input : List ℤ) (n : ℕ) (v : Verdict) (es : List Entry) → IsOutcome p input n v →
     es ≡ run_entries p input n → items_of es ≡ output_of v

@@ -12,3 +12,4 @@ pub mod Laws
 pub mod Costed
 pub mod Complete
 pub mod KeptBetween
+pub mod EachState

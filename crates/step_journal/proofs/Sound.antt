@@ -2,7 +2,8 @@
 -- items, and a fault is the last of it.
 use Rattle.std.proofs.Common.{◌≡◌, ℕ, ◌+◌, ℤ, List, [], ◌∷◌, ◌++◌, Bool, true, false, if◌then◌else◌, length, drop, nat_lt, refl, ap, sym}
 use Rattle.std.proofs.Common.{◌∙◌, subst, append_assoc, append-nil, Option}
-use Rattle.std.specs.List.{AllByRecursion, flat_map}
+use Rattle.std.specs.List.{AllByRecursion, flat_map, fold}
+use Rattle.std.proofs.lemmas.List.Sums.{fold-append}
 use Rattle.std.proofs.lemmas.Grind.{flat_map-append}
 use Rattle.pram_tokens.specs.declared.token.Location.{Location}
 use Rattle.step_entries.specs.declared.local_change.LocalChange.{LocalChange}
@@ -14,8 +15,8 @@ use Rattle.pram_meaning.specs.Store.{State}
 use Rattle.step_entries.specs.Causes.{Cause}
 use Rattle.step_entries.specs.Entries.{Act, Entry, Faulting, OwnLocals, Ran}
 use Rattle.fault_causes.specs.Faults.{IsExplained}
-use Rattle.step_journal.specs.Changes.{with_changes}
-use Rattle.step_journal.specs.Entries.{EndsIn, HasRun, entries_of, items_of, ran, replay}
+use Rattle.step_entries.specs.Replay.{with_cells}
+use Rattle.step_journal.specs.Entries.{EndsIn, HasRun, entries_of, items_of, ran}
 use Rattle.step_journal.proofs.Applied.{applied}
 use Rattle.step_journal.proofs.Pushed.{gained}
 
@@ -29,7 +30,7 @@ told p ms = flat_map (entries_of p) ms
 -- how entries lead from one state to another
 pub record Leads (m : State) (es : List Entry) (new : State) : Type 0 where
   pub size : length new.cells ≡ length m.cells
-  pub memory : replay es m.cells ≡ new.cells
+  pub memory : fold with_cells m.cells es ≡ new.cells
   pub output : m.output ++ items_of es ≡ new.output
   pub all : AllByRecursion HasRun es
 
@@ -49,11 +50,6 @@ IsTold p m es (Stops k out) = Falls p m es k out
 IsTold p m es (Reaches out) = Waits m es out
 
 -- ---- two lists of entries
-
-replay_on : (xs ys : List Entry) (c : List ℤ) → replay (xs ++ ys) c ≡ replay ys (replay xs c)
-replay_on [] ys c = refl
-replay_on (Ran here acts ds vs ls items ∷ xs) ys c = replay_on xs ys (with_changes ds c)
-replay_on (Faulting here fault cause acts met locals ∷ xs) ys c = replay_on xs ys c
 
 items_on : (xs ys : List Entry) → items_of (xs ++ ys) ≡ items_of xs ++ items_of ys
 items_on [] ys = refl
@@ -141,7 +137,7 @@ joined : {B : Type 0} (p : Checked) (m new : State) (xs ys : List Entry) (d : Be
     IsTold p m (xs ++ ys) d
 joined p m new xs ys (Goes b last) s h = record {
   size = h.size ∙ s.size;
-  memory = replay_on xs ys m.cells ∙ ap (replay ys) s.memory ∙ h.memory;
+  memory = fold-append with_cells m.cells xs ys ∙ ap (λ c. fold with_cells c ys) s.memory ∙ h.memory;
   output = output_on m new xs ys last.output s.output h.output;
   all = all_on xs ys s.all h.all;
 }

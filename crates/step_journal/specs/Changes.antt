@@ -1,5 +1,5 @@
--- The difference of two lists of values, of cells or of uniform variables, and how it is applied.
-use Rattle.std.specs.Prelude.{ℕ, ◌+◌, List, [], ◌∷◌, ◌++◌, ℤ, if◌then◌else◌, slice_set}
+-- The difference of two lists of values, of cells or of uniform variables.
+use Rattle.std.specs.Prelude.{ℕ, ◌+◌, List, [], ◌∷◌, ◌++◌, ℤ, if◌then◌else◌}
 use Rattle.pram_values.specs.Truth.{is_equal}
 use Rattle.step_entries.specs.declared.change.Change.{Change}
 
@@ -15,8 +15,3 @@ difference_from c (x ∷ old) (y ∷ new) = change_at c x y ++ difference_from (
 
 abbrev pub difference : List ℤ → List ℤ → List Change
 difference = difference_from 0
-
--- the values after some changes
-abbrev pub with_changes : List Change → List ℤ → List ℤ
-with_changes [] cells = cells
-with_changes (d ∷ ds) cells = with_changes ds (slice_set cells d.cell d.after)

@@ -1,6 +1,6 @@
 -- A run told statement by statement: entry k is the k-th statement that ran, counted from 1.
-use Rattle.std.specs.Prelude.{◌≡◌, ℕ, List, [], ◌∷◌, ◌++◌, Option, Some, None, ℤ, drop, length, map, ⊤}
-use Rattle.std.specs.List.{AllByRecursion, flat_map}
+use Rattle.std.specs.Prelude.{◌≡◌, ℕ, List, [], ◌∷◌, ◌++◌, Option, Some, None, ℤ, pos, drop, length, map, slice_index_or, take, ⊤}
+use Rattle.std.specs.List.{AllByRecursion, flat_map, fold}
 use Rattle.pram_check.specs.Checked.{Checked}
 use Rattle.pram_values.specs.declared.kind.Kind.{Kind}
 use Rattle.pram_values.specs.declared.place.Place.TheVariants.{All}
@@ -12,14 +12,16 @@ use Rattle.pram_meaning.specs.Conflict.{Part}
 use Rattle.pram_meaning.specs.Moments.{Action, StepAction, Moment, Alone, Together, Closed, run_moments}
 use Rattle.pram_meaning.specs.Outcome.{IsOutcome, opening}
 use Rattle.pram_meaning.specs.Store.{State, seen}
+use Rattle.moment_laws.specs.Following.{state_behind}
 use Rattle.pram_tokens.specs.declared.token.Location.{Location}
 use Rattle.step_entries.specs.Causes.{Cause}
 use Rattle.step_entries.specs.declared.local_change.LocalChange.{LocalChange}
 use Rattle.step_entries.specs.Entries.{Act, Entry, OwnLocals, Ran, Faulting}
+use Rattle.step_entries.specs.Replay.{with_cells, with_printed, with_variables}
 use Rattle.fault_causes.specs.Causes.{cause_alone, cause_on}
 use Rattle.fault_causes.specs.Faults.{IsExplained}
 use Rattle.step_journal.specs.Acts.{act_before, act_of, alone_acts, front, held}
-use Rattle.step_journal.specs.Changes.{difference, with_changes}
+use Rattle.step_journal.specs.Changes.{difference}
 use Rattle.step_journal.specs.FaultLocals.{locals_at}
 use Rattle.step_journal.specs.Locals.{locals_changed}
 use Rattle.step_journal.specs.Meeting.{meeting}
@@ -69,12 +71,6 @@ run_entries p input n = flat_map (entries_of p) (run_moments p input n)
 
 -- ---- the changes of cells, applied in order
 
--- the cells behind all entries
-abbrev pub replay : List Entry → List ℤ → List ℤ
-replay [] cells = cells
-replay (Ran here acts changed variables locals items ∷ es) cells = replay es (with_changes changed cells)
-replay (Faulting here fault cause acts met locals ∷ es) cells = replay es cells
-
 -- the memory of an outcome that has one
 abbrev pub HasMemory : Verdict → List ℤ → Type 0
 HasMemory (Ended output memory) cells = cells ≡ memory
@@ -85,7 +81,26 @@ HasMemory (GoesOn output) cells = ⊤
 abbrev pub ChangesGiveTheMemory : Type 0
 ChangesGiveTheMemory =
     (p : Checked) (input : List ℤ) (n : ℕ) (v : Verdict) → IsOutcome p input n v →
-    HasMemory v (replay (run_entries p input n) (opening p input).cells)
+    HasMemory v (fold with_cells (opening p input).cells (run_entries p input n))
+
+-- ---- the state behind each statement
+
+-- what the one list holds, behind which all are 0, the other one does
+abbrev pub HasSameValues : List ℤ → List ℤ → Type 0
+HasSameValues xs ys = (c : ℕ) → slice_index_or xs c (pos 0) ≡ slice_index_or ys c (pos 0)
+
+-- cells, uniform variables and a number of printed items that are those of a state
+pub record IsStore (memory held : List ℤ) (items : ℕ) (m : State) : Type 0 where
+  pub cells : HasSameValues memory m.cells
+  pub variables : HasSameValues held m.uniforms
+  pub printed : items ≡ length m.output
+
+-- The changes and the items of the first k entries, applied in order to the input, give the state of the run behind its first k statements.
+abbrev pub ChangesGiveEachState : Type 0
+ChangesGiveEachState =
+    (p : Checked) (input : List ℤ) (n k : ℕ) →
+    IsStore (fold with_cells input (take k (run_entries p input n))) (fold with_variables [] (take k (run_entries p input n)))
+    (fold with_printed 0 (take k (run_entries p input n))) (state_behind k (run_moments p input n) (opening p input))
 
 -- ---- the items that were printed, joined
 

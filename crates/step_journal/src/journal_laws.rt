@@ -2,13 +2,19 @@
 
 ghost use Rattle.step_journal.specs.Accesses.{LocalsAreOfThose, ReadersMeet, TwoMeet, WritersMeet};
 ghost use Rattle.step_journal.specs.Costs.{EntriesAreTimeSteps};
-ghost use Rattle.step_journal.specs.Entries.{ChangesGiveTheMemory, ItemsGiveTheOutput, TheFaultIsLast};
+ghost use Rattle.step_journal.specs.Entries.{ChangesGiveEachState, ChangesGiveTheMemory, ItemsGiveTheOutput, TheFaultIsLast};
 
 /// The changes that are told of a run, applied in order to its opening memory, give the memory of
 /// its outcome.
 #[tactic(auto, using(crate::proofs::Laws::changes_give_the_memory))]
 pub fn changes_give_the_memory()
     ensures { ChangesGiveTheMemory }
+{}
+
+/// What the first k entries tell, applied in order to the input, gives the state of the run behind its first k statements: its cells, its
+/// uniform variables and how many items it has printed, whatever the run comes to.
+pub fn changes_give_each_state()
+    ensures { ChangesGiveEachState }
 {}
 
 /// The items that are told of a run, joined, are the output of its outcome, whatever it comes to.

@@ -1,12 +1,14 @@
 //! A whole run.
 
 ghost use Rattle.std.specs.Prelude.{◌≡◌, ◌↔◌, ◌<◌, ◌≤◌, IfOk, length, map};
+ghost use Rattle.std.specs.List.{fold};
 ghost use Rattle.pram_model.specs.Layout.{total_size};
 ghost use Rattle.write_rules.specs.Verdict.{verdict_of};
 ghost use Rattle.pram_meaning.specs.Outcome.{IsOutcome, opening};
 ghost use Rattle.step_entries.specs.Entries.{entry_is};
+ghost use Rattle.step_entries.specs.Replay.{with_cells};
 ghost use Rattle.step_journal.specs.Costs.{step_of};
-ghost use Rattle.step_journal.specs.Entries.{HasItsFault, HasMemory, items_of, output_of, replay, run_entries};
+ghost use Rattle.step_journal.specs.Entries.{HasItsFault, HasMemory, items_of, output_of, run_entries};
 ghost use Rattle.work_time.specs.Steps.{run_steps};
 
 use crate::kept::Kept;
@@ -36,7 +38,7 @@ pub fn steps_of(
     ensures entries { IfOk result (λ r. map entry_is r.1.items ≡ run_entries program.now input.now bound) }
     // The changes, applied in order to the opening memory, give the memory of the outcome.
     ensures memory { IfOk result (λ r. HasMemory (verdict_of r.0)
-        (replay (map entry_is r.1.items) (opening program.now input.now).cells)) }
+        (fold with_cells (opening program.now input.now).cells (map entry_is r.1.items))) }
     // The items that were printed, joined, are the output of the outcome.
     ensures output { IfOk result (λ r. items_of (map entry_is r.1.items) ≡ output_of (verdict_of r.0)) }
     // The last entry is the fault exactly where the outcome is one, with a cause that has it, and no other is.

@@ -1,7 +1,7 @@
 -- Values at numbers of a list behind which all are 0.
 use Rattle.std.proofs.Common.{◌≡◌, ◌<◌, ◌≤◌, ◌++◌, ◌∷◌, [], List, ℕ, zero, suc, ap, arith, length, refl, set}
 use Rattle.std.specs.Prelude.{ℤ, pos}
-use Rattle.step_pages.specs.State.{with_value}
+use Rattle.step_entries.specs.Replay.{with_value}
 
 -- a 0 behind them changes nothing
 pub with_zero : (xs : List ℤ) (at : ℕ) (v : ℤ) → length xs ≤ at → with_value (xs ++ pos 0 ∷ []) at v ≡ with_value xs at v

@@ -1,6 +1,6 @@
 use Rattle.std.proofs.Common.{◌≡◌, drop}
 use Rattle.std.specs.List.{fold}
-use Rattle.step_pages.specs.State.{with_change}
+use Rattle.step_entries.specs.Replay.{with_change}
 use Rattle.step_pages.proofs.state.put_changes.Given as goal
 
 abbrev pub invariant-loop-change : goal.invariant-loop-change

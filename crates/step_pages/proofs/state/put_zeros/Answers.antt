@@ -1,5 +1,5 @@
 use Rattle.std.proofs.Common.{◌≡◌, ◌≤◌, ◌∙◌, ap, length, subst}
-use Rattle.step_pages.specs.State.{with_value}
+use Rattle.step_entries.specs.Replay.{with_value}
 use Rattle.step_pages.proofs.Values.{with_zero}
 use Rattle.step_pages.proofs.state.put_zeros.Goals as goal
 

@@ -1,6 +1,6 @@
 use Rattle.std.proofs.Common.{◌≡◌, ◌+◌, ◌-◌, length}
 use Rattle.std.specs.Prelude.{ℤ}
-use Rattle.step_pages.specs.State.{with_value}
+use Rattle.step_entries.specs.Replay.{with_value}
 use Rattle.step_pages.proofs.state.put_zeros.Given as goal
 
 abbrev pub invariant-loop-values : goal.invariant-loop-values
