@@ -71,7 +71,7 @@ are_out homes p w s j (x ∷ row) (y ∷ back) lw few rows columns =
         (λ e. let d = slots_apart p s w j (s + 1) j w lw lj lj lw e in let parity : s % 2 ≡ (s + 1) % 2 = d.0 in omega (arith, parity)),
         elsewhere p w s (slot p s w j) (suc j) row back
             (λ i from to e. let d = slots_apart p s w j s w i lw lj lw (later i to) e in
-                let same : j ≡ i = d.2 in omega (arith, from, same))
+            let same : j ≡ i = d.2 in omega (arith, from, same))
             (λ i from to e. let d = slots_apart p s w j (s + 1) i w lw lj (later i to) lw e in let parity : s % 2 ≡ (s + 1) % 2 = d.0 in
             omega (arith, parity)),
       ),

@@ -122,9 +122,11 @@ look_tells : (b : TwoBlocks) (c : Core) (w i : ℕ) → phase (c.team w) ≤ get
 look_tells b c w i come within unseen =
     let new : after b c (look w i) ≡ seen_by b c w i =
     is_new b (nat_le (phase (c.team w)) (get_or c.words i 0)) (saw (c.team w) i) (seen_by b c w i) c
-    (le-leb (phase (c.team w)) (get_or c.words i 0) come) unseen in
-    (unseen, ap (λ (k : Core). saw (k.team w) i) new ∙ ap (λ x. saw x i) (here c.team w _)
-        ∙ get_or-set_same (c.team w).seen i true false within)
+    (le-leb (phase (c.team w)) (get_or c.words i 0) come) unseen in (
+      unseen,
+      ap (λ (k : Core). saw (k.team w) i) new ∙ ap (λ x. saw x i) (here c.team w _)
+          ∙ get_or-set_same (c.team w).seen i true false within,
+    )
 
 -- ---- the laws
 
@@ -171,7 +173,7 @@ never_sticks b es s w is lw left =
     let l = least_of (crossings (run b es)) b.side some in
     let fewest : crossings (run b es) l.at ≤ crossings (run b es) w = l.least w lw in
     step_of b (run b es) s l.at (steps_keep_the_rule b es some is) (all_taken_out b es some is) l.within (omega
-        (arith, fewest, left)) l.least
+    (arith, fewest, left)) l.least
 
 pub nobody_is_two_ahead : NobodyIsTwoAhead
 nobody_is_two_ahead b es w v is lw lv =

@@ -176,7 +176,16 @@ fn say_run_fault<V: Watch, E: Out>(
     let program = &run.loaded.program;
     let bound = run.words.options.bound;
     let reason = find_reason(alloc, program, &run.input, bound, watch);
-    if write_fault_of(alloc, err, &run.loaded.source, program.layout(), fault, &reason).is_ok() {
+    if write_fault_of(
+        alloc,
+        err,
+        &run.loaded.source,
+        program.layout(),
+        fault,
+        &reason,
+    )
+    .is_ok()
+    {
         let _ = err.flush();
     }
 }

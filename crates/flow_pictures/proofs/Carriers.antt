@@ -60,11 +60,11 @@ pub record IsOf (aside : List Bool) (acts : List Act) (column : ℕ) (l : Arrow)
   pub same : l.column ≡ column
   pub dashed : l.dashed ≡ not (values aside acts l.from (Some l.to))
 
-both : (a b : Bool) → (a && b) ≡ true → (a ≡ true) × (b ≡ true)
+pub both : (a b : Bool) → (a && b) ≡ true → (a ≡ true) × (b ≡ true)
 both true b h = (refl, h)
 both false b h = grind (arith, h)
 
-read_is : (reads : List ℕ) (c : ℕ) → has_read reads c ≡ true → Contains reads c
+pub read_is : (reads : List ℕ) (c : ℕ) → has_read reads c ≡ true → Contains reads c
 read_is reads c h =
     let some = Any-from_list_any (λ r. nat_eq r c) reads h in
     let same : some.1 ≡ c = grind (arith, nat_tests, some.4) in

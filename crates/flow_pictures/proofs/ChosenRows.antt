@@ -11,7 +11,7 @@ use Rattle.step_entries.specs.Entries.{Entry}
 use Rattle.flow_pictures.specs.declared.spans.CellSpan.{CellSpan}
 use Rattle.flow_pictures.specs.Cells.{entry_cells, is_chosen, least_from, nearer, rows_from, touched, with_row}
 use Rattle.flow_pictures.specs.Laws.{cells, found, statements}
-use Rattle.flow_pictures.proofs.Members.{first, later, passes_test}
+use Rattle.flow_pictures.proofs.Members.{first, later, of_kept, passes_test}
 
 nearer_none : (x d c : ℕ) (b : Bool) → (if b then None else Some d) ≡ Some c → d ≡ c
 nearer_none x d c true e = cc
@@ -62,10 +62,20 @@ rows_there : (more x : ℕ) (ds : List ℕ) (c : ℕ) → Contains (rows_from mo
 rows_there zero x ds c one = absurd (omega (arith, one.1))
 rows_there (suc more) x ds c one = row_there more x ds c (least_from x ds) refl (λ y there. rows_there more y ds c there) one
 
-pub row_is_chosen : (only : List CellSpan) (es : List Entry) (from to c : ℕ) → Contains (cells only es from to) c → is_chosen only c ≡ true
-row_is_chosen only es from to c one =
+among_touched : (only : List CellSpan) (es : List Entry) (from to c : ℕ) → Contains (cells only es from to) c →
+    Contains (touched only (map (λ p. p.1) (statements es from to))) c
+among_touched only es from to c one =
     let all = found only es from to in
     let drawn = map (λ p. p.1) (statements es from to) in
     let among : Contains all c = subst (λ (rows : List ℕ). Contains rows c) (take-append-drop 64 all)
     (Contains-append_left (take 64 all) (drop 64 all) c one) in
-    passes_test (is_chosen only) (flat_map entry_cells drawn) c (rows_there 65 0 (touched only drawn) c among)
+    rows_there 65 0 (touched only drawn) c among
+
+pub row_is_chosen : (only : List CellSpan) (es : List Entry) (from to c : ℕ) → Contains (cells only es from to) c → is_chosen only c ≡ true
+row_is_chosen only es from to c one =
+    passes_test (is_chosen only) (flat_map entry_cells (map (λ p. p.1) (statements es from to))) c (among_touched only es from to c one)
+
+pub row_was_touched : (only : List CellSpan) (es : List Entry) (from to c : ℕ) → Contains (cells only es from to) c →
+    Contains (flat_map entry_cells (map (λ p. p.1) (statements es from to))) c
+row_was_touched only es from to c one =
+    of_kept (is_chosen only) (flat_map entry_cells (map (λ p. p.1) (statements es from to))) c (among_touched only es from to c one)

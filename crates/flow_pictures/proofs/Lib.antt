@@ -8,6 +8,7 @@ pub mod Kept
 pub mod Least
 pub mod Members
 pub mod RowLists
+pub mod Shaped
 pub mod Standing
 pub mod Taken
 pub mod ChosenRows

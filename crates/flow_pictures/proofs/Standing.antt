@@ -81,7 +81,7 @@ same_nodes (c ∷ rows) j v w acts same = by (writes acts c) refl (same_nodes ro
     by false is others = others
 
 -- the boxes of a column
-boxes : (aside : Entry → List Bool) (opening : List ℤ) (es : List Entry) (rows : List ℕ) (j : ℕ) (p : ℕ × Entry) →
+pub boxes : (aside : Entry → List Bool) (opening : List ℤ) (es : List Entry) (rows : List ℕ) (j : ℕ) (p : ℕ × Entry) →
     nodes rows j (value_in (acts_in p.1) (column_of aside opening es p).written) (acts_in p.1) ≡
     nodes rows j (value_behind opening es p.0) (acts_in p.1)
 boxes aside opening es rows j p =

@@ -9,4 +9,5 @@ pub mod Texts
 pub mod Columns
 pub mod Picture
 pub mod Laws
+pub mod Shapes
 pub mod Asides

@@ -10,6 +10,7 @@ ghost use Rattle.flow_pictures.specs.Choice.{acts_in, faulted, is_fault, ran, to
 ghost use Rattle.flow_pictures.specs.Laws.{IsCarried, IsColumn, StandsIn, arrows_of, cells, found, nodes_of, statements};
 ghost use Rattle.flow_pictures.specs.Marks.{Arrow, Node, arrow_by, node};
 ghost use Rattle.flow_pictures.specs.Picture.{flow};
+ghost use Rattle.flow_pictures.specs.Shapes.{RowsWereTouched, ShapesAreSo, ThePictureIsItsShapes};
 ghost use Rattle.flow_pictures.specs.Texts.{arrow_text, node_text};
 ghost use Rattle.flow_pictures.specs.Values.{value_behind};
 
@@ -59,4 +60,13 @@ pub fn what_has_room_is_drawn()
         Contains (cells only es from to) cell }
     ensures chosen { (only : List CellSpan) (es : List Entry) (from to cell : ℕ) → Contains (cells only es from to) cell →
         is_chosen only cell ≡ true }
+{}
+
+/// The picture is its head and the texts of its shapes, and nothing else: rows, headings, lines, boxes, rings and what is drawn of a fault.
+/// Each of these is so: a row has a cell that was touched, with its value before; a heading is of the statement in that column; lines and
+/// boxes are those above; a ring is at a cell that a processor read which wrote none; and a fault is that of its statement, with who met.
+pub fn the_picture_is_its_shapes()
+    ensures whole { ThePictureIsItsShapes }
+    ensures so { ShapesAreSo }
+    ensures touched { RowsWereTouched }
 {}

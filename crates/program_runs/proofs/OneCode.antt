@@ -26,7 +26,7 @@ texts_have_one_list text input options verdict other exchanges more run also map
     let second = also.ran.run in
     let codes : run.ran.code ≡ also.ran.code =
     texts_have_one_code text run.program also.program run.is_program also.is_program run.ran.code also.ran.code run.ran.is_code
-        also.ran.is_code in
+    also.ran.is_code in
     let made : AreBspExchanges run.ran.code first.shape input options.bound other more =
     subst (λ (m : Shape). AreBspExchanges run.ran.code m input options.bound other more) (sym maps)
     (subst (λ code. AreBspExchanges code second.shape input options.bound other more) (sym codes) second.made) in

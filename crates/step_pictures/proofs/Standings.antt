@@ -1,6 +1,6 @@
 -- Texts that stand within others: the column of each statement, and in it the boxes of its processors.
 use Rattle.std.proofs.Common.{◌≡◌, ◌∙◌, ◌<◌, ◌≤◌, ◌+◌, ◌-◌, ◌*◌, ◌/◌, ◌%◌, ◌++◌, ◌∷◌, ⊎_elim, [], List, ℕ, zero, suc, ℤ, Bool, true}
-use Rattle.std.proofs.Common.{false, Some, ap, append-nil, append_assoc, arith, drop, get_or, length, refl, subst, sym, take}
+use Rattle.std.proofs.Common.{false, None, Some, ap, append-nil, append_assoc, arith, drop, get_or, length, refl, subst, sym, take}
 use Rattle.std.proofs.Math.Nat.{mul-div_cancel}
 use Rattle.std.specs.List.{Contains}
 use Rattle.std.specs.Ordering.{int_eq}
@@ -8,7 +8,8 @@ use Rattle.std.proofs.lemmas.Bool.{cases_lt}
 use Rattle.std.proofs.lemmas.Bool.Decides.{Decides-int_eq}
 use Rattle.std.proofs.lemmas.Grind.{common_steps}
 use Rattle.std.proofs.lemmas.List.{drop-append-le, get_or_append_left, get_or_default, get_or-append-add, length-append, length-drop}
-use Rattle.std.proofs.lemmas.List.{length-take-le}
+use Rattle.std.proofs.lemmas.List.{drop_all, length-take-le}
+use Rattle.std.specs.Prelude.{codes}
 use Rattle.std.proofs.lemmas.List.Elements.{Contains-append_left, Contains-append_right}
 use Rattle.pram_model.specs.Layout.{SharedEntry}
 use Rattle.step_entries.specs.Entries.{Act, Entry}
@@ -19,6 +20,7 @@ use Rattle.step_pictures.specs.Drawn.{Numbered, acts_in, drawn, first_drawn, las
 use Rattle.step_pictures.specs.Drawn.{place_of, rows_of}
 use Rattle.step_pictures.specs.Marks.{box, outline}
 use Rattle.step_pictures.specs.Measures.{Column, Frame, band_height, bands_end, column_at, column_left, frame_of, row_top, rows_top}
+use Rattle.step_pictures.specs.Picture.{ending, ending_of, first_ending, foot_line}
 use Rattle.step_pictures.specs.Picture.{foot, gap_text, head, opening, picture, rest_text, rows_text, key_text, statements_front, table}
 use Rattle.step_pictures.specs.declared.frame.Part.{Part}
 use Rattle.step_pictures.specs.ProgramLines.{line_of}
@@ -272,6 +274,40 @@ box_stands layout text part es j d a i at one is has =
     let in_column : StandsIn (act_drawn layout rows c a) (column f c d.entry) =
     stands_behind (heading text c (line_of d.entry)) (stands_before (all_met rows c (met_in d.entry) ++ missing_text rows c (acts_in d.entry)) stands_there) in
     stands_within (subst (λ t. StandsIn t (column f c d.entry)) drawn_is in_column) (column_stands layout text part es j d at)
+
+-- the one outside pardo has no index, and the row of number 0
+pub outside_stands : (layout : List SharedEntry) (text : List ℕ) (part : Part) (es : List Entry) (j : ℕ) (d : Numbered) (a : Act) →
+    StandsAt es j d → Contains (acts_in d.entry) a → a.processor ≡ None →
+    StandsIn (box layout (column_left j) (row_top (top_of layout text es j) 0) a) (picture layout text part es)
+outside_stands layout text part es j d a at one is =
+    let f = frame_of layout text part es in
+    let c = column_of layout text part es j d in
+    let rows = rows_of es in
+    let drawn_is : act_drawn layout rows c a ≡ box layout c.x (row_top c.y 0) a = ap (λ p. act_drawn_by layout rows c a p) is in
+    let stands_there = acts_hold layout rows c (acts_in d.entry) one.0 a one.1 one.2 in
+    let in_column : StandsIn (act_drawn layout rows c a) (column f c d.entry) =
+    stands_behind (heading text c (line_of d.entry))
+    (stands_before (all_met rows c (met_in d.entry) ++ missing_text rows c (acts_in d.entry)) stands_there) in
+    stands_within (subst (λ t. StandsIn t (column f c d.entry)) drawn_is in_column) (column_stands layout text part es j d at)
+
+-- what is said below the bands of the last statement
+pub ending_stands : (layout : List SharedEntry) (text : List ℕ) (part : Part) (es : List Entry) (e : Entry) →
+    StandsIn (ending_of layout (foot_line (frame_of layout text part (es ++ e ∷ [])) (length (es ++ e ∷ []))) e)
+    (picture layout text part (es ++ e ∷ []))
+ending_stands layout text part es e =
+    let all = es ++ e ∷ [] in
+    let f = frame_of layout text part all in
+    let n = length all in
+    let y = foot_line f n in
+    let long : n ≡ length es + 1 = length-append es (e ∷ []) in
+    let before : n - 1 ≡ length es = omega (arith, long) in
+    let inner : length es ≤ length es = let q : ℕ = length es in let r : q ≤ q = omega arith in r in
+    let last : drop (n - 1) all ≡ e ∷ [] = ap (λ k. drop k all) before ∙ drop-append-le (length es) es (e ∷ []) inner
+    ∙ ap (λ l. l ++ e ∷ []) (drop_all es (length es) inner) in
+    let is : ending layout y all ≡ ending_of layout y e = ap (first_ending layout y) last in
+    stands_behind (opening f n) (stands_behind (head f.part n (length f.rows)) (stands_behind (table f all)
+    (subst (λ t. StandsIn (ending_of layout y e) (t ++ codes "</svg>\n")) (sym is)
+    (stands_first (ending_of layout y e) (codes "</svg>\n")))))
 
 pub outline_stands : (layout : List SharedEntry) (text : List ℕ) (part : Part) (es : List Entry) (j : ℕ) (d : Numbered) (i : ℤ) → StandsAt es j d →
     Contains (met_in d.entry) i → Contains (rows_of es) i →

@@ -1,6 +1,6 @@
 //! The laws of this crate: of a picture of any part of a run.
 
-ghost use Rattle.std.specs.Prelude.{◌≡◌, ◌≤◌, ◌<◌, ◌+◌, ◌-◌, ◌++◌, ◌∷◌, ◌⊎◌, ℕ, List, Some, [], ℤ, int_lt, true, length};
+ghost use Rattle.std.specs.Prelude.{◌≡◌, ◌≤◌, ◌<◌, ◌+◌, ◌-◌, ◌++◌, ◌∷◌, ◌⊎◌, ℕ, List, None, Some, [], ℤ, int_lt, true, length};
 ghost use Rattle.std.specs.List.{AllPairs, Contains};
 ghost use Rattle.pram_model.specs.Layout.{SharedEntry};
 ghost use Rattle.step_entries.specs.Entries.{Act, Entry};
@@ -10,7 +10,7 @@ ghost use Rattle.step_pictures.specs.declared.frame.Part.{Part};
 ghost use Rattle.step_pictures.specs.Drawn.{Numbered, acting_drawn, acts_in, drawn, met_in, met_of, missing, place_of, rows_of};
 ghost use Rattle.step_pictures.specs.Marks.{box, outline};
 ghost use Rattle.step_pictures.specs.Measures.{Frame, column_left, frame_of, row_top, rows_top};
-ghost use Rattle.step_pictures.specs.Picture.{gap_text, picture};
+ghost use Rattle.step_pictures.specs.Picture.{ending_of, foot_line, gap_text, picture};
 ghost use Rattle.step_pictures.specs.Standing.{StandsAt, StandsIn, column_of, top_of};
 
 /// Each statement that is drawn has a column, at a place that is no other's and within 1200 pixels: the 16 of a band stand beside one
@@ -22,12 +22,16 @@ pub fn each_statement_has_a_column()
     ensures page { (j : ℕ) → column_left j + 64 ≤ 1200 }
 {}
 
-/// A processor that acts in a statement that is drawn, and has a row, has a box in that row of the column.
+/// A processor that acts in a statement that is drawn, and has a row, has a box in that row of the column. A statement outside pardo has its
+/// box in the row of number 0.
 pub fn each_processor_has_a_box()
     ensures stands { (layout : List SharedEntry) (text : List ℕ) (part : Part) (es : List Entry) (j : ℕ) (d : Numbered) (a : Act) (i : ℤ) →
         StandsAt es j d → Contains (acts_in d.entry) a → a.processor ≡ Some i → Contains (rows_of es) i →
         StandsIn (box layout (column_left j) (row_top (top_of layout text es j) (place_of (rows_of es) i + 1)) a)
         (picture layout text part es) }
+    ensures outside { (layout : List SharedEntry) (text : List ℕ) (part : Part) (es : List Entry) (j : ℕ) (d : Numbered) (a : Act) →
+        StandsAt es j d → Contains (acts_in d.entry) a → a.processor ≡ None →
+        StandsIn (box layout (column_left j) (row_top (top_of layout text es j) 0) a) (picture layout text part es) }
 {}
 
 /// No row is of an index that neither acts in a statement that is drawn nor met at the fault; rows ascend, each index once, and there are
@@ -47,7 +51,7 @@ pub fn each_row_has_its_name()
 {}
 
 /// The last statement is drawn, where alone a run faults; of those that met there, at most 64, each has a row, and in it an outline with
-/// the word.
+/// the word. Below the bands stand what the fault was and who met.
 pub fn a_fault_is_drawn()
     ensures drawn { (es : List Entry) (e : Entry) →
         Contains (drawn (es ++ e ∷ [])) (record { number = length es + 1; entry = e }) }
@@ -57,6 +61,9 @@ pub fn a_fault_is_drawn()
         StandsAt es j d → Contains (met_in d.entry) i → Contains (rows_of es) i →
         StandsIn (outline (column_left j) (row_top (top_of layout text es j) (place_of (rows_of es) i + 1)) i)
         (picture layout text part es) }
+    ensures told { (layout : List SharedEntry) (text : List ℕ) (part : Part) (es : List Entry) (e : Entry) →
+        StandsIn (ending_of layout (foot_line (frame_of layout text part (es ++ e ∷ [])) (length (es ++ e ∷ []))) e)
+        (picture layout text part (es ++ e ∷ [])) }
 {}
 
 /// Of more statements than are drawn it is told how many are not, and from which number to which; and below each column how many more

@@ -1,5 +1,5 @@
 use Rattle.step_pictures.proofs.Contained.{has_row}
-use Rattle.step_pictures.proofs.Standings.{last_is_drawn, outline_stands}
+use Rattle.step_pictures.proofs.Standings.{ending_stands, last_is_drawn, outline_stands}
 use Rattle.step_pictures.proofs.picture_laws.a_fault_is_drawn.Goals as goal
 
 pub returns-clause-drawn : goal.returns-clause-drawn
@@ -10,3 +10,6 @@ returns-clause-rows c = has_row
 
 pub returns-clause-outlined : goal.returns-clause-outlined
 returns-clause-outlined c = outline_stands
+
+pub returns-clause-told : goal.returns-clause-told
+returns-clause-told c = ending_stands
