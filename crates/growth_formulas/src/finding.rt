@@ -1,39 +1,49 @@
 //! The formula of a table.
 
-ghost use Rattle.std.specs.Prelude.{◌≡◌, ℤ, IfSome, FitsSigned};
+ghost use Rattle.std.specs.Prelude.{◌≡◌, ◌≢◌, ◌≤◌, ◌<◌, ℕ, ℤ, FitsSigned, MatchOption};
 ghost use Rattle.std.specs.Int.{w128};
+ghost use Rattle.growth_formulas.specs.declared.formula.Formula.{Formula as TheFormula};
 ghost use Rattle.growth_formulas.specs.declared.growth.Growth.TheVariants.{Nothing};
-ghost use Rattle.growth_formulas.specs.Tables.{Explains, GrowsBy, IsSo};
+ghost use Rattle.growth_formulas.specs.Formulas.{term_count};
+ghost use Rattle.growth_formulas.specs.Tables.{GrowsBy, HasNoFormula, IsCandidate, IsFirst, IsSo, TellsFirst, term_set};
 
-use crate::basis::solve;
 use crate::choice::Choice;
 use crate::doubling::doubling;
 use crate::fitting::explains;
 use crate::formula::Formula;
 use crate::growth::Growth;
 use crate::row::Row;
+use crate::solution::solve;
 
-// The formula with the terms chosen, where it explains the table.
+// The formula that may be told and has just the terms chosen.
 fn chosen_formula(table: &[Row], choice: Choice) -> Option<Formula>
-    ensures { IfSome result (λ f. Explains f table.now) }
+    ensures { MatchOption result ((g : TheFormula) → IsCandidate g table.now → term_set g ≢ choice.bits)
+        (λ f. IsCandidate f table.now × (term_set f ≡ choice.bits)) }
 {
-    let formula = solve(table, choice)?;
-    if explains(&formula, table) {
-        Some(formula)
-    } else {
-        None
+    match solve(table, choice) {
+        Some(formula) => {
+            if explains(&formula, table) && formula.term_set() == choice.bits {
+                Some(formula)
+            } else {
+                None
+            }
+        }
+        None => None,
     }
 }
 
-// The first formula with so many terms chosen, those that grow slower first.
-fn formula_of(table: &[Row], count: u32) -> Option<Formula>
-    ensures { IfSome result (λ f. Explains f table.now) }
+// The first formula with so many terms, those that grow slower first.
+fn formula_of(table: &[Row], count: usize) -> Option<Formula>
+    ensures { MatchOption result ((g : TheFormula) → IsCandidate g table.now → term_count g ≢ count)
+        (λ f. IsCandidate f table.now × (term_count f ≡ count) ×
+        ((g : TheFormula) → IsCandidate g table.now → term_count g ≡ count → term_set f ≤ term_set g)) }
 {
-    for bits in 1..32u32 {
-        let choice = Choice(bits);
+    for bits in 0..32usize {
+        let choice = Choice { bits };
         if choice.count() == count {
-            if let Some(formula) = chosen_formula(table, choice) {
-                return Some(formula);
+            match chosen_formula(table, choice) {
+                Some(formula) => return Some(formula),
+                None => {}
             }
         }
     }
@@ -42,21 +52,25 @@ fn formula_of(table: &[Row], count: u32) -> Option<Formula>
 
 // The first formula, by fewest terms.
 fn first_formula(table: &[Row]) -> Option<Formula>
-    ensures { IfSome result (λ f. Explains f table.now) }
+    ensures { MatchOption result (HasNoFormula table.now) (λ f. IsFirst f table.now) }
 {
-    for count in 1..6u32 {
-        if let Some(formula) = formula_of(table, count) {
-            return Some(formula);
+    for count in 0..6usize {
+        match formula_of(table, count) {
+            Some(formula) => return Some(formula),
+            None => {}
         }
     }
     None
 }
 
 /// How the numbers of a table grow with its sizes. A formula is told that gives the number at each size, where there are at least two more
-/// different sizes than terms: the first by fewest terms, and among as many those that grow slower. Else, where each of three sizes or more is twice
-/// the one before, and the numbers grow by one step, that step. It claims nothing of other sizes.
+/// different sizes than terms, and where no other formula of its terms does: the first by fewest terms, and among as many those that grow
+/// slower. Else, where each of three sizes or more is twice the one before, and the numbers grow by one step, that step. It claims nothing
+/// of other sizes.
 pub fn fit(table: &[Row]) -> Growth
     ensures told { IsSo result table.now }
+    // The formula told is the first that may be told, and only where none may something else is told.
+    ensures first { TellsFirst result table.now }
     ensures nothing { result ≡ Nothing → (step : ℤ) → FitsSigned w128 step → ¬ GrowsBy step table.now }
 {
     if let Some(formula) = first_formula(table) {

@@ -1,27 +1,25 @@
 //! Whether a formula fits a table.
 
-ghost use Rattle.std.specs.Prelude.{◌≡◌, ◌==◌, pos};
-ghost use Rattle.std.specs.Bool.{OnTrue};
+ghost use Rattle.std.specs.Prelude.{◌≡◌, ◌↔◌, ◌==◌, pos, IsTrue};
 ghost use Rattle.std.specs.List.{list_any};
 ghost use Rattle.growth_formulas.specs.Formulas.{IsValue};
 ghost use Rattle.growth_formulas.specs.Tables.{Explains, Fits, has_size, size_count};
 
+use crate::equation::Equation;
 use crate::formula::Formula;
 use crate::row::Row;
 
-// Whether the formula gives the number of the row; no where a number on the way has no `i128`.
+// Whether the formula gives the number of the row.
 fn gives(formula: &Formula, row: &Row) -> bool
-    ensures { OnTrue result (IsValue formula.now row.now.size (pos row.now.number)) }
+    ensures { IsTrue result ↔ IsValue formula.now row.now.size (pos row.now.number) }
 {
-    match formula.value_at(row.size) {
-        Some(value) => value >= 0 && value.unsigned_abs() == row.number,
-        None => false,
-    }
+    let sum = Equation::of_row(row).sum(&Equation::of_formula(formula));
+    row.size > 0 && sum.is_zero()
 }
 
 // Whether the formula gives the number at each size.
 fn fits(formula: &Formula, table: &[Row]) -> bool
-    ensures { OnTrue result (Fits formula.now table.now) }
+    ensures { IsTrue result ↔ Fits formula.now table.now }
 {
     for row in table {
         if !gives(formula, row) {
@@ -56,10 +54,9 @@ fn size_count(table: &[Row]) -> usize
     count
 }
 
-/// Whether the formula gives the number at each size, of which there are at least two different ones more than it has terms. No where a
-/// number on the way has no `i128`.
+/// Whether the formula gives the number at each size, of which there are at least two different ones more than it has terms.
 pub(crate) fn explains(formula: &Formula, table: &[Row]) -> bool
-    ensures { OnTrue result (Explains formula.now table.now) }
+    ensures { IsTrue result ↔ Explains formula.now table.now }
 {
     fits(formula, table) && formula.term_count() + 2 <= size_count(table)
 }

@@ -1,7 +1,8 @@
 //! Formulas in the size n.
 
-ghost use Rattle.std.specs.Prelude.{◌≡◌, ◌*◌, ◌+ℤ◌, ◌*ℤ◌, pos, IfSome};
+ghost use Rattle.std.specs.Prelude.{◌≡◌};
 ghost use Rattle.growth_formulas.specs.Formulas as spec;
+ghost use Rattle.growth_formulas.specs.Tables.{term_set};
 
 use crate::term::Term;
 
@@ -41,24 +42,15 @@ impl Formula {
             + counted(self.square)
     }
 
-    // What it comes to where log n is `log`. `None`: a number on the way has no `i128`.
-    fn value(&self, n: u64, log: u32) -> Option<i128>
-        ensures { IfSome result (λ v. v ≡ spec.value self.now n log) }
+    /// The terms that have a coefficient other than 0, as a number.
+    pub(crate) fn term_set(&self) -> usize
+        ensures { result ≡ term_set self.now }
     {
-        let slow = plus(self.logarithm, u128::from(log), self.constant)?;
-        let linear = plus(self.linear, u128::from(n), slow)?;
-        let linearithmic = plus(self.linearithmic, product(n, u64::from(log))?, linear)?;
-        let value = plus(self.square, product(n, n)?, linearithmic)?;
-        Some(value)
-    }
-
-    /// The value at a size. `None`: the size is 0, or a number on the way has no `i128`.
-    pub(crate) fn value_at(&self, size: u64) -> Option<i128>
-        ensures { IfSome result (spec.IsValue self.now size) }
-    {
-        let log = size.checked_ilog2()?;
-        let value = self.value(size, log)?;
-        Some(value)
+        counted(self.constant)
+            + 2 * counted(self.logarithm)
+            + 4 * counted(self.linear)
+            + 8 * counted(self.linearithmic)
+            + 16 * counted(self.square)
     }
 }
 
@@ -67,19 +59,4 @@ fn counted(coefficient: i128) -> usize
     ensures { result ≡ spec.counted coefficient }
 {
     if coefficient == 0 { 0 } else { 1 }
-}
-
-// A product of two numbers.
-fn product(a: u64, b: u64) -> Option<u128>
-    ensures { IfSome result (λ v. v ≡ a * b) }
-{
-    u128::from(a).checked_mul(u128::from(b))
-}
-
-// A coefficient times its term, and what stands behind it.
-fn plus(coefficient: i128, term: u128, rest: i128) -> Option<i128>
-    ensures { IfSome result (λ v. v ≡ (coefficient *ℤ pos term) +ℤ rest) }
-{
-    let term = i128::try_from(term).ok()?;
-    coefficient.checked_mul(term)?.checked_add(rest)
 }

@@ -1,18 +1,21 @@
 //! A formula for numbers by sizes: `4 log n + 5`.
 #![tactic(auto)]
 
-mod basis;
 mod choice;
 mod doubling;
+mod echelon;
 mod equation;
 mod finding;
 mod fitting;
 mod formula;
-mod gcd;
 mod growth;
 mod growth_text;
+mod natural;
+mod quotient;
 mod row;
+mod solution;
 mod term;
+mod wide;
 
 pub use finding::fit;
 pub use formula::Formula;

@@ -1,4 +1,4 @@
-//! What no clause says: that a formula is found, and which one.
+//! Which formulas are found, and their text, by examples.
 
 use growth_formulas::{Formula, Growth, Row, fit, write_growth};
 use std::alloc::Global;
@@ -203,6 +203,19 @@ const GREAT_SIZES: [Row; 3] = [
     Row { size: 0, number: 3 },
 ];
 
+// n^2 where squares have no i128.
+const GREAT_SQUARES: [Row; 3] = [
+    Row { size: 3, number: 9 },
+    Row {
+        size: 9_223_372_036_854_775_808,
+        number: 85_070_591_730_234_615_865_843_651_857_942_052_864,
+    },
+    Row {
+        size: u64::MAX,
+        number: 340_282_366_920_938_463_426_481_119_284_349_108_225,
+    },
+];
+
 const NONE: Formula = Formula {
     constant: 0,
     logarithm: 0,
@@ -278,8 +291,8 @@ fn nothing_is_told_of_other_tables(rt: HostRuntime) -> Result<(), Fail> {
 }
 
 #[test]
-fn great_numbers_are_skipped(rt: HostRuntime) -> Result<(), Fail> {
+fn great_numbers_are_told_where_coefficients_are_not(rt: HostRuntime) -> Result<(), Fail> {
     assert_eq!(rt; fit(&GREAT_NUMBERS), Growth::Nothing);
     assert_eq!(rt; fit(&GREAT_SIZES), Growth::Nothing);
-    Ok(())
+    assert_line(&rt, rt.alloc(), &GREAT_SQUARES, b"time n^2\n")
 }
