@@ -5,6 +5,7 @@ ghost use Rattle.std.specs.List.{fold};
 ghost use Rattle.serde_json.specs.View.{view};
 ghost use Rattle.json_lines.specs.Lines.{IsJson};
 ghost use Rattle.step_entries.specs.Entries.{entry_is};
+ghost use Rattle.step_entries.specs.Replay as replay;
 ghost use Rattle.step_pages.specs.State as spec;
 
 use json_lines::{Object, Value, line_of};
@@ -14,7 +15,7 @@ use step_entries::{Change, Entry};
 // Puts zeros behind values, up to a number.
 fn put_zeros(values: &mut Vec<i64>, at: usize) -> Result<(), AllocError>
     ensures reaches { OnOk result (at < length values.new.items) }
-    ensures same { OnOk result ((v : ℤ) → spec.with_value values.new.items at v ≡ spec.with_value values.old.items at v) }
+    ensures same { OnOk result ((v : ℤ) → replay.with_value values.new.items at v ≡ replay.with_value values.old.items at v) }
 {
     while values.len() <= at {
         values.push(0)?;
@@ -24,7 +25,7 @@ fn put_zeros(values: &mut Vec<i64>, at: usize) -> Result<(), AllocError>
 
 // Puts a value at a number, with zeros up to there.
 fn put_value(values: &mut Vec<i64>, at: usize, value: i64) -> Result<(), AllocError>
-    ensures { OnOk result (values.new.items ≡ spec.with_value values.old.items at value) }
+    ensures { OnOk result (values.new.items ≡ replay.with_value values.old.items at value) }
 {
     put_zeros(values, at)?;
     values[at] = value;
@@ -33,7 +34,7 @@ fn put_value(values: &mut Vec<i64>, at: usize, value: i64) -> Result<(), AllocEr
 
 // Makes changes, one after another.
 fn put_changes(values: &mut Vec<i64>, changes: &[Change]) -> Result<(), AllocError>
-    ensures { OnOk result (values.new.items ≡ fold spec.with_change values.old.items changes.now) }
+    ensures { OnOk result (values.new.items ≡ fold replay.with_change values.old.items changes.now) }
 {
     for change in changes {
         put_value(values, change.cell, change.after)?;
@@ -43,7 +44,7 @@ fn put_changes(values: &mut Vec<i64>, changes: &[Change]) -> Result<(), AllocErr
 
 // Makes those of cells in a statement.
 fn put_cells(values: &mut Vec<i64>, entry: &Entry) -> Result<(), AllocError>
-    ensures { OnOk result (values.new.items ≡ spec.with_cells values.old.items (entry_is entry.now)) }
+    ensures { OnOk result (values.new.items ≡ replay.with_cells values.old.items (entry_is entry.now)) }
 {
     match entry {
         Entry::Ran { cells, .. } => put_changes(values, cells),
@@ -53,7 +54,7 @@ fn put_cells(values: &mut Vec<i64>, entry: &Entry) -> Result<(), AllocError>
 
 // Makes those of uniform variables in a statement.
 fn put_variables(values: &mut Vec<i64>, entry: &Entry) -> Result<(), AllocError>
-    ensures { OnOk result (values.new.items ≡ spec.with_variables values.old.items (entry_is entry.now)) }
+    ensures { OnOk result (values.new.items ≡ replay.with_variables values.old.items (entry_is entry.now)) }
 {
     match entry {
         Entry::Ran { variables, .. } => put_changes(values, variables),
@@ -63,7 +64,7 @@ fn put_variables(values: &mut Vec<i64>, entry: &Entry) -> Result<(), AllocError>
 
 // Counts what a statement printed.
 fn count_printed(count: &mut usize, entry: &Entry) -> Result<(), AllocError>
-    ensures { OnOk result (count.new ≡ spec.with_printed count.old (entry_is entry.now)) }
+    ensures { OnOk result (count.new ≡ replay.with_printed count.old (entry_is entry.now)) }
 {
     match entry {
         Entry::Ran { printed, .. } => {
@@ -105,9 +106,9 @@ impl RunState {
     /// Behind one statement more. `AllocError`: memory was refused, and part of its changes may have been made; or more numbers were
     /// printed than can be counted, which no memory holds.
     pub fn go_on(&mut self, entry: &Entry) -> Result<(), AllocError>
-        ensures cells { OnOk result (self.new.cells.items ≡ spec.with_cells self.old.cells.items (entry_is entry.now)) }
-        ensures variables { OnOk result (self.new.variables.items ≡ spec.with_variables self.old.variables.items (entry_is entry.now)) }
-        ensures printed { OnOk result (self.new.printed ≡ spec.with_printed self.old.printed (entry_is entry.now)) }
+        ensures cells { OnOk result (self.new.cells.items ≡ replay.with_cells self.old.cells.items (entry_is entry.now)) }
+        ensures variables { OnOk result (self.new.variables.items ≡ replay.with_variables self.old.variables.items (entry_is entry.now)) }
+        ensures printed { OnOk result (self.new.printed ≡ replay.with_printed self.old.printed (entry_is entry.now)) }
     {
         put_cells(&mut self.cells, entry)?;
         put_variables(&mut self.variables, entry)?;
