@@ -11,6 +11,7 @@ pub mod Comparisons
 pub mod Alone
 pub mod Rules
 pub mod PairParts
+pub mod Fitting
 pub mod PairInputs
 pub mod SweptRows
 pub mod Steps

@@ -44,10 +44,10 @@ module _ (now before : List ℕ → Option (List ℕ) → Type 0) (same : IsSame
   inputs_held [] (x ∷ is) h = absurd h
   inputs_held (f ∷ files) [] h = absurd h
 
-  pub words_held : (w : InputWords) (p : Checked) (is : List (List ℤ)) → AreInputs now w p is → AreInputs before w p is
-  words_held (inputs.Scope few) p is h = h
-  words_held (inputs.Files files) p is h = inputs_held files.items is h
-  words_held (inputs.Drawn d) p is h = h
+  pub words_held : (w : InputWords) (p q : Checked) (is : List (List ℤ)) → AreInputs now w p q is → AreInputs before w p q is
+  words_held (inputs.Scope few) p q is h = h
+  words_held (inputs.Files files) p q is h = inputs_held files.items is h
+  words_held (inputs.Drawn d) p q is h = h
 
   pub input_stops : (file : InputFile) (h : Halted) → StopsAtInput (now file.name.now) file.name.now h →
       StopsAtInput (before file.name.now) file.name.now h
@@ -62,11 +62,11 @@ module _ (now before : List ℕ → Option (List ℕ) → Type 0) (same : IsSame
   words_stop (inputs.Files files) h stops = files_stop files.items h stops
   words_stop (inputs.Drawn d) h stops = stops
 
-  most_held : (w : InputWords) (p : Checked) (n : ℕ) → AreMost now w p n → AreMost before w p n
-  most_held (inputs.Scope few) p n h = h
-  most_held (inputs.Files files) p n h = (h.0, inputs_held files.items h.0 h.1, h.2)
-  most_held (inputs.Drawn d) p n h = h
+  most_held : (w : InputWords) (p q : Checked) (n : ℕ) → AreMost now w p q n → AreMost before w p q n
+  most_held (inputs.Scope few) p q n h = h
+  most_held (inputs.Files files) p q n h = (h.0, inputs_held files.items h.0 h.1, h.2)
+  most_held (inputs.Drawn d) p q n h = h
 
   pub pair_refused : (w : InputWords) (p q : Checked) (h : Halted) → IsRefusedPair now w p q h → IsRefusedPair before w p q h
   pair_refused w p q h (inl stops) = inl (words_stop w h stops)
-  pair_refused w p q h (inr refused) = inr (refused.0, most_held w p refused.0 refused.1, refused.2)
+  pair_refused w p q h (inr refused) = inr (refused.0, most_held w p q refused.0 refused.1, refused.2)

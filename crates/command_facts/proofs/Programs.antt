@@ -12,10 +12,10 @@ use Rattle.diagnoses.specs.Sources.{text_by}
 use Rattle.command_requests.specs.declared.request.ProgramFile.{ProgramFile}
 use Rattle.command_requests.specs.declared.request.SizeWord.{SizeWord}
 use Rattle.command_facts.specs.declared.loaded.Loaded.{Loaded}
-use Rattle.command_sizes.specs.Expanded.{HasExpansion}
+use Rattle.command_sizes.specs.Expanded.{HasExpansion, IsExpandedBy}
 use Rattle.command_facts.specs.Found.{IsLoaded}
 use Rattle.command_facts.specs.Held.{IsExpansionIn}
-use Rattle.command_facts.specs.Refused.{IsProgramIn}
+use Rattle.command_facts.specs.Refused.{IsProgramIn, IsProgramOfText}
 
 -- what is so of the text that a source gives is so of the expansion of what its file holds
 expansion_in : (holds : Option (List ℕ) → Type 0) (words : List SizeWord) (bytes : List ℕ) (x : Option Expanded) (Is : List ℕ → Type 0) →
@@ -29,6 +29,24 @@ program_in holds file l is =
     let found = expansion_in (holds file.name.now) file.sizes.items l.source.bytes.items l.source.expansion
     (λ (t : List ℕ). IsProgramOf t l.program) is.0.0 is.0.1 is.1 in
     record { expansion = found.0; is_expansion = found.1; is_program = found.2 }
+
+-- they are those of the text that was read
+expansion_of : (words : List SizeWord) (bytes : List ℕ) (x : Option Expanded) (Is : List ℕ → Type 0) → HasExpansion words bytes x →
+    Is (text_by x bytes) → (e : Expansion) × IsExpandedBy words bytes e × Is e.text
+expansion_of words bytes None Is has is = absurd has
+expansion_of words bytes (Some e) Is has is = (shown e, has, is)
+
+pub program_of : (holds : List ℕ → Option (List ℕ) → Type 0) (file : ProgramFile) (l : Loaded) → IsLoaded (holds file.name.now) file l →
+    IsProgramOfText holds file l.source.bytes.items l.program
+program_of holds file l is =
+    let found = expansion_of file.sizes.items l.source.bytes.items l.source.expansion
+    (λ (t : List ℕ). IsProgramOf t l.program) is.0.1 is.1 in
+    record { held = is.0.0; expansion = found.0; is_expansion = found.1; is_program = found.2 }
+
+pub of_text : (holds : List ℕ → Option (List ℕ) → Type 0) (file : ProgramFile) (text : List ℕ) (program : Checked) →
+    IsProgramOfText holds file text program → IsProgramIn holds file program
+of_text holds file text program h =
+    record { expansion = h.expansion; is_expansion = (text, h.held, h.is_expansion); is_program = h.is_program }
 
 -- so is their code
 pub code_in : (holds : List ℕ → Option (List ℕ) → Type 0) (file : ProgramFile) (l : Loaded) (code : SuperstepCode) →

@@ -24,7 +24,7 @@ use Rattle.command_facts.specs.declared.found.FoundRun.{FoundRun}
 use Rattle.command_facts.specs.declared.loaded.Loaded.{Loaded}
 use Rattle.command_facts.specs.Found.{IsLoaded, IsOpening, IsRunFound}
 use Rattle.command_facts.specs.Held.{IsAtFile, IsAtMemory, IsAtProgram, IsAtText, IsExpansionIn, IsNoFile, IsOfInput, StopsAtProgram}
-use Rattle.command_facts.specs.Refused.{IsForeignTo, IsProgramIn, RefusesRun, StopsAtOpening, StopsBefore}
+use Rattle.command_facts.specs.Refused.{IsForeignTo, IsProgramIn, IsProgramOfText, RefusesRun, StopsAtOpening, StopsBefore}
 use Rattle.command_facts.specs.Sweeps.{ComesOut, IsProgramRefused, IsRow, RunsAs}
 
 -- ---- files
@@ -92,6 +92,15 @@ module _ (now before : List ℕ → Option (List ℕ) → Type 0) (same : IsSame
   program_held file program h = record {
     expansion = h.expansion;
     is_expansion = expansion_held file.name.now file.sizes.items h.expansion h.is_expansion;
+    is_program = h.is_program;
+  }
+
+  pub text_held : (file : ProgramFile) (text : List ℕ) (program : Checked) → IsProgramOfText now file text program →
+      IsProgramOfText before file text program
+  text_held file text program h = record {
+    held = (same file.name.now (Some text)).0 h.held;
+    expansion = h.expansion;
+    is_expansion = h.is_expansion;
     is_program = h.is_program;
   }
 

@@ -1,6 +1,7 @@
 -- What calls find of two programs on the same inputs.
 use Rattle.std.specs.Prelude.{◌≡◌, ◌⊎◌, ℕ, ℤ, Bool, not, ◌&&◌, List, [], Option, Some, None, is_none, codes}
 use Rattle.std.specs.List.{AllZip, Any, filter_map, find}
+use Rattle.std.specs.Option.{unwrap_or}
 use Rattle.pram_model.specs.Layout.{SharedEntry, total_size}
 use Rattle.pram_model.specs.Names.{same_text}
 use Rattle.pram_check.specs.Checked.{Checked}
@@ -8,13 +9,14 @@ use Rattle.small_scopes.specs.Scopes.{inputs_of}
 use Rattle.memory_texts.specs.Chosen.{is_chosen, parts}
 use Rattle.memory_texts.specs.declared.choice.Choice.{Choice}
 use Rattle.memory_texts.specs.declared.choice.Choice.TheVariants.{All, Named, Nothing}
-use Rattle.comparisons.specs.Common.{common, common_named}
+use Rattle.comparisons.specs.Common.{common, common_named, front_cells}
 use Rattle.comparisons.specs.Found.{drawn_inputs, found, found_is, longest, most_told, too_long}
 use Rattle.comparisons.specs.declared.compared.CommonRange.{CommonRange}
 use Rattle.comparisons.specs.declared.compared.Compared.{Compared}
 use Rattle.comparisons.specs.declared.comparison.Comparison.{Comparison}
 use Rattle.comparisons.specs.declared.refusal.Side.{Side}
 use Rattle.comparisons.specs.declared.refusal.Side.TheVariants as side
+use Rattle.command_requests.specs.declared.input_words.DrawnWords.{DrawnWords}
 use Rattle.command_requests.specs.declared.input_words.InputFile.{InputFile}
 use Rattle.command_requests.specs.declared.input_words.InputWords.{InputWords}
 use Rattle.command_requests.specs.declared.input_words.InputWords.TheVariants as inputs
@@ -28,7 +30,7 @@ use Rattle.command_facts.specs.declared.found.FoundPair.{FoundPair}
 use Rattle.diagnoses.specs.declared.halted.Halted.{Halted}
 use Rattle.command_facts.specs.Held.{IsInputIn, StopsAtInput, StopsAtProgram}
 use Rattle.command_facts.specs.Limits.{AreLimits, HaveNoLimits}
-use Rattle.command_facts.specs.Refused.{AreNumbers, IsProgramIn}
+use Rattle.command_facts.specs.Refused.{AreNumbers, IsProgramIn, IsProgramOfText}
 
 -- ---- what is compared
 
@@ -60,32 +62,47 @@ pub record IsCompared (words : PairWords) (first second : List SharedEntry) (tex
 abbrev pub IsInputOfFile : (List ℕ → Option (List ℕ) → Type 0) → InputFile → List ℤ → Type 0
 IsInputOfFile holds file values = IsInputIn (holds file.name.now) values
 
--- those of a scope; or those of files; or drawn, of values for all cells of the first program
-abbrev pub AreInputs : (List ℕ → Option (List ℕ) → Type 0) → InputWords → (first : Checked) → List (List ℤ) → Type 0
-AreInputs holds (inputs.Scope few) first is = is ≡ inputs_of few.scope
-AreInputs holds (inputs.Files files) first is = AllZip (IsInputOfFile holds) files.items is
-AreInputs holds (inputs.Drawn d) first is =
-    is ≡ drawn_inputs d.drawing.low d.drawing.high d.drawing.seed (total_size first.layout) d.count
+-- how many cells are drawn: as many as the words say, or those of the declarations with which both programs begin
+abbrev pub cells_drawn : DrawnWords → (p q : Checked) → ℕ
+cells_drawn d p q = unwrap_or d.cells (front_cells p.layout q.layout)
+
+-- that, where inputs are drawn
+abbrev pub drawn_of : InputWords → (p q : Checked) → Option ℕ
+drawn_of (inputs.Scope few) p q = None
+drawn_of (inputs.Files files) p q = None
+drawn_of (inputs.Drawn d) p q = Some (cells_drawn d p q)
+
+-- those of a scope; or those of files; or drawn, of values for so many cells
+abbrev pub AreInputs : (List ℕ → Option (List ℕ) → Type 0) → InputWords → (p q : Checked) → List (List ℤ) → Type 0
+AreInputs holds (inputs.Scope few) p q is = is ≡ inputs_of few.scope
+AreInputs holds (inputs.Files files) p q is = AllZip (IsInputOfFile holds) files.items is
+AreInputs holds (inputs.Drawn d) p q is =
+    is ≡ drawn_inputs d.drawing.low d.drawing.high d.drawing.seed (cells_drawn d p q) d.count
 
 -- ---- what is found
 
 -- the most values that one of them has
-abbrev pub most_values : InputWords → (first : Checked) → List (List ℤ) → ℕ
-most_values (inputs.Scope few) first is = few.scope.count
-most_values (inputs.Files files) first is = longest is
-most_values (inputs.Drawn d) first is = total_size first.layout
+abbrev pub most_values : InputWords → (p q : Checked) → List (List ℤ) → ℕ
+most_values (inputs.Scope few) p q is = few.scope.count
+most_values (inputs.Files files) p q is = longest is
+most_values (inputs.Drawn d) p q is = cells_drawn d p q
 
--- over just these inputs, within so many statements each; told are as many of those on which they differ as there may be of so many values
+-- Over just these inputs, within so many statements each, none of which is too long for either program; told are as many of those on which
+-- they differ as there may be of so many values.
+pub record IsFoundBy (p q : Checked) (c : Compared) (bound values : ℕ) (is : List (List ℤ)) (f : Comparison) : Type 0 where
+  pub fit : too_long p q values ≡ None
+  pub found : found_is f ≡ found p q c bound (most_told values) is
+
 abbrev pub IsFoundOn : (List ℕ → Option (List ℕ) → Type 0) → (p q : Checked) → Compared → InputWords → (bound : ℕ) → Comparison → Type 0
 IsFoundOn holds p q c words bound f =
-    (is : List (List ℤ)) × AreInputs holds words p is × (found_is f ≡ found p q c bound (most_told (most_values words p is)) is)
+    (is : List (List ℤ)) × AreInputs holds words p q is × IsFoundBy p q c bound (most_values words p q is) is f
 
--- of the programs of the two files
+-- of the programs of the two files, by the text of the second one
 pub record IsPaired (holds : List ℕ → Option (List ℕ) → Type 0) (words : PairWords) (f : FoundPair) : Type 0 where
   pub first : IsProgramIn holds words.first f.first
-  pub second : IsProgramIn holds words.second f.second
   pub text : List ℕ
-  pub held : holds words.second.name.now (Some text)
+  pub second : IsProgramOfText holds words.second text f.second
+  pub drawn : f.drawn ≡ drawn_of words.inputs f.first f.second
   pub compared : Compared
   pub is_compared : IsCompared words f.first.layout f.second.layout text compared
   pub found : IsFoundOn holds f.first f.second compared words.inputs words.bound f.comparison
@@ -114,10 +131,10 @@ abbrev pub AreMostIn : (List ℕ → Option (List ℕ) → Type 0) → List Inpu
 AreMostIn holds files n = (is : List (List ℤ)) × AllZip (IsInputOfFile holds) files is × (n ≡ longest is)
 
 -- the most values that an input has
-abbrev pub AreMost : (List ℕ → Option (List ℕ) → Type 0) → InputWords → (first : Checked) → ℕ → Type 0
-AreMost holds (inputs.Scope few) first n = n ≡ few.scope.count
-AreMost holds (inputs.Files files) first n = AreMostIn holds files.items n
-AreMost holds (inputs.Drawn d) first n = n ≡ total_size first.layout
+abbrev pub AreMost : (List ℕ → Option (List ℕ) → Type 0) → InputWords → (p q : Checked) → ℕ → Type 0
+AreMost holds (inputs.Scope few) p q n = n ≡ few.scope.count
+AreMost holds (inputs.Files files) p q n = AreMostIn holds files.items n
+AreMost holds (inputs.Drawn d) p q n = n ≡ cells_drawn d p q
 
 -- the cells of one of two programs
 abbrev pub cells_of : (p q : Checked) → Side → ℕ
@@ -134,7 +151,7 @@ IsTooLong p q values _ a = ⊥
 -- the runs are refused
 abbrev pub IsRefusedPair : (List ℕ → Option (List ℕ) → Type 0) → InputWords → (p q : Checked) → Halted → Type 0
 IsRefusedPair holds words p q h =
-    StopsAtWords holds words h ⊎ ((values : ℕ) × AreMost holds words p values × IsTooLong p q values h.stop h.about)
+    StopsAtWords holds words h ⊎ ((values : ℕ) × AreMost holds words p q values × IsTooLong p q values h.stop h.about)
 
 -- a limit has no number by the text of the second program
 abbrev pub StopsAtLimits : (List ℕ → Option (List ℕ) → Type 0) → PairWords → Halted → Type 0

@@ -24,6 +24,7 @@ use Rattle.diagnoses.specs.declared.halted.Halted.{Halted}
 use Rattle.command_facts.specs.Found.{IsOpening}
 use Rattle.sized_texts.specs.Pieces.{Expansion}
 use Rattle.command_requests.specs.declared.request.ProgramFile.{ProgramFile}
+use Rattle.command_sizes.specs.Expanded.{IsExpandedBy}
 use Rattle.command_facts.specs.Held.{IsExpansionIn, IsListingIn, StopsAtInput, StopsAtListing, StopsAtMemory, StopsAtProgram}
 
 -- ---- what is told of a run that is refused
@@ -50,6 +51,13 @@ IsRunRefusedBy _ program input words r = IsMeaningRefused program input r
 pub record IsProgramIn (holds : List ℕ → Option (List ℕ) → Type 0) (file : ProgramFile) (program : Checked) : Type 0 where
   pub expansion : Expansion
   pub is_expansion : IsExpansionIn (holds file.name.now) file.sizes.items expansion
+  pub is_program : IsProgramOf expansion.text program
+
+-- the program is that of what this text, which is all that its file holds, comes to by the sizes of the words
+pub record IsProgramOfText (holds : List ℕ → Option (List ℕ) → Type 0) (file : ProgramFile) (text : List ℕ) (program : Checked) : Type 0 where
+  pub held : holds file.name.now (Some text)
+  pub expansion : Expansion
+  pub is_expansion : IsExpandedBy file.sizes.items text expansion
   pub is_program : IsProgramOf expansion.text program
 
 -- the run of a program on an input is refused for that

@@ -1,5 +1,5 @@
 -- What calls find of a program on every input of a scope.
-use Rattle.std.specs.Prelude.{◌≡◌, ◌⊎◌, ◌<◌, ℕ, List, Option, Some, None}
+use Rattle.std.specs.Prelude.{◌≡◌, ◌⊎◌, ◌<◌, ◌≤◌, ℕ, List, Option, Some, None}
 use Rattle.pram_model.specs.Layout.{total_size}
 use Rattle.pram_model.specs.declared.rule.Rule.{Rule}
 use Rattle.pram_check.specs.Checked.{Checked}
@@ -25,12 +25,16 @@ abbrev pub under_rule : Option Rule → Checked → Checked
 under_rule None program = program
 under_rule (Some rule) program = under rule program
 
--- what is found of the file's program on every input of the scope, within so many statements each
+-- what is found of the file's program on every input of the scope, within so many statements each, by 1 to 32 workers; an input has no more
+-- values than the program has cells
 pub record IsExplored (holds : List ℕ → Option (List ℕ) → Type 0) (file : ProgramFile) (scope : ScopeWords) (bound : ℕ) (f : FoundScope)
     : Type 0 where
   pub loaded : Loaded
   pub is_loaded : IsLoaded (holds file.name.now) file loaded
   pub ran : f.program ≡ under_rule scope.rule loaded.program
+  pub some : 1 ≤ scope.workers
+  pub few : scope.workers ≤ 32
+  pub fit : scope.scope.count ≤ total_size f.program.layout
   pub found : found_is f.findings ≡ found f.program bound (inputs_of scope.scope)
 
 -- There are no workers, or more than 32; the inputs have more values than the program has cells, which is told with both numbers; or memory

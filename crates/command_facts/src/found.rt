@@ -102,11 +102,12 @@ pub struct FoundScope {
     pub findings: Findings,
 }
 
-/// Two programs, and what is found of their runs on the same inputs.
+/// Two programs, how many cells are drawn of each input, where inputs are, and what is found of their runs on the same inputs.
 #[derive(Drop)]
 pub struct FoundPair {
     pub first: Program,
     pub second: Program,
+    pub drawn: Option<u32>,
     pub comparison: PairComparison,
 }
 

@@ -5,7 +5,6 @@ ghost use Rattle.std.specs.List.{AllZip, cons_option, filter_map, find};
 ghost use Rattle.std.specs.Option.{option_map};
 ghost use Rattle.system_files.specs.Files.{IsSame};
 ghost use Rattle.memory_texts.specs.Chosen.{parts};
-ghost use Rattle.pram_model.specs.Layout.{total_size};
 ghost use Rattle.pram_tokens.specs.Plain.{IsPlain};
 ghost use Rattle.small_scopes.specs.Scopes.{inputs_of};
 ghost use Rattle.comparisons.specs.Common.{common_named};
@@ -15,7 +14,7 @@ ghost use Rattle.comparisons.specs.declared.refusal.Side as rust;
 ghost use Rattle.command_facts.specs.Held.{StopsAtProgram};
 ghost use Rattle.command_facts.specs.Limits.{HaveNoLimits};
 ghost use Rattle.command_facts.specs.Pairs as spec;
-ghost use Rattle.command_facts.specs.Refused.{IsProgramIn};
+ghost use Rattle.command_facts.specs.Refused.{IsProgramIn, IsProgramOfText};
 
 use crate::found::FoundPair;
 use crate::limiting::limits_of;
@@ -24,7 +23,7 @@ use crate::pair_inputs::load_inputs;
 use command_requests::{DrawnWords, FewInputs, InputFile, InputWords, PairWords, ProgramFile};
 use comparisons::{
     CommonRange, Compared, Comparison, ComparisonRefusal, Side, common_ranges, compare_drawn,
-    compare_inputs, compare_scope, longest, named_range,
+    compare_inputs, compare_scope, front_cells, longest, named_range,
 };
 use diagnoses::{About, Halted};
 use memory_texts::{Choice, is_chosen};
@@ -48,14 +47,13 @@ fn load<'a, S: Sources>(
     Ok(loaded.program)
 }
 
-// The same, with the text that the file holds.
+// The same, with the text that the file holds, of which the program is.
 fn load_with_text<'a, S: Sources>(
     alloc: Global,
     file: &ProgramFile<'a>,
     sources: &mut S,
 ) -> Result<(Program, Vec<u8>), Halted<'a>>
-    ensures loaded { IfOk result (λ l. IsProgramIn (S.Sources.holds sources.old) file.now l.0) }
-    ensures held { IfOk result (λ l. S.Sources.holds sources.old file.now.name.now (Some l.1.items)) }
+    ensures loaded { IfOk result (λ l. IsProgramOfText (S.Sources.holds sources.old) file.now l.1.items l.0) }
     ensures plain { IfOk result (λ l. IsPlain l.1.items) }
     ensures refused { IfErr result (StopsAtProgram (S.Sources.holds sources.old file.now.name.now) file.now) }
     ensures same { IsSame (S.Sources.holds sources.new) (S.Sources.holds sources.old) }
@@ -205,8 +203,7 @@ fn on_scope<'a>(
     few: FewInputs,
     bound: u32,
 ) -> Result<Comparison, Halted<'a>>
-    ensures found { IfOk result (λ r. pairs.found_is r
-        ≡ pairs.found first.now second.now compared.now bound (pairs.most_told few.scope.count) (inputs_of few.scope)) }
+    ensures found { IfOk result (spec.IsFoundBy first.now second.now compared.now bound few.scope.count (inputs_of few.scope)) }
     ensures refused { IfErr result (λ h. spec.IsTooLong first.now second.now few.scope.count h.stop h.about) }
 {
     match compare_scope(alloc, first, second, compared, few.scope, bound) {
@@ -226,7 +223,7 @@ fn on_files<'a, S: Sources>(
     sources: &mut S,
 ) -> Result<Comparison, Halted<'a>>
     ensures found { IfOk result (λ r. (inputs : List (List ℤ)) × AllZip (spec.IsInputOfFile (S.Sources.holds sources.old)) files.now inputs
-        × (pairs.found_is r ≡ pairs.found first.now second.now compared.now bound (pairs.most_told (pairs.longest inputs)) inputs)) }
+        × spec.IsFoundBy first.now second.now compared.now bound (pairs.longest inputs) inputs r) }
     ensures refused { IfErr result (λ h. spec.StopsAtInputs (S.Sources.holds sources.old) files.now h
         ⊎ ((values : ℕ) × spec.AreMostIn (S.Sources.holds sources.old) files.now values
         × spec.IsTooLong first.now second.now values h.stop h.about)) }
@@ -238,27 +235,46 @@ fn on_files<'a, S: Sources>(
     }
 }
 
-// On inputs that are drawn.
+// How many cells are drawn of each input.
+fn cells_drawn(first: &Program, second: &Program, drawn: DrawnWords) -> u32
+    ensures { result ≡ spec.cells_drawn drawn first.now second.now }
+{
+    match drawn.cells {
+        Some(cells) => cells,
+        None => front_cells(first.layout(), second.layout()),
+    }
+}
+
+// The same, where inputs are drawn.
+fn drawn_of(first: &Program, second: &Program, words: &InputWords<'_>) -> Option<u32>
+    ensures { result ≡ spec.drawn_of words.now first.now second.now }
+{
+    match words {
+        InputWords::Scope(_) | InputWords::Files(_) => None,
+        InputWords::Drawn(drawn) => Some(cells_drawn(first, second, *drawn)),
+    }
+}
+
+// On inputs that are drawn, each of so many values.
 fn on_drawn<'a>(
     alloc: Global,
     first: &Program,
     second: &Program,
     compared: &Compared,
     drawn: DrawnWords,
+    cells: u32,
     bound: u32,
 ) -> Result<Comparison, Halted<'a>>
-    ensures found { IfOk result (λ r. pairs.found_is r ≡ pairs.found first.now second.now compared.now bound
-        (pairs.most_told (total_size first.now.layout))
-        (drawn_inputs drawn.drawing.low drawn.drawing.high drawn.drawing.seed (total_size first.now.layout) drawn.count)) }
-    ensures refused { IfErr result (λ h. spec.IsTooLong first.now second.now (total_size first.now.layout) h.stop h.about) }
+    requires { cells ≡ spec.cells_drawn drawn first.now second.now }
+    ensures found { IfOk result (spec.IsFoundBy first.now second.now compared.now bound (spec.cells_drawn drawn first.now second.now)
+        (drawn_inputs drawn.drawing.low drawn.drawing.high drawn.drawing.seed (spec.cells_drawn drawn first.now second.now) drawn.count)) }
+    ensures refused { IfErr result (λ h.
+        spec.IsTooLong first.now second.now (spec.cells_drawn drawn first.now second.now) h.stop h.about) }
 {
     let (drawing, count) = (drawn.drawing, drawn.count);
-    match compare_drawn(alloc, first, second, compared, drawing, count, bound) {
+    match compare_drawn(alloc, first, second, compared, drawing, cells, count, bound) {
         Ok(comparison) => Ok(comparison),
-        Err(why) => {
-            let cells = first.layout().cells() as usize;
-            Err(halted(why, cells, first, second))
-        }
+        Err(why) => Err(halted(why, cells as usize, first, second)),
     }
 }
 
@@ -280,7 +296,10 @@ fn compare_on<'a, S: Sources>(
         InputWords::Files(files) => {
             on_files(alloc, first, second, compared, files, bound, sources)
         }
-        InputWords::Drawn(drawn) => on_drawn(alloc, first, second, compared, *drawn, bound),
+        InputWords::Drawn(drawn) => {
+            let cells = cells_drawn(first, second, *drawn);
+            on_drawn(alloc, first, second, compared, *drawn, cells, bound)
+        }
     }
 }
 
@@ -316,9 +335,11 @@ pub(crate) fn find_pair<'a, S: Sources>(
     let first = load(alloc, &words.first, sources)?;
     let (second, text) = load_with_text(alloc, &words.second, sources)?;
     let comparison = compare_pair(alloc, &first, &second, &text, words, sources)?;
+    let drawn = drawn_of(&first, &second, &words.inputs);
     Ok(FoundPair {
         first,
         second,
+        drawn,
         comparison,
     })
 }

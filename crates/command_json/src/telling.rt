@@ -101,10 +101,10 @@ fn scope_text(alloc: Global, found: &FoundScope) -> Result<String, AllocError>
 // What is found of two programs on the same inputs.
 fn pair_text(alloc: Global, pair: &FoundPair) -> Result<String, AllocError>
     ensures told { IfOk result (λ text. IsJson
-        (pair_facts pair.now.first.layout pair.now.second.layout (pairs.found_is pair.now.comparison)) (string_bytes text)) }
+        (pair_facts pair.now.first.layout pair.now.second.layout pair.now.drawn (pairs.found_is pair.now.comparison)) (string_bytes text)) }
 {
     let (first, second) = (pair.first.layout(), pair.second.layout());
-    json_pair(alloc, first, second, &pair.comparison)
+    json_pair(alloc, first, second, pair.drawn, &pair.comparison)
 }
 
 // The lines of what was found.

@@ -16,11 +16,12 @@ pub struct FewInputs {
     ghost few: { length (inputs_of scope) ≤ 100000000 },
 }
 
-/// Inputs that are drawn, each of values for all cells of the first program: as many as `count`, by the seed of the drawing, the next seed,
-/// and so on.
+/// Inputs that are drawn, as many as `count`, by the seed of the drawing, the next seed, and so on: each of values for so many cells, or,
+/// without a number of them, for those of the declarations with which both programs begin.
 #[derive(Clone, Copy, Debug)]
 pub struct DrawnWords {
     pub drawing: Drawing,
+    pub cells: Option<u32>,
     pub count: u32,
     ghost seeds: { drawing.seed + count < 2 ^ 64 },
 }

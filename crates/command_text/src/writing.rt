@@ -161,11 +161,11 @@ pub(crate) fn write_pair<'a, O: Out>(
     status: Status,
 ) -> Result<Status, Stop<'a>>
     ensures written { Wrote status
-        (pair_texts.comparison_text pair.now.first.layout pair.now.second.layout (pairs.found_is pair.now.comparison))
+        (pair_texts.comparison_text pair.now.first.layout pair.now.second.layout pair.now.drawn (pairs.found_is pair.now.comparison))
         (O.Out.state out.old) (O.Out.state out.new) result }
 {
     let (first, second) = (pair.first.layout(), pair.second.layout());
-    write_comparison(out, first, second, &pair.comparison)?;
+    write_comparison(out, first, second, pair.drawn, &pair.comparison)?;
     finish(out, status)
 }
 

@@ -323,7 +323,7 @@ const SCOPED: &[CommandOption] = &[
     CommandOption {
         name: CELLS,
         follows: Follows::Word("K"),
-        help: "Tries all inputs of K values, K up to 1048576",
+        help: "Tries all inputs of K values, K up to 1048576; with --random draws K",
     },
     CommandOption {
         name: VALUES,
@@ -364,7 +364,7 @@ const TRIED: &[CommandOption] = &[
     CommandOption {
         name: RANDOM,
         follows: Follows::Signed("LO..HI"),
-        help: "Tries values of this interval for all cells of FILE, drawn at random",
+        help: "Tries values of this interval, drawn for K or the common first cells",
     },
     CommandOption {
         name: COUNT,

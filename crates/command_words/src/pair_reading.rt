@@ -10,13 +10,15 @@ use crate::options::{
 use crate::run_reading::{number_of, seed_of};
 use crate::scope_reading::{count_of, few_inputs};
 use clap::ArgMatches;
-use command_requests::{DrawnWords, InputFile, InputWords, MOST_DRAWN, PairWords, ProgramFile};
+use command_requests::{
+    DrawnWords, InputFile, InputWords, MOST_CELLS, MOST_DRAWN, PairWords, ProgramFile,
+};
 use drawn_inputs::{Drawing, read_interval};
 use memory_texts::Choice;
 use program_texts::Stop;
 use std::alloc::{AllocError, Global};
 
-// What is told where a call has none of the ways to give inputs, a part of one, or two.
+// What is told where a call has none of the ways to give inputs, or files and another one.
 const INPUTS: &str = "--input";
 
 fn input_files<'a>(
@@ -32,23 +34,55 @@ fn input_files<'a>(
     Ok(files)
 }
 
-// Inputs that are drawn, as many as that.
+// How many cells are drawn, where the call says so.
+fn drawn_cells<'a>(words: &ArgMatches<'a>) -> Result<Option<u32>, Stop<'a>>
+    ensures { IfErr result IsOfWords }
+{
+    match words.get_str(CELLS) {
+        None => Ok(None),
+        Some(word) => Ok(Some(count_of(word, 0, MOST_CELLS)?)),
+    }
+}
+
+// Inputs of this interval, as many as that.
+fn drawn_of<'a>(
+    words: &ArgMatches<'a>,
+    interval: &'a str,
+    word: &'a str,
+) -> Result<DrawnWords, Stop<'a>>
+    ensures { IfErr result IsOfWords }
+{
+    let seed = seed_of(words)?;
+    let count = count_of(word, 1, MOST_DRAWN)?;
+    let cells = drawn_cells(words)?;
+    match read_interval(interval) {
+        Some((low, high)) => Ok(DrawnWords {
+            drawing: Drawing { low, high, seed },
+            cells,
+            count,
+        }),
+        None => Err(Stop::Number(interval)),
+    }
+}
+
+// Inputs that are drawn. Where an option is missing, one that is there is told.
 fn drawn_words<'a>(words: &ArgMatches<'a>) -> Result<DrawnWords, Stop<'a>>
     ensures { IfErr result IsOfWords }
 {
     match (words.get_str(RANDOM), words.get_str(COUNT)) {
-        (Some(interval), Some(word)) => {
-            let seed = seed_of(words)?;
-            let count = count_of(word, 1, MOST_DRAWN)?;
-            match read_interval(interval) {
-                Some((low, high)) => Ok(DrawnWords {
-                    drawing: Drawing { low, high, seed },
-                    count,
-                }),
-                None => Err(Stop::Number(interval)),
-            }
-        }
-        (_, _) => Err(Stop::Number(INPUTS)),
+        (Some(interval), Some(word)) => drawn_of(words, interval, word),
+        (Some(_), None) => Err(Stop::Number("--random")),
+        (None, Some(_)) => Err(Stop::Number("--count")),
+        (None, None) => Err(Stop::Number("--seed")),
+    }
+}
+
+// The option of a scope that is there beside inputs that are drawn.
+fn scope_option(words: &ArgMatches<'_>) -> &'static str {
+    if words.get_str(PERMUTATIONS).is_some() {
+        "--permutations"
+    } else {
+        "--values"
     }
 }
 
@@ -57,14 +91,15 @@ fn input_words<'a>(alloc: Global, words: &ArgMatches<'a>) -> Result<InputWords<'
     ensures { IfErr result IsOfWords }
 {
     let is_of_files = words.get_strs(INPUT).is_some();
-    let is_whole = words.get_str(CELLS).is_some() || words.get_str(VALUES).is_some();
-    let is_scope = is_whole || words.get_str(PERMUTATIONS).is_some();
     let is_seeded = words.get_str(COUNT).is_some() || words.get_str(SEED).is_some();
     let is_drawn = is_seeded || words.get_str(RANDOM).is_some();
+    let is_whole = words.get_str(VALUES).is_some() || words.get_str(PERMUTATIONS).is_some();
+    let is_scope = is_whole || (words.get_str(CELLS).is_some() && !is_drawn);
     match (is_of_files, is_scope, is_drawn) {
         (true, false, false) => Ok(InputWords::Files(input_files(alloc, words)?)),
         (false, true, false) => Ok(InputWords::Scope(few_inputs(words, INPUTS)?)),
         (false, false, true) => Ok(InputWords::Drawn(drawn_words(words)?)),
+        (false, true, true) => Err(Stop::Number(scope_option(words))),
         (_, _, _) => Err(Stop::Number(INPUTS)),
     }
 }

@@ -89,7 +89,7 @@ fn counted<'a>(scope: Scope, word: &'a str) -> Result<FewInputs, Stop<'a>>
     }
 }
 
-/// The inputs of a scope. Where there is none, or one without values or without cells, that option is told.
+/// The inputs of a scope. Where one has no values or no cells, its option that is there is told, and where there is none the missing one.
 pub(crate) fn few_inputs<'a>(
     words: &ArgMatches<'a>,
     missing: &'static str,
@@ -101,7 +101,9 @@ pub(crate) fn few_inputs<'a>(
         (Some(cells), Some(values), None) => counted(scope_of(cells, values)?, values),
         (None, None, Some(word)) => counted(orders_of(word)?, word),
         (_, _, Some(_)) => Err(Stop::Number("--permutations")),
-        (_, _, None) => Err(Stop::Number(missing)),
+        (Some(_), None, None) => Err(Stop::Number("--cells")),
+        (None, Some(_), None) => Err(Stop::Number("--values")),
+        (None, None, None) => Err(Stop::Number(missing)),
     }
 }
 

@@ -58,6 +58,11 @@ difference_text first second (differ.Work taken limit) = excess_text (codes "wor
 abbrev pub counts_line : Found → List ℕ
 counts_line f = codes "inputs " ++ (decimal f.inputs ++ (codes " same " ++ (decimal f.same ++ codes "\n")))
 
+-- `cells 8`, how many are drawn, where inputs are
+abbrev pub cells_line : Option ℕ → List ℕ
+cells_line None = []
+cells_line (Some count) = codes "cells " ++ (decimal count ++ codes "\n")
+
 -- `input 2 1: output item 1 is 3, and 2`
 abbrev pub differing_line : (first second : List SharedEntry) → Differing → List ℕ
 differing_line first second d =
@@ -68,6 +73,7 @@ abbrev pub first_line : (first second : List SharedEntry) → List Differing →
 first_line first second [] = []
 first_line first second (d ∷ told) = differing_line first second d
 
--- how many inputs there are and on how many both come to the same; and the first on which they don't, if there is one
-abbrev pub comparison_text : (first second : List SharedEntry) → Found → List ℕ
-comparison_text first second f = counts_line f ++ first_line first second f.told
+-- how many inputs there are and on how many both come to the same; how many cells are drawn; and the first input on which they don't, if
+-- there is one
+abbrev pub comparison_text : (first second : List SharedEntry) → (cells : Option ℕ) → Found → List ℕ
+comparison_text first second cells f = counts_line f ++ (cells_line cells ++ first_line first second f.told)

@@ -1,6 +1,6 @@
 //! The text of a comparison.
 
-ghost use Rattle.std.specs.Prelude.{◌≡◌, ◌<◌, ◌^◌, map};
+ghost use Rattle.std.specs.Prelude.{◌≡◌, Some, map};
 ghost use Rattle.text_out.specs.Out.{Writes};
 ghost use Rattle.comparisons.specs.Found.{differing_is, found_is};
 ghost use Rattle.comparison_texts.specs.ComparisonText as spec;
@@ -25,6 +25,24 @@ fn write_counts<W: Out>(out: &mut W, comparison: &Comparison) -> Result<(), Writ
         same.format(comparison.same).as_bytes(),
         b"\n",
     ])
+}
+
+// How many cells are drawn.
+fn write_cell_count<W: Out>(out: &mut W, count: u32) -> Result<(), WriteFault>
+    ensures written { Writes (W.Out.state out.old) (W.Out.state out.new) (spec.cells_line (Some count)) result }
+{
+    let mut digits = Buffer::new();
+    out.write_parts(&[b"cells ", digits.format(count).as_bytes(), b"\n"])
+}
+
+// That, where any are.
+fn write_cells<W: Out>(out: &mut W, cells: Option<u32>) -> Result<(), WriteFault>
+    ensures written { Writes (W.Out.state out.old) (W.Out.state out.new) (spec.cells_line cells) result }
+{
+    match cells {
+        None => out.write_all(b""),
+        Some(count) => write_cell_count(out, count),
+    }
 }
 
 // An input, and what differs on it.
@@ -59,18 +77,20 @@ fn write_first<W: Out>(
     }
 }
 
-/// Writes what is found of two programs: a line as `inputs 625 same 624`, and, where they differ on an input, a line for the first of
-/// those, as `input 2 1: output item 1 is 3, and 2`. The layouts are the shared declarations of the two programs. The error is that the
-/// writer failed (E17).
+/// Writes what is found of two programs: a line as `inputs 625 same 624`; where inputs are drawn, how many cells are, as `cells 8`; and,
+/// where they differ on an input, a line for the first of those, as `input 2 1: output item 1 is 3, and 2`. The layouts are the shared
+/// declarations of the two programs. The error is that the writer failed (E17).
 pub fn write_comparison<W: Out>(
     out: &mut W,
     first: &Layout,
     second: &Layout,
+    cells: Option<u32>,
     comparison: &Comparison,
 ) -> Result<(), WriteFault>
     ensures written { Writes (W.Out.state out.old) (W.Out.state out.new)
-        (spec.comparison_text first.now second.now (found_is comparison.now)) result }
+        (spec.comparison_text first.now second.now cells (found_is comparison.now)) result }
 {
     write_counts(out, comparison)?;
+    write_cells(out, cells)?;
     write_first(out, first, second, &comparison.told)
 }

@@ -1,11 +1,12 @@
 //! What is said of commands for those who write algorithms, and of plans that leave the machine.
 
-pub(crate) const EXPLORE: [u8; 1082] =
+pub(crate) const EXPLORE: [u8; 1124] =
     *b"pramc explore FILE: runs the program on every input of a small scope.
 
 It says on how many inputs the run ends, faults or goes on at its bound; each
-kind of fault at each line, with the first input that meets it; and the least
-and greatest time and work. So `ended 120` of `inputs 120` proves it for these.
+kind of fault at each line, with the first input that meets it; the first input
+on which the run goes on; and the least and greatest time and work. So
+`ended 120` of `inputs 120` proves it for these.
 
 Type this:
 
@@ -27,7 +28,7 @@ Exit status: 0 all end, 1 one faults, 2 it was refused, 3 none faults and one
 met the bound.
 ";
 
-pub(crate) const COMPARE: [u8; 1466] =
+pub(crate) const COMPARE: [u8; 1613] =
     *b"pramc compare FILE FILE2: runs two programs on the same inputs.
 
 It says on how many inputs both come to the same: both end with the same output
@@ -48,6 +49,8 @@ Which inputs, by one of these lines:
 --permutations K    all orders of the numbers 1 to K, K up to 10
 --random LO..HI, --count C, --seed S
                     C of them, as run draws them by the seeds S, S + 1, ..
+                    Drawn are K cells by --cells K, and else those of the
+                    declarations with which both begin; all others are 0
 
 What is compared, else the output, and what both declare with the same bounds:
 

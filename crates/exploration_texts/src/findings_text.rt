@@ -1,8 +1,9 @@
 //! The text of findings.
 
-ghost use Rattle.std.specs.Prelude.{◌<◌, ◌^◌, map};
+ghost use Rattle.std.specs.Prelude.{Some, map};
+ghost use Rattle.std.specs.Option.{option_map};
 ghost use Rattle.text_out.specs.Out.{Writes};
-ghost use Rattle.explorations.specs.Found.{found_is, met_is};
+ghost use Rattle.explorations.specs.Found.{found_is, met_is, values_of};
 ghost use Rattle.exploration_texts.specs.FindingsText as spec;
 
 use explorations::{Findings, FoundFault, Span};
@@ -55,6 +56,25 @@ fn write_all_met<W: Out>(
     Ok(())
 }
 
+// An input on which the run goes on.
+fn write_going_on_at<W: Out>(out: &mut W, input: &[i64]) -> Result<(), WriteFault>
+    ensures written { Writes (W.Out.state out.old) (W.Out.state out.new) (spec.going_on_line (Some input.now)) result }
+{
+    out.write_all(b"goes on at input")?;
+    write_values(out, input)?;
+    out.write_all(b"\n")
+}
+
+// The first of these, if there is one.
+fn write_going_on<W: Out>(out: &mut W, input: &Option<Vec<i64>>) -> Result<(), WriteFault>
+    ensures written { Writes (W.Out.state out.old) (W.Out.state out.new) (spec.going_on_line (option_map values_of input.now)) result }
+{
+    match input {
+        None => out.write_all(b""),
+        Some(input) => write_going_on_at(out, input.as_slice()),
+    }
+}
+
 // From the least to the greatest, where there are any.
 fn write_span<W: Out>(out: &mut W, words: &[u8], span: Option<Span>) -> Result<(), WriteFault>
     ensures written { Writes (W.Out.state out.old) (W.Out.state out.new) (spec.span_line words.now span) result }
@@ -80,8 +100,8 @@ fn write_some_span<W: Out>(out: &mut W, words: &[u8], span: Span) -> Result<(), 
 }
 
 /// Writes what is found, one fact a line: how many inputs there are, and on how many the run ends, faults and goes on; each fault that
-/// was found, with its first input; and, where any run ends, the least and the greatest time and work of those that do. The error is
-/// that the writer failed (E17).
+/// was found, with its first input; the first input on which the run goes on, if there is one; and, where any run ends, the least and the
+/// greatest time and work of those that do. The error is that the writer failed (E17).
 pub fn write_findings<W: Out>(
     out: &mut W,
     layout: &Layout,
@@ -92,6 +112,7 @@ pub fn write_findings<W: Out>(
 {
     write_counts(out, findings)?;
     write_all_met(out, layout, findings.faults.as_slice())?;
+    write_going_on(out, &findings.goes_on_at)?;
     write_span(out, b"time ", findings.time)?;
     write_span(out, b"work ", findings.work)
 }

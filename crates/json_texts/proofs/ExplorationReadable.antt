@@ -1,5 +1,5 @@
 -- That what is told of every input of a scope can be read.
-use Rattle.std.proofs.Common.{ℕ, List, [], ◌∷◌, ◌++◌, codes, lit≤, map}
+use Rattle.std.proofs.Common.{ℕ, ℤ, List, [], ◌∷◌, ◌++◌, codes, lit≤, map}
 use Rattle.std.specs.Prelude.{Option, Some, None}
 use Rattle.json_lines.specs.Small.{IsReadable, IsSmall}
 use Rattle.json_lines.proofs.Small.{HasSmall, has_all, small_large, small_list, small_map, small_object, small_values, smaller}
@@ -7,7 +7,8 @@ use Rattle.pram_model.specs.Layout.{SharedEntry}
 use Rattle.explorations.specs.Firsts.{Met}
 use Rattle.explorations.specs.Found.{Found}
 use Rattle.explorations.specs.declared.findings.Span.{Span}
-use Rattle.json_texts.specs.ExplorationFacts.{cost_fields, count_fields, exploration_facts, met_facts, span_facts, span_fields}
+use Rattle.json_texts.specs.ExplorationFacts.{cost_fields, count_fields, exploration_facts, going_on_fields, met_facts, span_facts}
+use Rattle.json_texts.specs.ExplorationFacts.{span_fields}
 use Rattle.json_texts.specs.OutcomeFacts.{fault_fields}
 use Rattle.json_texts.proofs.Readable.{readable, small_fault}
 
@@ -42,7 +43,13 @@ small_costs f =
     has_all 3 (span_fields (codes "time") f.time) (span_fields (codes "work") f.work) (small_spans (codes "time") f.time)
     (small_spans (codes "work") f.work)
 
+small_going_on : (input : Option (List ℤ)) → HasSmall 3 (going_on_fields input)
+small_going_on None = tt
+small_going_on (Some input) = (small_values 2 input, tt)
+
 pub readable_exploration : (layout : List SharedEntry) (f : Found) → IsReadable (exploration_facts layout f)
 readable_exploration layout f =
-    readable (count_fields layout f ++ cost_fields f)
-    (has_all 3 (count_fields layout f) (cost_fields f) (small_counts layout f) (small_costs f))
+    let behind = going_on_fields f.goes_on_at ++ cost_fields f in
+    readable (count_fields layout f ++ behind)
+    (has_all 3 (count_fields layout f) behind (small_counts layout f)
+    (has_all 3 (going_on_fields f.goes_on_at) (cost_fields f) (small_going_on f.goes_on_at) (small_costs f)))

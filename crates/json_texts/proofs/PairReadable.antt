@@ -10,7 +10,7 @@ use Rattle.comparisons.specs.declared.difference.Difference.{Difference}
 use Rattle.comparisons.specs.declared.difference.Difference.TheVariants as differ
 use Rattle.comparisons.specs.declared.difference.Ending.{Ending}
 use Rattle.comparisons.specs.declared.difference.Ending.TheVariants as ending
-use Rattle.json_texts.specs.PairFacts.{both_fields, difference_fields, differing_facts, differing_fields, ending_facts, ending_fields}
+use Rattle.json_texts.specs.PairFacts.{both_fields, cells_fields, difference_fields, differing_facts, differing_fields, ending_facts, ending_fields}
 use Rattle.json_texts.specs.PairFacts.{excess_fields, first_fields, found_fields, pair_fields, told_fields, value_fields, whole_facts}
 use Rattle.json_texts.proofs.Readable.{readable, small_fault}
 
@@ -59,6 +59,16 @@ small_found first second f =
     has_all 3 (told_fields f) (first_fields first second f.told)
     (small_told_if (length f.told) (nat_lt (length f.told) (f.inputs - f.same))) (small_first first second f.told)
 
-pub readable_whole : (first second : List SharedEntry) (f : Found) → IsReadable (whole_facts first second f)
-readable_whole first second f =
-    readable (pair_fields first second f) (small_large 3 f.inputs, (small_large 3 f.same, small_found first second f))
+small_cells : (cells : Option ℕ) → HasSmall 3 (cells_fields cells)
+small_cells None = tt
+small_cells (Some n) = (small_large 3 n, tt)
+
+pub readable_whole : (first second : List SharedEntry) (cells : Option ℕ) (f : Found) → IsReadable (whole_facts first second cells f)
+readable_whole first second cells f =
+    readable (pair_fields first second cells f) (
+      small_large 3 f.inputs,
+      (
+        small_large 3 f.same,
+        has_all 3 (cells_fields cells) (found_fields first second f) (small_cells cells) (small_found first second f),
+      ),
+    )

@@ -1,5 +1,5 @@
 -- What JSON says of what is found on every input of a scope.
-use Rattle.std.specs.Prelude.{ℕ, List, [], ◌∷◌, ◌++◌, Option, Some, None, codes, map}
+use Rattle.std.specs.Prelude.{ℕ, ℤ, List, [], ◌∷◌, ◌++◌, Option, Some, None, codes, map}
 use Rattle.serde_json.specs.Data.{Data}
 use Rattle.json_lines.specs.Facts.{Field, large, list, object_of, values}
 use Rattle.pram_model.specs.Layout.{SharedEntry}
@@ -26,9 +26,14 @@ count_fields layout f =
     (codes "inputs", large f.inputs) ∷ (codes "ended", large f.ended) ∷ (codes "faulted", large f.faulted)
     ∷ (codes "go_on", large f.go_on) ∷ (codes "faults", list (map (met_facts layout) f.faults)) ∷ []
 
+-- the first input on which the run goes on, if there is one
+abbrev pub going_on_fields : Option (List ℤ) → List Field
+going_on_fields None = []
+going_on_fields (Some input) = (codes "goes_on_at", values input) ∷ []
+
 -- the least and the greatest time and work of the runs that end
 abbrev pub cost_fields : Found → List Field
 cost_fields f = span_fields (codes "time") f.time ++ span_fields (codes "work") f.work
 
 abbrev pub exploration_facts : List SharedEntry → Found → Data
-exploration_facts layout f = object_of (count_fields layout f ++ cost_fields f)
+exploration_facts layout f = object_of (count_fields layout f ++ (going_on_fields f.goes_on_at ++ cost_fields f))

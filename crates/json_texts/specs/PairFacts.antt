@@ -75,14 +75,19 @@ told_fields f = if nat_lt (length f.told) (f.inputs - f.same) then (codes "told"
 abbrev pub found_fields : (first second : List SharedEntry) → Found → List Field
 found_fields first second f = told_fields f ++ first_fields first second f.told
 
--- how many inputs there are, and on how many both come to the same
-abbrev pub pair_fields : (first second : List SharedEntry) → Found → List Field
-pair_fields first second f =
-    (codes "inputs", large f.inputs) ∷ (codes "same", large f.same) ∷ found_fields first second f
+-- how many cells are drawn, where inputs are
+abbrev pub cells_fields : Option ℕ → List Field
+cells_fields None = []
+cells_fields (Some n) = (codes "cells", large n) ∷ []
 
-abbrev pub whole_facts : (first second : List SharedEntry) → Found → Data
-whole_facts first second f = object_of (pair_fields first second f)
+-- how many inputs there are, on how many both come to the same, and how many cells are drawn
+abbrev pub pair_fields : (first second : List SharedEntry) → (cells : Option ℕ) → Found → List Field
+pair_fields first second cells f =
+    (codes "inputs", large f.inputs) ∷ (codes "same", large f.same) ∷ (cells_fields cells ++ found_fields first second f)
+
+abbrev pub whole_facts : (first second : List SharedEntry) → (cells : Option ℕ) → Found → Data
+whole_facts first second cells f = object_of (pair_fields first second cells f)
 
 -- a line for each input that is told, and one for the whole
-abbrev pub pair_facts : (first second : List SharedEntry) → Found → List Data
-pair_facts first second f = map (differing_facts first second) f.told ++ whole_facts first second f ∷ []
+abbrev pub pair_facts : (first second : List SharedEntry) → (cells : Option ℕ) → Found → List Data
+pair_facts first second cells f = map (differing_facts first second) f.told ++ whole_facts first second cells f ∷ []

@@ -1,8 +1,9 @@
 //! What is found on every input of a scope.
 
 ghost use Rattle.std.specs.Prelude.{◌≡◌, ◌∷◌, ◌++◌, [], IfOk, OnOk, map, string_bytes};
+ghost use Rattle.std.specs.Option.{option_map};
 ghost use Rattle.serde_json.specs.View.{view};
-ghost use Rattle.explorations.specs.Found.{found_is, met_is};
+ghost use Rattle.explorations.specs.Found.{found_is, met_is, values_of};
 ghost use Rattle.json_lines.specs.Facts.{with_fields};
 ghost use Rattle.json_lines.specs.Lines.{IsJson};
 ghost use Rattle.json_lines.specs.Shown.{shown};
@@ -82,6 +83,27 @@ fn put_costs(alloc: Global, object: &mut Object, findings: &Findings) -> Result<
     put_span(alloc, object, "work", findings.work)
 }
 
+// The first input on which the run goes on, if there is one.
+fn put_going_on(object: &mut Object, input: &Option<Vec<i64>>) -> Result<(), AllocError>
+    ensures { OnOk result (shown object.new
+        ≡ with_fields (spec.going_on_fields (option_map values_of input.now)) (shown object.old)) }
+{
+    match input {
+        None => Ok(()),
+        Some(input) => object.put_values("goes_on_at", input.as_slice()),
+    }
+}
+
+// What is told behind the counts.
+fn put_behind(alloc: Global, object: &mut Object, findings: &Findings) -> Result<(), AllocError>
+    ensures { OnOk result (shown object.new
+        ≡ with_fields (spec.going_on_fields (found_is findings.now).goes_on_at ++ spec.cost_fields (found_is findings.now))
+        (shown object.old)) }
+{
+    put_going_on(object, &findings.goes_on_at)?;
+    put_costs(alloc, object, findings)
+}
+
 fn put_findings(
     alloc: Global,
     object: &mut Object,
@@ -89,10 +111,10 @@ fn put_findings(
     findings: &Findings,
 ) -> Result<(), AllocError>
     ensures { OnOk result (shown object.new ≡ with_fields (spec.count_fields layout.now (found_is findings.now)
-        ++ spec.cost_fields (found_is findings.now)) (shown object.old)) }
+        ++ (spec.going_on_fields (found_is findings.now).goes_on_at ++ spec.cost_fields (found_is findings.now))) (shown object.old)) }
 {
     put_counts(alloc, object, layout, findings)?;
-    put_costs(alloc, object, findings)
+    put_behind(alloc, object, findings)
 }
 
 fn exploration_value(
@@ -109,7 +131,8 @@ fn exploration_value(
 
 /// What is found on every input of a scope, on a line, as
 /// `{"ended":610,"faulted":15,"faults":[{"input":["3","1"],"kind":"read-conflict","line":4,"place":"a[1]"}],"go_on":0,"inputs":625,
-/// "time":{"greatest":17,"least":9},"work":{"greatest":40,"least":12}}`; time and work stand there where any run ends.
+/// "time":{"greatest":17,"least":9},"work":{"greatest":40,"least":12}}`; time and work stand there where any run ends, and where one goes
+/// on `goes_on_at`, the first input on which it does.
 pub fn json_exploration(
     alloc: Global,
     layout: &Layout,

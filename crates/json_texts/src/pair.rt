@@ -1,6 +1,6 @@
 //! What is found of two programs on the same inputs.
 
-ghost use Rattle.std.specs.Prelude.{◌≡◌, ◌∷◌, [], IfOk, OnOk, map, string_bytes};
+ghost use Rattle.std.specs.Prelude.{◌≡◌, ◌∷◌, ◌++◌, [], IfOk, OnOk, map, string_bytes};
 ghost use Rattle.serde_json.specs.View.{view};
 ghost use Rattle.comparisons.specs.Found.{differing_is, found_is};
 ghost use Rattle.json_lines.specs.Facts.{with_fields};
@@ -245,18 +245,46 @@ fn put_found(
     put_first(alloc, object, first, second, &comparison.told)
 }
 
+// How many cells are drawn, where inputs are.
+fn put_cells(object: &mut Object, cells: Option<u32>) -> Result<(), AllocError>
+    ensures { OnOk result (shown object.new ≡ with_fields (spec.cells_fields cells) (shown object.old)) }
+{
+    match cells {
+        None => Ok(()),
+        Some(count) => object.put_large("cells", u128::from(count)),
+    }
+}
+
+// What is told behind the counts.
+fn put_behind(
+    alloc: Global,
+    object: &mut Object,
+    first: &Layout,
+    second: &Layout,
+    cells: Option<u32>,
+    comparison: &Comparison,
+) -> Result<(), AllocError>
+    ensures { OnOk result (shown object.new
+        ≡ with_fields (spec.cells_fields cells ++ spec.found_fields first.now second.now (found_is comparison.now))
+        (shown object.old)) }
+{
+    put_cells(object, cells)?;
+    put_found(alloc, object, first, second, comparison)
+}
+
 fn whole_value(
     alloc: Global,
     first: &Layout,
     second: &Layout,
+    cells: Option<u32>,
     comparison: &Comparison,
 ) -> Result<Value, AllocError>
-    ensures { IfOk result (λ v. view v ≡ spec.whole_facts first.now second.now (found_is comparison.now)) }
+    ensures { IfOk result (λ v. view v ≡ spec.whole_facts first.now second.now cells (found_is comparison.now)) }
 {
     let mut object = Object::new(alloc);
     object.put_large("inputs", u128::from(comparison.inputs))?;
     object.put_large("same", u128::from(comparison.same))?;
-    put_found(alloc, &mut object, first, second, comparison)?;
+    put_behind(alloc, &mut object, first, second, cells, comparison)?;
     Ok(object.into_value())
 }
 
@@ -265,28 +293,31 @@ fn push_whole(
     text: &mut String,
     first: &Layout,
     second: &Layout,
+    cells: Option<u32>,
     comparison: &Comparison,
 ) -> Result<(), AllocError>
-    ensures json { OnOk result (Adds (spec.whole_facts first.now second.now (found_is comparison.now) ∷ [])
+    ensures json { OnOk result (Adds (spec.whole_facts first.now second.now cells (found_is comparison.now) ∷ [])
         (string_bytes text.old) (string_bytes text.new)) }
 {
-    let facts = whole_value(alloc, first, second, comparison)?;
+    let facts = whole_value(alloc, first, second, cells, comparison)?;
     push_line(alloc, text, &facts)
 }
 
 /// What is found of two programs on the same inputs: a line for each input that is told, with what differs on it, as
 /// `{"differs":"output","first":"3","input":["2","1"],"item":1,"second":"2"}`; and one for the whole, as `{"inputs":625,"same":625}`,
-/// with the members of the first line too where there is any, and `told`, the number of these lines, where the programs differ on more
-/// inputs. The layouts are the shared declarations of the two programs.
+/// with `cells`, how many are drawn, where inputs are; with the members of the first line too where there is any; and with `told`, the
+/// number of these lines, where the programs differ on more inputs. The layouts are the shared declarations of the two programs.
 pub fn json_pair(
     alloc: Global,
     first: &Layout,
     second: &Layout,
+    cells: Option<u32>,
     comparison: &Comparison,
 ) -> Result<String, AllocError>
-    ensures json { IfOk result (λ text. IsJson (spec.pair_facts first.now second.now (found_is comparison.now)) (string_bytes text)) }
+    ensures json { IfOk result (λ text.
+        IsJson (spec.pair_facts first.now second.now cells (found_is comparison.now)) (string_bytes text)) }
 {
     let mut text = differing_text(alloc, first, second, &comparison.told)?;
-    push_whole(alloc, &mut text, first, second, comparison)?;
+    push_whole(alloc, &mut text, first, second, cells, comparison)?;
     Ok(text)
 }

@@ -60,8 +60,10 @@ value_sentence g word = codes "invalid `" ++ (letters word ++ wanted_text g)
 abbrev pub command_sentence : (word : List ℕ) → List ℕ
 command_sentence word =
     if same_text word (codes "--input") then codes "`compare` wants `--input`, `--cells` with `--values`, `--permutations`, or `--random` with `--count`, and one of these alone\n"
-    else if same_text word (codes "--cells") then codes "`explore` wants `--cells` with `--values`, or `--permutations` in their place\n"
-    else if same_text word (codes "--permutations") then codes "`--permutations` goes with neither `--cells` nor `--values`\n"
+    else if same_text word (codes "--cells") then codes "`explore` wants `--cells` with `--values`, or `--permutations` in their place; `compare` takes `--cells` with `--random` too\n"
+    else if same_text word (codes "--values") then codes "`--values` goes with `--cells` alone\n"
+    else if same_text word (codes "--count") then codes "`--count` goes with `--random` alone\n"
+    else if same_text word (codes "--permutations") then codes "`--permutations` goes with none of `--cells`, `--values` and `--random`\n"
     else if same_text word (codes "--listing") then codes "`export` wants a FILE, or `--listing` in its place, which goes without `--size`\n"
     else []
 
@@ -69,7 +71,7 @@ command_sentence word =
 abbrev pub option_sentence : (word : List ℕ) → List ℕ
 option_sentence word =
     if same_text word (codes "--memory") then codes "`--memory` goes with neither `--input` nor `--random`\n"
-    else if same_text word (codes "--random") then codes "`--random` goes with neither `--input` nor `--memory`\n"
+    else if same_text word (codes "--random") then codes "`--random` goes with neither `--input` nor `--memory`, and with `compare` it wants `--count`\n"
     else if same_text word (codes "--seed") then codes "`--seed` goes with `--random` alone\n"
     else if same_text word (codes "--quiet") then codes "`--quiet` doesn't go with `--show`\n"
     else if same_text word (codes "--html") then codes "`--html` goes with neither `--svg` nor another `--format` than text\n"

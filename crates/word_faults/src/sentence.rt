@@ -111,9 +111,13 @@ fn command_sentence(word: &[u8]) -> &'static [u8]
     if is_same(word, b"--input") {
         b"`compare` wants `--input`, `--cells` with `--values`, `--permutations`, or `--random` with `--count`, and one of these alone\n"
     } else if is_same(word, b"--cells") {
-        b"`explore` wants `--cells` with `--values`, or `--permutations` in their place\n"
+        b"`explore` wants `--cells` with `--values`, or `--permutations` in their place; `compare` takes `--cells` with `--random` too\n"
+    } else if is_same(word, b"--values") {
+        b"`--values` goes with `--cells` alone\n"
+    } else if is_same(word, b"--count") {
+        b"`--count` goes with `--random` alone\n"
     } else if is_same(word, b"--permutations") {
-        b"`--permutations` goes with neither `--cells` nor `--values`\n"
+        b"`--permutations` goes with none of `--cells`, `--values` and `--random`\n"
     } else if is_same(word, b"--listing") {
         b"`export` wants a FILE, or `--listing` in its place, which goes without `--size`\n"
     } else {
@@ -128,7 +132,7 @@ fn option_sentence(word: &[u8]) -> &'static [u8]
     if is_same(word, b"--memory") {
         b"`--memory` goes with neither `--input` nor `--random`\n"
     } else if is_same(word, b"--random") {
-        b"`--random` goes with neither `--input` nor `--memory`\n"
+        b"`--random` goes with neither `--input` nor `--memory`, and with `compare` it wants `--count`\n"
     } else if is_same(word, b"--seed") {
         b"`--seed` goes with `--random` alone\n"
     } else if is_same(word, b"--quiet") {

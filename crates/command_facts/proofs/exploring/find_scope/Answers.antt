@@ -1,4 +1,4 @@
-use Rattle.std.proofs.Common.{◌∙◌, ap, inr, subst}
+use Rattle.std.proofs.Common.{◌∙◌, ap, inr, rules, subst}
 use Rattle.pram_model.specs.Layout.{total_size}
 use Rattle.pram_check.specs.Checked.{Checked}
 use Rattle.command_facts.specs.Scopes.{IsRefusedFor}
@@ -12,6 +12,9 @@ returns-in-Ok-clause-found g c =
       loaded = c.in_ok-loaded.loaded;
       is_loaded = c.in_ok-loaded.ensures.loaded;
       ran = c.under-program.ensures;
+      some = search rules;
+      few = search rules;
+      fit = search rules;
       found = c.in-Ok.ensures.found;
     }
 

@@ -1,10 +1,10 @@
 use Rattle.std.proofs.Common.{ℕ, List, inl, inr, subst, sym}
-use Rattle.std.specs.Prelude.{Some}
 use Rattle.pram_tokens.specs.Plain.{IsPlain}
 use Rattle.command_facts.specs.Limits.{HaveNoLimits}
 use Rattle.command_facts.specs.Pairs.{IsCompared}
 use Rattle.command_facts.proofs.PairInputs.{pair_refused, words_held}
-use Rattle.command_facts.proofs.Same.{program_held, same_through}
+use Rattle.command_facts.proofs.Programs.{of_text}
+use Rattle.command_facts.proofs.Same.{same_through, text_held}
 use Rattle.command_sizes.proofs.Sizes.{hands_on}
 use Rattle.command_facts.proofs.pairing.find_pair.Goals as goal
 
@@ -22,15 +22,15 @@ returns-in_err-comparison-clause-refused g c =
     let q = c.in_ok-second.second in
     let text = c.in_ok-second.text.items in
     let h = c.in_err-comparison.field-0.0 in
-    let held = (c.load.ensures.same words.second.name.now (Some text)).0 c.in_ok-second.ensures.held in
+    let second = text_held then before c.load.ensures.same words.second text q c.in_ok-second.ensures.loaded in
     hands_on _ h _ c.from_residual-in_err-comparison.ensures.1 (inr (inr (record {
       first = p;
       second = q;
       is_first = c.in_ok-first.ensures.loaded;
-      is_second = program_held then before c.load.ensures.same words.second q c.in_ok-second.ensures.loaded;
+      is_second = of_text before words.second text q second;
       refused = elim c.in_err-comparison.ensures.refused [
         | inl u ↦ inl u
-        | inr (inl n) ↦ inr (inl (text, held, subst (λ (t : List ℕ). HaveNoLimits words t h) c.deref.ensures.value n))
+        | inr (inl n) ↦ inr (inl (text, second.held, subst (λ (t : List ℕ). HaveNoLimits words t h) c.deref.ensures.value n))
         | inr (inr r) ↦ inr (inr (pair_refused now before same words.inputs p q h r))
       ];
     })))
@@ -49,10 +49,10 @@ returns-clause-found g c =
     let found = of.2 in
     record {
       first = c.in_ok-first.ensures.loaded;
-      second = program_held then before c.load.ensures.same words.second q c.in_ok-second.ensures.loaded;
       text = text;
-      held = (c.load.ensures.same words.second.name.now (Some text)).0 c.in_ok-second.ensures.held;
+      second = text_held then before c.load.ensures.same words.second text q c.in_ok-second.ensures.loaded;
+      drawn = c.drawn_of-drawn.ensures;
       compared = of.0;
       is_compared = subst (λ (t : List ℕ). IsCompared words p.layout q.layout t of.0) c.deref.ensures.value of.1;
-      found = (found.0, words_held now before same words.inputs p found.0 found.1, found.2);
+      found = (found.0, words_held now before same words.inputs p q found.0 found.1, found.2);
     }

@@ -1,0 +1,14 @@
+use Rattle.std.proofs.lemmas.Result.{on_ok_weaker}
+use Rattle.json_lines.proofs.Small.{put_then}
+use Rattle.json_lines.specs.Shown.{shown}
+use Rattle.comparisons.specs.Found.{found_is}
+use Rattle.json_texts.specs.PairFacts.{cells_fields, found_fields}
+use Rattle.json_texts.proofs.pair.put_behind.Goals as goal
+
+pub returns : goal.returns
+returns c =
+    let found = found_fields c.args.first.now c.args.second.now (found_is c.args.comparison.now) in
+    on_ok_weaker c.put_found.result (λ put.
+    put_then (cells_fields c.args.cells) found (shown c.args.object.now) (shown c.put_cells.new.object)
+    (shown c.put_found.new.object) c.in_ok-put_cells.ensures put)
+    c.put_found.ensures
