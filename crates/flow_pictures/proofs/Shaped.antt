@@ -1,8 +1,9 @@
 -- A flow's picture is its shapes, and each of these is so.
 use Rattle.std.proofs.Common.{◌≡◌, ◌∙◌, ◌⊎◌, inl, inr, ℕ, zero, suc, ◌+◌, ◌<◌, List, [], ◌∷◌, ◌++◌, ℤ, Bool, true, false, ◌&&◌, Option}
 use Rattle.std.proofs.Common.{None, Some}
-use Rattle.std.proofs.Common.{ap, append_assoc, arith, codes, get_or, length, length-map, map, refl, subst, sym, take}
+use Rattle.std.proofs.Common.{ap, append_assoc, arith, codes, get_or, length, map, refl, subst, sym, take}
 use Rattle.std.proofs.lemmas.Grind.{flat_map-append}
+use Rattle.std.proofs.lemmas.List.{length-map}
 use Rattle.std.proofs.lemmas.List.Elements.{Contains-append_cases}
 use Rattle.std.proofs.lemmas.List.Folds.{Any-from_list_any, flat_map-map}
 use Rattle.std.proofs.lemmas.Simd.{map-map}
@@ -18,6 +19,7 @@ use Rattle.flow_pictures.specs.Laws.{IsColumn, cells, found, statements}
 use Rattle.flow_pictures.specs.Marks.{arrows, carries, carries_one, has_read, is_written, nodes, reading, readings, value_in}
 use Rattle.flow_pictures.specs.Picture.{columns, counts_text, flow, row_heads, size_text, table}
 use Rattle.flow_pictures.specs.Places.{picture_width}
+use Rattle.flow_pictures.specs.Shapes.{HasFault}
 use Rattle.flow_pictures.specs.Shapes.{Box, IsReadAlone, IsSo, Line, Ring, RowsWereTouched, Shape, ShapesAreSo, ThePictureIsItsShapes}
 use Rattle.flow_pictures.specs.Shapes.{Heading}
 use Rattle.flow_pictures.specs.Shapes.{Row, Stop, column_shapes, columns_shapes, head_text, row_shapes, shape_text, shapes, stop_shapes}
@@ -263,7 +265,7 @@ module _ (only : List CellSpan) (aside : Entry → List Bool) (opening : List �
     stop_is_so (Faulting here fault cause acts met locals) same s one = by one.0 one.1 one.2
       where
         this : So (Stop (1 + i) fault met)
-        this = (i, (p, (refl, (record { within = within; is = is }, rw (sym same) (refl, refl)))))
+        this = (i, p, refl, record { within = within; is = is }, subst (λ (x : Entry). HasFault x fault met) same (refl, refl))
 
         by : (k : ℕ) → k < length (Stop (1 + i) fault met ∷ []) → get_or (Stop (1 + i) fault met ∷ []) k s ≡ s → So s
         by zero within is = subst So is this
@@ -325,4 +327,4 @@ rows_were_touched only es from to cell one =
     let drawn = map (λ (p : ℕ × Entry). p.1) (statements es from to) in
     let e = of_spread entry_cells drawn cell (row_was_touched only es from to cell one) in
     let p = of_mapped (λ (p : ℕ × Entry). p.1) (statements es from to) e.from e.item in
-    (p.from, (p.item, subst (λ (x : Entry). Contains (entry_cells x) cell) (sym p.holds) e.holds))
+    (p.from, p.item, subst (λ (x : Entry). Contains (entry_cells x) cell) (sym p.holds) e.holds)
