@@ -3,3 +3,4 @@ pub mod ChosenSpans
 pub mod StepsWritten
 pub mod TracesWritten
 pub mod CycleSaid
+pub mod FaultSaid

@@ -303,7 +303,7 @@ ending_stands layout text part es e =
     let before : n - 1 ≡ length es = omega (arith, long) in
     let inner : length es ≤ length es = let q : ℕ = length es in let r : q ≤ q = omega arith in r in
     let last : drop (n - 1) all ≡ e ∷ [] = ap (λ k. drop k all) before ∙ drop-append-le (length es) es (e ∷ []) inner
-    ∙ ap (λ l. l ++ e ∷ []) (drop_all es (length es) inner) in
+    ∙ ap (λ l. l ++ e ∷ []) (drop_all (length es) es inner) in
     let is : ending layout y all ≡ ending_of layout y e = ap (first_ending layout y) last in
     stands_behind (opening f n) (stands_behind (head f.part n (length f.rows)) (stands_behind (table f all)
     (subst (λ t. StandsIn (ending_of layout y e) (t ++ codes "</svg>\n")) (sym is)
