@@ -1,5 +1,4 @@
-use Rattle.std.proofs.Common.{◌++◌, ℤ, List, ap, codes, map, refl, sym}
-use Rattle.std.specs.Prelude.{Option}
+use Rattle.std.proofs.Common.{◌++◌, List, ap, codes, map, refl, sym}
 use Rattle.text_out.proofs.Progress.{breaks_off, closes, goes_on, starts}
 use Rattle.explorations.specs.declared.findings.FoundFault.{FoundFault}
 use Rattle.explorations.specs.Found.{found_is, met_is}
