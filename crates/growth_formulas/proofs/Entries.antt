@@ -1,5 +1,6 @@
 -- The entries of an equation, one by one.
-use Rattle.std.proofs.Common.{length, get_or, set, ◌≡◌, ℕ, ◌<◌, ◌≤◌, ◌*◌, ◌^◌, ◌+◌, List, [], ◌∷◌, refl, arith, subst, sym, suc, ◌⊎◌, inl, inr}
+use Rattle.std.proofs.Common.{length, get_or, set, ◌≡◌, ℕ, ◌<◌, ◌≤◌, ◌*◌, ◌^◌, ◌+◌}
+use Rattle.std.proofs.Common.{List, [], ◌∷◌, refl, arith, subst, sym, suc, ◌⊎◌, inl, inr}
 use Rattle.growth_formulas.specs.declared.wide.Wide.{Wide}
 use Rattle.growth_formulas.specs.Equations.{Vector, entry, entry_at}
 use Rattle.std.proofs.lemmas.Grind.{get_or-set_at}

@@ -69,7 +69,8 @@ has_room n k below fits = let h = pow-le-pow_right {n = 2} (omega arith) {i = k}
 
 module _ (column i : ℕ) (other x mine y minus : Wide) (small : bits column column + bits column i + 2 ≤ 576)
     (wo : IsWithin (bits column column) other) (wx : IsWithin (bits column i) x) (wm : IsWithin (bits column column) mine)
-    (wy : IsWithin (bits column i) y) (turned : number minus.plus ≡ number mine.minus) (turned' : number minus.minus ≡ number mine.plus) where
+    (wy : IsWithin (bits column i) y) (turned : number minus.plus ≡ number mine.minus) (turned' : number minus.minus ≡ number
+    mine.plus) where
   within_minus : IsWithin (bits column column) minus
   within_minus =
       let a = wm.minus in let b = wm.plus in
@@ -88,7 +89,11 @@ module _ (column i : ℕ) (other x mine y minus : Wide) (small : bits column col
       + (number minus.plus * number y.plus + number minus.minus * number y.minus) < limit)
       × (number other.plus * number x.minus + number other.minus * number x.plus
       + (number minus.plus * number y.minus + number minus.minus * number y.plus) < limit)
-  crossed_room = (has_room _ (bits column column + bits column i + 2) below.0 small, has_room _ (bits column column + bits column i + 2) below.1 small)
+  crossed_room = (
+    has_room _ (bits column column + bits column i + 2) below.0 small,
+    has_room _ (bits column column + bits column i +
+        2) below.1 small,
+  )
 
   module _ (to : Wide)
       (plus : number to.plus ≡ number other.plus * number x.plus + number other.minus * number x.minus

@@ -44,7 +44,17 @@ neg_mul a c =
     let whole = product_is (neg_ℤ a) c in
     let left = product_is a c in
     let out = neg_is (a *ℤ c) in
-    same_in _ _ (omega (arith, whole, left, out, times (up c) _ _ s.0, times (down c) _ _ s.1, times (down c) _ _ s.0, times (up c) _ _ s.1))
+    same_in _ _ (omega (
+      arith,
+      whole,
+      left,
+      out,
+      times (up c) _ _ s.0,
+      times (down c) _ _ s.1,
+      times (down c) _ _ s.0,
+      times (up c) _ _
+          s.1,
+    ))
 
 pub mul_add : (c a b : ℤ) → c *ℤ (a +ℤ b) ≡ (c *ℤ a) +ℤ (c *ℤ b)
 mul_add c a b = mul_comm c (a +ℤ b) ∙ add_mul a b c ∙ ap (λ x. x +ℤ (b *ℤ c)) (mul_comm a c) ∙ ap (λ x. (c *ℤ a) +ℤ x) (mul_comm b c)

@@ -1,4 +1,5 @@
--- Equations for the coefficients of a formula. An equation has six entries: those of the coefficients of 1, log n, n, n log n and n^2, and its
+-- Equations for the coefficients of a formula. An equation has six entries: those of the coefficients of 1, log n, n, n log n and n^2,
+-- and its
 -- number. Numbers for the coefficients solve it where the sum of the entries, each times its coefficient, and the last times -1, is 0.
 use Rattle.std.specs.Prelude.{ℕ, zero, suc, ◌+◌, ◌*◌, ◌<◌, ◌==◌, if◌then◌else◌, [], ℤ, pos, negsuc, neg_ℤ, ◌+ℤ◌, ◌*ℤ◌}
 use Rattle.std.specs.Prelude.{slice_index_or}

@@ -1,5 +1,6 @@
 -- What is told of a table of sizes and numbers.
-use Rattle.std.specs.Prelude.{◌≡◌, ◌==◌, ◌+◌, ◌*◌, ◌≤◌, ◌<◌, ◌⊎◌, FitsSigned, if◌then◌else◌, Bool, ℕ, ℤ, pos, ◌+ℤ◌, List, [], ◌∷◌, length, All, ⊤}
+use Rattle.std.specs.Prelude.{◌≡◌, ◌==◌, ◌+◌, ◌*◌, ◌≤◌, ◌<◌, ◌⊎◌, FitsSigned, if◌then◌else◌, Bool}
+use Rattle.std.specs.Prelude.{ℕ, ℤ, pos, ◌+ℤ◌, List, [], ◌∷◌, length, All, ⊤}
 use Rattle.std.specs.Int.{w128}
 use Rattle.std.specs.List.{AllAdjacentBelow, list_any}
 use Rattle.growth_formulas.specs.declared.row.Row.{Row}

@@ -17,7 +17,8 @@ fn reduced(equation: &Equation, pivots: &[Equation; 5], column: usize) -> Equati
     ensures bounded { IsBounded column result }
     ensures zeros { (i : ℕ) → i < column → entry result i ≡ pos 0 }
     // Numbers that solve the pivots solve both equations or none.
-    ensures same { (z : Vector) → SolveFirst pivots.now column z → (dot 6 (entry equation.now) z ≡ pos 0) ↔ (dot 6 (entry result) z ≡ pos 0) }
+    ensures same { (z : Vector) → SolveFirst pivots.now column z → (dot 6 (entry equation.now) z ≡ pos 0) ↔ (dot 6 (entry result) z ≡
+        pos 0) }
 {
     let mut left = *equation;
     for i in 0..column {

@@ -64,7 +64,8 @@ fn products(a: &Wide, b: &Wide, c: &Wide, d: &Wide) -> Wide
 impl Equation {
     /// The equation of a row.
     pub(crate) fn of_row(row: &Row) -> Equation
-        ensures entries { (log : ℕ) → IsLog row.now.size log → (i : ℕ) → i < 6 → entry result i ≡ row_entry row.now.size log row.now.number i }
+        ensures entries { (log : ℕ) → IsLog row.now.size log → (i : ℕ) → i < 6 → entry result i ≡ row_entry row.now.size log
+            row.now.number i }
         ensures bounded { IsBounded 0 result }
     {
         let log = log_of(row.size);

@@ -46,7 +46,8 @@ copied sizes false at b rest to places closed on = go (b == 35) refl
 
 -- an expression behind its brace
 spelled : (sizes : List Size) (comment : Bool) (at b v : ℕ) (rest behind to places : List ℕ) → true ≡ opens comment b →
-    IsExpression sizes rest v behind → Expands sizes false (at + 1 + (length rest - length behind)) (drop (length rest - length behind) rest) to places →
+    IsExpression sizes rest v behind → Expands sizes false (at + 1 + (length rest - length behind)) (drop (length rest - length behind)
+    rest) to places →
     Expands sizes comment at (b ∷ rest) (decimal v ++ to) (map (λ _. at) (decimal v) ++ places)
 spelled sizes true at b v rest behind to places opened is on = absurd (cc)
 spelled sizes false at b v rest behind to places opened is on =

@@ -8,7 +8,8 @@ use Rattle.growth_formulas.specs.Tables.{Explains, term_set}
 use Rattle.growth_formulas.proofs.Candidates.{only, same_as}
 use Rattle.growth_formulas.proofs.Eliminations.{is_true, not_true}
 use Rattle.growth_formulas.proofs.finding.chosen_formula.Goals as goal
-use Rattle.growth_formulas.proofs.finding.chosen_formula.Goals.{else-explains-via-then-explains+else-term_set-choice, else-explains-via-else-explains}
+use Rattle.growth_formulas.proofs.finding.chosen_formula.Goals.{else-explains-via-then-explains+else-term_set-choice}
+use Rattle.growth_formulas.proofs.finding.chosen_formula.Goals.{else-explains-via-else-explains}
 
 five : (f : Formula) → FitsSigned w128 f.constant → FitsSigned w128 f.logarithm → FitsSigned w128 f.linear →
     FitsSigned w128 f.linearithmic → FitsSigned w128 f.square → (term : Term) → FitsSigned w128 (coefficient f term)
