@@ -1,6 +1,7 @@
 -- Programs that were loaded are those of their files.
 use Rattle.std.proofs.Common.{ℕ, List}
 use Rattle.std.specs.Prelude.{Option, Some, None}
+use Rattle.pram_check.specs.Checked.{Checked}
 use Rattle.pram_tokens.specs.Plain.{IsPlain}
 use Rattle.sized_texts.specs.Faults.{shown}
 use Rattle.sized_texts.specs.Pieces.{Expansion}
