@@ -1,7 +1,7 @@
 -- What stands in a page is read as the list of its facts.
 use Rattle.std.proofs.Common.{◌≡◌, ◌∙◌, ◌-◌, ◌<◌, ◌≤◌, ◌^◌, ◌++◌, ◌∷◌, [], true, false, List, Some, ℕ, max, suc, ap, ap₂, append_assoc, append-nil, arith, codes, decimal}
 use Rattle.std.proofs.Common.{drop, inl, inr, length, length-append, refl, subst, sym, take, zero}
-use Rattle.std.specs.Prelude.{◌⊎◌, ◌&&◌, Bool, if◌then◌else◌, nat_le, nat_lt, option_and_then, option_map}
+use Rattle.std.specs.Prelude.{◌⊎◌, ◌&&◌, Bool, negsuc, pos, if◌then◌else◌, nat_le, nat_lt, option_and_then, option_map}
 use Rattle.std.proofs.lemmas.Bool.{cases_lt, le-ltb}
 use Rattle.std.proofs.lemmas.List.{length-drop, length-take-le, take-append-drop}
 use Rattle.std.proofs.lemmas.List.Elements.{recursion_from_All}
@@ -10,7 +10,7 @@ use Rattle.json.specs.Json as json
 use Rattle.json.specs.Lex.{tokens}
 use Rattle.json.specs.Print.{escape_byte, quoted}
 use Rattle.json.specs.Tree as tree
-use Rattle.json.proofs.Printed.Decimals.{IsNumber-decimal}
+use Rattle.json.proofs.Printed.Decimals.{IsNumber-decimal, IsNumber-signed_decimal}
 use Rattle.json.proofs.Printed.Tokens.{tokens-print}
 use Rattle.json.proofs.Printed.Trees.{ArePrintable-json_tokens, value-json_tokens}
 use Rattle.serde_json.specs.Data.{unsigned, negative, float, Data, null, boolean, number, string, array, object, Items, no_items, item, Members}
@@ -21,55 +21,58 @@ use Rattle.serde_json.specs.Written.{compact_text, items_outline, items_text, me
 use Rattle.serde_json.proofs.Numbers.{number_of-decimal}
 use Rattle.serde_json.proofs.Texts.{print-outline}
 use Rattle.json_lines.specs.Facts.{list}
-use Rattle.json_lines.specs.Lines.{ReadsBack, json_line, json_lines}
+use Rattle.json_lines.specs.Lines.{IsJson, ReadsBack, json_line, json_lines}
+use Rattle.json_lines.specs.Small.{IsSmall}
 use Rattle.step_pages.specs.Cut.{IsBack, IsCut, room}
 use Rattle.step_pages.specs.Facts.{BeginsLine, both_text, embedded, facts_text, gap_text, line_count, state_room, state_shown}
-use Rattle.step_pages.specs.Stand.{AreTold, CutFactsAreRead, FactsAreRead, HasCounts, IsReadAs, ItemsHaveCounts, MembersHaveCounts, OutcomeIsRead}
-use Rattle.step_pages.specs.Stand.{gap_fact}
+use Rattle.step_pages.specs.Stand.{AreTold, CutFactsAreRead, FactsAreRead, IsReadAs, OutcomeIsRead, gap_fact}
+use Rattle.step_pages.proofs.Integers.{AreRead, EachOfItems, EachOfMembers, HasIntegers, IsInteger, those_read}
 use Rattle.step_pages.proofs.Embedding.{embedded-append}
 use Rattle.step_pages.proofs.LineEnds.{IsCutAt, all_at, cut_at, first_told, last_alone, last_at, last_begins, last_length, last_line, lines-append}
 use Rattle.step_pages.proofs.LineEnds.{lines_end, ordered, whole_begins}
 use Rattle.step_pages.proofs.Lexed.{AreKept, decimal_kept, kept-append, tokens_embedded}
 
--- ---- the tokens of data whose numbers are counts
+-- ---- the tokens of data whose numbers are integers
 
 mutual
-  numbers : (d : Data) → HasCounts d → tree.HasNumbers (outline d)
+  numbers : (d : Data) → HasIntegers d → tree.HasNumbers (outline d)
   numbers null h = tt
   numbers (boolean b) h = tt
   numbers (number (unsigned n)) h = IsNumber-decimal n h
-  numbers (number (negative z)) h = absurd h
+  numbers (number (negative (pos n))) h = absurd h
+  numbers (number (negative (negsuc n))) h = IsNumber-signed_decimal (negsuc n) h
   numbers (number (float x)) h = absurd h
   numbers (string s) h = tt
   numbers (array ds) h = items_numbers ds h
   numbers (object ms) h = members_numbers ms h
 
-  items_numbers : (ds : Items) → ItemsHaveCounts ds → tree.ItemsHaveNumbers (items_outline ds)
+  items_numbers : (ds : Items) → EachOfItems IsInteger ds → tree.ItemsHaveNumbers (items_outline ds)
   items_numbers no_items h = tt
   items_numbers (item d ds) h = (numbers d h.0, items_numbers ds h.1)
 
-  members_numbers : (ms : Members) → MembersHaveCounts ms → tree.MembersHaveNumbers (members_outline ms)
+  members_numbers : (ms : Members) → EachOfMembers IsInteger ms → tree.MembersHaveNumbers (members_outline ms)
   members_numbers no_members h = tt
   members_numbers (member k d ms) h = (numbers d h.0, members_numbers ms h.1)
 
 mutual
   unfolding AreKept
 
-  kept : (d : Data) → HasCounts d → AreKept (tree.json_tokens (outline d))
+  kept : (d : Data) → HasIntegers d → AreKept (tree.json_tokens (outline d))
   kept null h = (tt, tt)
   kept (boolean b) h = (tt, tt)
   kept (number (unsigned n)) h = (decimal_kept n h, tt)
-  kept (number (negative z)) h = absurd h
+  kept (number (negative (pos n))) h = absurd h
+  kept (number (negative (negsuc n))) h = (ap (λ t. 45 ∷ t) (decimal_kept (suc n) (omega (arith, h))), tt)
   kept (number (float x)) h = absurd h
   kept (string s) h = (tt, tt)
   kept (array ds) h = (tt, items_kept ds h)
   kept (object ms) h = (tt, members_kept ms h)
 
-  items_kept : (ds : Items) → ItemsHaveCounts ds → AreKept (tree.items_tokens (items_outline ds))
+  items_kept : (ds : Items) → EachOfItems IsInteger ds → AreKept (tree.items_tokens (items_outline ds))
   items_kept no_items h = (tt, tt)
   items_kept (item d ds) h = kept-append _ _ (kept d h.0) (items_kept ds h.1)
 
-  members_kept : (ms : Members) → MembersHaveCounts ms → AreKept (tree.members_tokens (members_outline ms))
+  members_kept : (ms : Members) → EachOfMembers IsInteger ms → AreKept (tree.members_tokens (members_outline ms))
   members_kept no_members h = (tt, tt)
   members_kept (member k d ms) h = (tt, kept-append _ _ (kept d h.0) (members_kept ms h.1))
 
@@ -97,12 +100,12 @@ read_tokens d text shallow is =
     ap (λ o. option_and_then of_json (option_and_then (λ p. json.if_last p.0 p.1) o)) (ap (json.value max_depth) (is ∙ sym (append-nil (tree.json_tokens (outline d))))
     ∙ value-json_tokens (outline d) max_depth [] (omega (arith, deep, shallow)))
 
-read_compact : (d : Data) → HasCounts d → depth d ≤ 127 → read (compact_text d) ≡ of_json (outline d)
+read_compact : (d : Data) → HasIntegers d → depth d ≤ 127 → read (compact_text d) ≡ of_json (outline d)
 read_compact d h shallow =
     read_tokens d (compact_text d) shallow (ap tokens (sym (print-outline d))
     ∙ tokens-print (tree.json_tokens (outline d)) (ArePrintable-json_tokens (outline d) (numbers d h)))
 
-read_there : (d : Data) → HasCounts d → depth d ≤ 127 → read (embedded (compact_text d)) ≡ of_json (outline d)
+read_there : (d : Data) → HasIntegers d → depth d ≤ 127 → read (embedded (compact_text d)) ≡ of_json (outline d)
 read_there d h shallow =
     read_tokens d (embedded (compact_text d)) shallow (ap (λ t. tokens (embedded t)) (sym (print-outline d))
     ∙ tokens_embedded (tree.json_tokens (outline d)) (ArePrintable-json_tokens (outline d) (numbers d h)) (kept d h))
@@ -119,18 +122,18 @@ last_given n m h g =
     (option_map number b)) (option_map number a)))
     (number_of-decimal n h) (number_of-decimal m g)
 
-list_given : (n m : ℕ) → n < 2 ^ 64 → m < 2 ^ 64 → (ds : List Data) → AreTold ds → AllByRecursion ReadsBack ds →
+list_given : (n m : ℕ) → n < 2 ^ 64 → m < 2 ^ 64 → (ds : List Data) → AreRead ds → AllByRecursion ReadsBack ds →
     of_items (items_outline (items_of (with_last n m ds))) ≡ Some (items_of (with_last n m ds))
 list_given n m l k [] h back = ap (option_and_then (λ d. option_map (item d) (Some no_items))) (last_given n m l k)
 list_given n m l k (d ∷ ds) h back =
     let one : of_json (outline d) ≡ Some d = sym (read_compact d h.0.0 (let s : depth d ≤ 126 = h.0.1 in omega arith)) ∙ back.0 in
     ap₂ (λ a b. option_and_then (λ d. option_map (item d) b) a) one (list_given n m l k ds h.1 back.1)
 
-list_counts : (n m : ℕ) → n < 2 ^ 64 → m < 2 ^ 64 → (ds : List Data) → AreTold ds → ItemsHaveCounts (items_of (with_last n m ds))
+list_counts : (n m : ℕ) → n < 2 ^ 64 → m < 2 ^ 64 → (ds : List Data) → AreRead ds → EachOfItems IsInteger (items_of (with_last n m ds))
 list_counts n m l k [] h = ((l, (k, tt)), tt)
 list_counts n m l k (d ∷ ds) h = (h.0.0, list_counts n m l k ds h.1)
 
-list_depth : (n m : ℕ) (ds : List Data) → AreTold ds → items_depth (items_of (with_last n m ds)) ≤ 126
+list_depth : (n m : ℕ) (ds : List Data) → AreRead ds → items_depth (items_of (with_last n m ds)) ≤ 126
 list_depth n m [] h = omega arith
 list_depth n m (d ∷ ds) h =
     let one : depth d ≤ 126 = h.0.1 in
@@ -182,7 +185,7 @@ end_is n m h g =
     ∙ ap (λ t. decimal n ++ (codes ",\"left_out\":" ++ t)) (append_assoc (decimal m) (125 ∷ []) (93 ∷ []))))
 
 -- a text whose facts are these, and behind which stands what is left out, is read as they are
-read_front : (n m : ℕ) → n < 2 ^ 64 → m < 2 ^ 64 → (ds : List Data) → AreTold ds → AllByRecursion ReadsBack ds →
+read_front : (n m : ℕ) → n < 2 ^ 64 → m < 2 ^ 64 → (ds : List Data) → AreRead ds → AllByRecursion ReadsBack ds →
     read (codes "[" ++ (embedded (json_lines ds) ++ gap_text n m)) ≡ Some (list (with_last n m ds))
 read_front n m l k ds told back =
     let deep : items_depth (items_of (with_last n m ds)) ≤ 126 = list_depth n m ds told in
@@ -192,7 +195,7 @@ read_front n m l k ds told back =
 
 -- ---- of some facts the first and the last
 
-rest_told : (k : ℕ) (ds : List Data) → AreTold ds → AreTold (drop k ds)
+rest_told : (k : ℕ) (ds : List Data) → AreRead ds → AreRead (drop k ds)
 rest_told zero ds h = h
 rest_told (suc k) [] h = tt
 rest_told (suc k) (d ∷ ds) h = rest_told k ds h.1
@@ -207,7 +210,7 @@ rest_read zero ds h = h
 rest_read (suc k) [] h = tt
 rest_read (suc k) (d ∷ ds) h = rest_read k ds h.1
 
-told-append : (a b : List Data) → AreTold a → AreTold b → AreTold (a ++ b)
+told-append : (a b : List Data) → AreRead a → AreRead b → AreRead (a ++ b)
 told-append [] b h g = g
 told-append (d ∷ a) b h g = (h.0, told-append a b h.1 g)
 
@@ -226,7 +229,7 @@ chosen_lines : (b : Bool) (states : List Data) → (if b then json_lines states 
 chosen_lines true states = refl
 chosen_lines false states = refl
 
-chosen_told : (b : Bool) (states : List Data) → AreTold states → AreTold (if b then states else [])
+chosen_told : (b : Bool) (states : List Data) → AreRead states → AreRead (if b then states else [])
 chosen_told true states h = h
 chosen_told false states h = tt
 
@@ -234,8 +237,8 @@ chosen_read : (b : Bool) (states : List Data) → AllByRecursion ReadsBack state
 chosen_read true states h = h
 chosen_read false states h = tt
 
-module _ (facts : List Data) (told : AreTold facts) (back : AllByRecursion ReadsBack facts) (few : length facts < 2 ^ 64) (states : List Data)
-    (told_states : AreTold states) (back_states : AllByRecursion ReadsBack states) where
+module _ (facts : List Data) (told : AreRead facts) (back : AllByRecursion ReadsBack facts) (few : length facts < 2 ^ 64) (states : List Data)
+    (told_states : AreRead states) (back_states : AllByRecursion ReadsBack states) where
   abbrev has_state : (from to : ℕ) → Bool
   has_state from to = nat_lt from to && nat_le (length (embedded (json_lines states))) state_room
 
@@ -341,11 +344,15 @@ module _ (facts : List Data) (told : AreTold facts) (back : AllByRecursion Reads
             ∙ ap (λ l. Some (list l)) (sym (append_assoc (take a facts) (drop a facts) gap) ∙ ap (λ l. l ++ gap) (take-append-drop a facts)),
       )
 
+told_read : (facts : List Data) (text : List ℕ) → AreTold facts → IsJson facts text → AreRead facts
+told_read facts text told says =
+    those_read facts (recursion_from_All (IsSmall 126) facts told) (recursion_from_All ReadsBack facts says.read_back)
+
 pub cut_facts_are_read : CutFactsAreRead
 cut_facts_are_read facts states text state from to told told_states says also few cut =
     subst (λ s. (a : ℕ) × (k : ℕ) × IsReadAs facts states text s from to a k) (sym also.whole)
     (subst (λ t. IsCut t from to → (a : ℕ) × (k : ℕ) × IsReadAs facts states t (json_lines states) from to a k) (sym says.whole)
-    (cut_read facts told (recursion_from_All ReadsBack facts says.read_back) few states told_states
+    (cut_read facts (told_read facts text told says) (recursion_from_All ReadsBack facts says.read_back) few states (told_read states state told_states also)
     (recursion_from_All ReadsBack states also.read_back) from to) cut)
 
 pub facts_are_read : FactsAreRead
@@ -354,16 +361,16 @@ facts_are_read facts states text state from to told told_states says also few cu
     (sym also.whole)
     (subst (λ t. IsCut t from to → length (embedded t) ≤ room →
     (a : ℕ) × (read (codes "[" ++ facts_text t (json_lines states) from to) ≡ Some (list (facts ++ gap_fact a 0 ∷ [])))) (sym says.whole)
-    (all_read facts told (recursion_from_All ReadsBack facts says.read_back) few states told_states
+    (all_read facts (told_read facts text told says) (recursion_from_All ReadsBack facts says.read_back) few states (told_read states state told_states also)
     (recursion_from_All ReadsBack states also.read_back) from to) cut)
 
 -- ---- the last line
 
-last_told : (before : List Data) (d : Data) → AreTold (before ++ d ∷ []) → HasCounts d
+last_told : (before : List Data) (d : Data) → AreRead (before ++ d ∷ []) → HasIntegers d
 last_told [] d h = h.0.0
 last_told (x ∷ before) d h = last_told before d h.1
 
-module _ (before : List Data) (outcome : Data) (told : AreTold (before ++ outcome ∷ [])) where
+module _ (before : List Data) (outcome : Data) (told : AreRead (before ++ outcome ∷ [])) where
   abbrev facts : List Data
   facts = before ++ outcome ∷ []
 
@@ -378,7 +385,7 @@ module _ (before : List Data) (outcome : Data) (told : AreTold (before ++ outcom
       })
       (last_alone before outcome (last_told before outcome told))
 
-  module _ (states : List Data) (told_states : AreTold states) (back_states : AllByRecursion ReadsBack states) where
+  module _ (states : List Data) (told_states : AreRead states) (back_states : AllByRecursion ReadsBack states) where
     with_outcome : AllByRecursion ReadsBack facts → length facts < 2 ^ 64 → (from to : ℕ) → IsCut (json_lines facts) from to →
         length (embedded (json_line outcome)) ≤ room →
         (a : ℕ) × (k : ℕ) × IsReadAs facts states (json_lines facts) (json_lines states) from to a k × (k ≤ length before)
@@ -396,5 +403,5 @@ outcome_is_read before states outcome text state from to told told_states says a
     (a : ℕ) × (k : ℕ) × IsReadAs (before ++ outcome ∷ []) states text s from to a k × (k ≤ length before)) (sym also.whole)
     (subst (λ t. IsCut t from to → length (embedded (json_line outcome)) ≤ room →
     (a : ℕ) × (k : ℕ) × IsReadAs (before ++ outcome ∷ []) states t (json_lines states) from to a k × (k ≤ length before)) (sym says.whole)
-    (with_outcome before outcome told states told_states (recursion_from_All ReadsBack states also.read_back)
+    (with_outcome before outcome (told_read (before ++ outcome ∷ []) text told says) states (told_read states state told_states also) (recursion_from_All ReadsBack states also.read_back)
     (recursion_from_All ReadsBack (before ++ outcome ∷ []) says.read_back) few from to) cut)

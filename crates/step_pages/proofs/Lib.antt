@@ -7,6 +7,7 @@ pub mod CutOfKept
 pub mod PageOfKept
 pub mod Values
 pub mod Embedding
+pub mod Integers
 pub mod Lexed
 pub mod Readable
 pub mod Sizes

@@ -1,7 +1,7 @@
 -- The text of facts has the ends of its lines, and no others: so a front of whole lines is the text of the first facts.
 use Rattle.std.proofs.Common.{◌≡◌, ◌∙◌, ◌+◌, ◌-◌, ◌<◌, ◌≤◌, ◌^◌, ◌%◌, ◌++◌, ◌∷◌, [], true, false, Bool, List, ℕ, zero, suc, ap, append-nil, arith, decimal, drop}
 use Rattle.std.proofs.Common.{append_assoc, get_or, inl, inr, length, refl, subst, sym, take}
-use Rattle.std.specs.Prelude.{◌⊎◌}
+use Rattle.std.specs.Prelude.{◌⊎◌, negsuc, pos}
 use Rattle.std.proofs.lemmas.Bool.{cases_eq, cases_lt, ne_eqb}
 use Rattle.std.proofs.lemmas.Fmt.{decimal_by_steps}
 use Rattle.std.proofs.lemmas.List.{drop_all, drop_at, get_or_append_left, length-append, length-take-le, take-append-drop, take-take, take_all, take_at}
@@ -14,7 +14,7 @@ use Rattle.serde_json.specs.Written.{comma_if, compact_text, items_text, members
 use Rattle.json_lines.specs.Lines.{json_line, json_lines}
 use Rattle.step_pages.specs.Cut.{IsLastLine}
 use Rattle.step_pages.specs.Facts.{BeginsLine, line_count, line_end}
-use Rattle.step_pages.specs.Stand.{AreTold, HasCounts, ItemsHaveCounts, MembersHaveCounts}
+use Rattle.step_pages.proofs.Integers.{AreRead, EachOfItems, EachOfMembers, HasIntegers, IsInteger}
 use Rattle.step_pages.proofs.Strings.{Each, each_sound}
 
 pub line_count-append : (a b : List ℕ) → line_count (a ++ b) ≡ line_count a + line_count b
@@ -162,25 +162,26 @@ comma_stays true = refl
 comma_stays false = refl
 
 mutual
-  stays : (d : Data) → HasCounts d → line_count (compact_text d) ≡ 0
+  stays : (d : Data) → HasIntegers d → line_count (compact_text d) ≡ 0
   stays null h = refl
   stays (boolean true) h = refl
   stays (boolean false) h = refl
   stays (number (unsigned n)) h = decimal_stays n h
-  stays (number (negative z)) h = absurd h
+  stays (number (negative (pos n))) h = absurd h
+  stays (number (negative (negsuc n))) h = let a = decimal_stays (suc n) (omega (arith, h)) in omega (arith, a)
   stays (number (float x)) h = absurd h
   stays (string s) h = quoted_stays s
   stays (array ds) h = let a = items_stay false ds h in omega (arith, a)
   stays (object ms) h = let a = members_stay false ms h in omega (arith, a)
 
-  items_stay : (later : Bool) (ds : Items) → ItemsHaveCounts ds → line_count (items_text later ds) ≡ 0
+  items_stay : (later : Bool) (ds : Items) → EachOfItems IsInteger ds → line_count (items_text later ds) ≡ 0
   items_stay later no_items h = refl
   items_stay later (item d ds) h =
       let a = line_count-append (comma_if later) (compact_text d ++ items_text true ds) in
       let b = line_count-append (compact_text d) (items_text true ds) in
       let c = comma_stays later in let e = stays d h.0 in let f = items_stay true ds h.1 in omega (arith, a, b, c, e, f)
 
-  members_stay : (later : Bool) (ms : Members) → MembersHaveCounts ms → line_count (members_text later ms) ≡ 0
+  members_stay : (later : Bool) (ms : Members) → EachOfMembers IsInteger ms → line_count (members_text later ms) ≡ 0
   members_stay later no_members h = refl
   members_stay later (member k d ms) h =
       let a = line_count-append (comma_if later) (quoted k ++ 58 ∷ (compact_text d ++ members_text true ms)) in
@@ -189,16 +190,16 @@ mutual
       let c = comma_stays later in let q = quoted_stays k in let e = stays d h.0 in let f = members_stay true ms h.1 in
       omega (arith, a, b, g, c, q, e, f)
 
-line_ends : (d : Data) → HasCounts d → line_count (json_line d) ≡ 1
+line_ends : (d : Data) → HasIntegers d → line_count (json_line d) ≡ 1
 line_ends d h = let a = line_count-append (compact_text d) (10 ∷ []) in let b = stays d h in omega (arith, a, b)
 
-pub lines_end : (ds : List Data) → AreTold ds → line_count (json_lines ds) ≡ length ds
+pub lines_end : (ds : List Data) → AreRead ds → line_count (json_lines ds) ≡ length ds
 lines_end [] h = refl
 lines_end (d ∷ ds) h =
     let a = line_count-append (json_line d) (json_lines ds) in let b = line_ends d h.0.0 in let c = lines_end ds h.1 in
     omega (arith, a, b, c)
 
-pub first_told : (k : ℕ) (ds : List Data) → AreTold ds → AreTold (take k ds)
+pub first_told : (k : ℕ) (ds : List Data) → AreRead ds → AreRead (take k ds)
 first_told zero ds h = tt
 first_told (suc k) [] h = tt
 first_told (suc k) (d ∷ ds) h = (h.0, first_told k ds h.1)
@@ -250,13 +251,13 @@ one_more d ds kept j k e c = record {
 }
 
 -- inside a line no line begins
-not_inside : (d : Data) (ds : List Data) (at : ℕ) → HasCounts d → BeginsLine (json_lines (d ∷ ds)) (suc at) → suc at < length (json_line d) → ⊥
+not_inside : (d : Data) (ds : List Data) (at : ℕ) → HasIntegers d → BeginsLine (json_lines (d ∷ ds)) (suc at) → suc at < length (json_line d) → ⊥
 not_inside d ds at h b l =
     let e = length-append (compact_text d) (10 ∷ []) in
     inside (compact_text d) (10 ∷ json_lines ds) at (omega (arith, e, l)) (stays d h)
     (ap (λ t. get_or t at 0) (sym (append_assoc (compact_text d) (10 ∷ []) (json_lines ds))) ∙ b)
 
-pub cut_at : (facts : List Data) (kept : ℕ) → AreTold facts → BeginsLine (json_lines facts) kept → kept ≤ length (json_lines facts) →
+pub cut_at : (facts : List Data) (kept : ℕ) → AreRead facts → BeginsLine (json_lines facts) kept → kept ≤ length (json_lines facts) →
     (k : ℕ) × IsCutAt facts kept k
 cut_at facts zero h b l = (0, record { within = omega arith; front = refl; back = refl })
 cut_at [] (suc at) h b l = absurd (omega (arith, l))
@@ -342,7 +343,7 @@ module _ (before : List Data) (last : Data) where
       omega (arith, whole, l, m)
 
   -- behind it no line begins
-  pub last_alone : HasCounts last → IsLastLine (json_lines (before ++ last ∷ [])) (length (json_lines before))
+  pub last_alone : HasIntegers last → IsLastLine (json_lines (before ++ last ∷ [])) (length (json_lines before))
   last_alone h n past below b =
       by (n - length (json_lines before)) (omega (arith, past)) (subst (λ t. BeginsLine t n) (lines-append before (last ∷ [])) b)
     where
@@ -358,7 +359,7 @@ module _ (before : List Data) (last : Data) where
       ∙ drop_at (json_lines before) (json_lines (last ∷ [])) (length (json_lines before)) refl ∙ append-nil (json_line last)
 
 -- a place before another has no more facts before it
-pub ordered : (facts : List Data) (from to a k : ℕ) → AreTold facts → IsCutAt facts from a → IsCutAt facts to k → from ≤ to → a ≤ k
+pub ordered : (facts : List Data) (from to a k : ℕ) → AreRead facts → IsCutAt facts from a → IsCutAt facts to k → from ≤ to → a ≤ k
 ordered facts from to a k told first last order =
     let t = take to (json_lines facts) in
     let within : a ≤ length facts = first.within in

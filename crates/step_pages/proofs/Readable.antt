@@ -65,16 +65,33 @@ names_small tree = (
   ),
 )
 
+small_opening : (file text : List ℕ) (tree : ProgramTree) (input : List ℤ) (statements : ℕ) →
+    IsSmall 4 (opening_facts file text tree input statements)
+small_opening file text tree input statements =
+    small_object 3 (opening_fields file text tree input statements)
+    (has_all 3 (source_fields file text tree.rule input statements) (names_fields tree) (source_small file text tree.rule input statements)
+    (names_small tree))
+
+small_state : (cells variables : List ℤ) (printed k : ℕ) → IsSmall 2 (state_of cells variables printed k)
+small_state cells variables printed k =
+    small_object 1 (state_fields cells variables printed k)
+    (small_count 1 k, (small_values 0 cells, (small_values 0 variables, (small_count 1 printed, tt))))
+
 pub readable_opening : (file text : List ℕ) (tree : ProgramTree) (input : List ℤ) (statements : ℕ) →
     IsReadable (opening_facts file text tree input statements)
 readable_opening file text tree input statements =
-    smaller 4 127 (opening_facts file text tree input statements) (lit≤ tt)
-    (small_object 3 (opening_fields file text tree input statements)
-    (has_all 3 (source_fields file text tree.rule input statements) (names_fields tree) (source_small file text tree.rule input statements)
-    (names_small tree)))
+    smaller 4 127 (opening_facts file text tree input statements) (lit≤ tt) (small_opening file text tree input statements)
 
 pub readable_state : (cells variables : List ℤ) (printed k : ℕ) → IsReadable (state_of cells variables printed k)
 readable_state cells variables printed k =
-    smaller 2 127 (state_of cells variables printed k) (lit≤ tt)
-    (small_object 1 (state_fields cells variables printed k)
-    (small_count 1 k, (small_values 0 cells, (small_values 0 variables, (small_count 1 printed, tt)))))
+    smaller 2 127 (state_of cells variables printed k) (lit≤ tt) (small_state cells variables printed k)
+
+-- a level less than the reader takes, so that they may stand in a list
+pub shallow_opening : (file text : List ℕ) (tree : ProgramTree) (input : List ℤ) (statements : ℕ) →
+    IsSmall 126 (opening_facts file text tree input statements)
+shallow_opening file text tree input statements =
+    smaller 4 126 (opening_facts file text tree input statements) (lit≤ tt) (small_opening file text tree input statements)
+
+pub shallow_state : (cells variables : List ℤ) (printed k : ℕ) → IsSmall 126 (state_of cells variables printed k)
+shallow_state cells variables printed k =
+    smaller 2 126 (state_of cells variables printed k) (lit≤ tt) (small_state cells variables printed k)

@@ -1,42 +1,17 @@
 -- The facts that stand in a page, read as JSON.
 use Rattle.std.specs.Prelude.{◌≡◌, ℕ, ◌-◌, ◌<◌, ◌≤◌, ◌^◌, List, [], ◌∷◌, ◌++◌, Some, codes, drop, length, take}
-use Rattle.std.specs.Prelude.{◌&&◌, if◌then◌else◌, nat_le, nat_lt}
-use Rattle.serde_json.specs.Data.{Num, unsigned, negative, float, Data, null, boolean, number, string, array, object, Items, no_items, item, Members}
-use Rattle.serde_json.specs.Data.{no_members, member, depth}
+use Rattle.std.specs.Prelude.{◌&&◌, All, if◌then◌else◌, nat_le, nat_lt}
+use Rattle.serde_json.specs.Data.{Data}
 use Rattle.serde_json.specs.Read.{read}
 use Rattle.json_lines.specs.Facts.{count, list, object_of}
 use Rattle.json_lines.specs.Lines.{IsJson, json_line}
+use Rattle.json_lines.specs.Small.{IsSmall}
 use Rattle.step_pages.specs.Cut.{IsCut, room}
 use Rattle.step_pages.specs.Facts.{embedded, facts_text, state_room}
 
--- a count below 2^64
-abbrev pub IsCount : Num → Type 0
-IsCount (unsigned n) = n < 2 ^ 64
-IsCount (negative z) = ⊥
-IsCount (float x) = ⊥
-
--- each number in it is one
-abbrev mutual
-  pub HasCounts : Data → Type 0
-  HasCounts null = Unit {0}
-  HasCounts (boolean b) = Unit {0}
-  HasCounts (number n) = IsCount n
-  HasCounts (string s) = Unit {0}
-  HasCounts (array ds) = ItemsHaveCounts ds
-  HasCounts (object ms) = MembersHaveCounts ms
-
-  pub ItemsHaveCounts : Items → Type 0
-  ItemsHaveCounts no_items = Unit {0}
-  ItemsHaveCounts (item d ds) = HasCounts d × ItemsHaveCounts ds
-
-  pub MembersHaveCounts : Members → Type 0
-  MembersHaveCounts no_members = Unit {0}
-  MembersHaveCounts (member k d ms) = HasCounts d × MembersHaveCounts ms
-
--- facts whose numbers are counts, and that nest at most 126 deep
+-- facts in which no float stands, and that nest at most 126 deep, a level less than a reader takes
 abbrev pub AreTold : List Data → Type 0
-AreTold [] = Unit {0}
-AreTold (d ∷ ds) = (HasCounts d × (depth d ≤ 126)) × AreTold ds
+AreTold = All (IsSmall 126)
 
 -- behind how many lines some are left out, and how many, as a fact
 abbrev pub gap_fact : (behind left : ℕ) → Data
