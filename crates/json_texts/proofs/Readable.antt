@@ -1,7 +1,7 @@
 -- What is told can be read: it has no float, and nests five levels at most.
 use Rattle.std.proofs.Common.{ℕ, ◌+◌, List, [], ◌∷◌, ◌++◌, length, lit≤, map, arith, refl}
 use Rattle.std.specs.Prelude.{Bool, true, false, ℤ, Option, Some, None, codes, slice_get}
-use Rattle.json_lines.specs.Facts.{Field, list, object_of, value}
+use Rattle.json_lines.specs.Facts.{Field, count, list, object_of, value}
 use Rattle.serde_json.specs.Data.{Data}
 use Rattle.std.specs.List.{flat_map}
 use Rattle.json_lines.specs.Small.{IsReadable, IsSmall}
@@ -82,11 +82,18 @@ small_outcome layout v = small_chosen All layout v
 pub readable : (fields : List Field) → HasSmall 3 fields → IsReadable (object_of fields)
 readable fields h = smaller 4 127 (object_of fields) (lit≤ tt) (small_object 3 fields h)
 
+-- nests a level less than the reader takes, so that it may stand in a list
+shallow : (fields : List Field) → HasSmall 3 fields → IsSmall 126 (object_of fields)
+shallow fields h = smaller 4 126 (object_of fields) (lit≤ tt) (small_object 3 fields h)
+
 pub readable_chosen : (choice : Choice) (layout : List SharedEntry) (v : Verdict) → IsReadable (chosen_facts choice layout v)
 readable_chosen choice layout v = readable (chosen_fields choice layout v) (small_chosen choice layout v)
 
 pub readable_outcome : (layout : List SharedEntry) (v : Verdict) → IsReadable (outcome_facts layout v)
 readable_outcome layout v = readable (outcome_fields layout v) (small_outcome layout v)
+
+pub shallow_outcome : (layout : List SharedEntry) (v : Verdict) → IsSmall 126 (outcome_facts layout v)
+shallow_outcome layout v = shallow (outcome_fields layout v) (small_outcome layout v)
 
 -- ---- accepted programs
 
@@ -339,7 +346,16 @@ small_told layout tree source (Faulting here fault cause acts met locals) = (
   ),
 )
 
+small_step : (layout : List SharedEntry) (tree : ProgramTree) (source : List ℕ) (number : ℕ) (e : Entry) →
+    HasSmall 3 ((codes "step", count number) ∷ told_fields layout tree source e)
+small_step layout tree source number e = (small_count 3 number, small_told layout tree source e)
+
 pub readable_step : (layout : List SharedEntry) (tree : ProgramTree) (source : List ℕ) (number : ℕ) (e : Entry) →
     IsReadable (step_facts layout tree source number e)
 readable_step layout tree source number e =
-    readable ((codes "step", _) ∷ told_fields layout tree source e) (small_count 3 number, small_told layout tree source e)
+    readable ((codes "step", count number) ∷ told_fields layout tree source e) (small_step layout tree source number e)
+
+pub shallow_step : (layout : List SharedEntry) (tree : ProgramTree) (source : List ℕ) (number : ℕ) (e : Entry) →
+    IsSmall 126 (step_facts layout tree source number e)
+shallow_step layout tree source number e =
+    shallow ((codes "step", count number) ∷ told_fields layout tree source e) (small_step layout tree source number e)

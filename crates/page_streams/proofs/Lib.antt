@@ -1,2 +1,3 @@
 pub mod OneEntry
 pub mod Whole
+pub mod ReadBack

@@ -3,3 +3,4 @@ pub mod GatheredLaws
 pub mod Pages
 pub mod Paged
 pub mod Streamed
+pub mod Read

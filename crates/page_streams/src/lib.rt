@@ -7,6 +7,7 @@ mod facts;
 mod gatherer;
 mod gathering;
 mod replayer;
+pub mod run_laws;
 mod streaming;
 
 pub use streaming::stream_page;

@@ -352,8 +352,8 @@ pub cut_facts_are_read : CutFactsAreRead
 cut_facts_are_read facts states text state from to told told_states says also few cut =
     subst (λ s. (a : ℕ) × (k : ℕ) × IsReadAs facts states text s from to a k) (sym also.whole)
     (subst (λ t. IsCut t from to → (a : ℕ) × (k : ℕ) × IsReadAs facts states t (json_lines states) from to a k) (sym says.whole)
-    (cut_read facts (told_read facts text told says) (recursion_from_All ReadsBack facts says.read_back) few states (told_read states state told_states also)
-    (recursion_from_All ReadsBack states also.read_back) from to) cut)
+    (cut_read facts (told_read facts text told says) (recursion_from_All ReadsBack facts says.read_back) few states
+    (told_read states state told_states also) (recursion_from_All ReadsBack states also.read_back) from to) cut)
 
 pub facts_are_read : FactsAreRead
 facts_are_read facts states text state from to told told_states says also few cut =
@@ -361,8 +361,8 @@ facts_are_read facts states text state from to told told_states says also few cu
     (sym also.whole)
     (subst (λ t. IsCut t from to → length (embedded t) ≤ room →
     (a : ℕ) × (read (codes "[" ++ facts_text t (json_lines states) from to) ≡ Some (list (facts ++ gap_fact a 0 ∷ [])))) (sym says.whole)
-    (all_read facts (told_read facts text told says) (recursion_from_All ReadsBack facts says.read_back) few states (told_read states state told_states also)
-    (recursion_from_All ReadsBack states also.read_back) from to) cut)
+    (all_read facts (told_read facts text told says) (recursion_from_All ReadsBack facts says.read_back) few states
+    (told_read states state told_states also) (recursion_from_All ReadsBack states also.read_back) from to) cut)
 
 -- ---- the last line
 
@@ -403,5 +403,6 @@ outcome_is_read before states outcome text state from to told told_states says a
     (a : ℕ) × (k : ℕ) × IsReadAs (before ++ outcome ∷ []) states text s from to a k × (k ≤ length before)) (sym also.whole)
     (subst (λ t. IsCut t from to → length (embedded (json_line outcome)) ≤ room →
     (a : ℕ) × (k : ℕ) × IsReadAs (before ++ outcome ∷ []) states t (json_lines states) from to a k × (k ≤ length before)) (sym says.whole)
-    (with_outcome before outcome (told_read (before ++ outcome ∷ []) text told says) states (told_read states state told_states also) (recursion_from_All ReadsBack states also.read_back)
+    (with_outcome before outcome (told_read (before ++ outcome ∷ []) text told says) states (told_read states state told_states also)
+    (recursion_from_All ReadsBack states also.read_back)
     (recursion_from_All ReadsBack (before ++ outcome ∷ []) says.read_back) few from to) cut)
