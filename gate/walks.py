@@ -18,7 +18,7 @@ EXEMPLARS = {
     "Priority": ("Priority", []),
     "Flip": ("Flip", []),
     "Affine": ("Affine", []),
-    "Plan": (r"Plan|PLAN|\w+_plan", ["machine"]),
+    "Plan": (r"Plan|Planned|PLAN|\w+_plan|plan_\w+", ["machine"]),
     "OutOfReserve": ("OutOfReserve", ["machine", "oracles"]),
 }
 TABLE = re.compile(r"(<!-- (\w+), by gate/walks.py -->\n).*?(<!-- end -->\n)", re.S)
