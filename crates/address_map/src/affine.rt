@@ -1,5 +1,5 @@
 //! The map that multiplies by an odd number and adds.
-ghost use Rattle.std.specs.Prelude.{◌≡◌, ◌<◌, ◌≤◌, ◌^◌, ◌*◌, ◌%◌, IfOk, IfErr};
+ghost use Rattle.std.specs.Prelude.{◌≡◌, ◌≤◌, ◌^◌, ◌*◌, ◌%◌, IfOk, IfErr};
 ghost use Rattle.address_map.specs.Permutation.{affine, affine_back};
 ghost use Rattle.address_map.specs.Lawful.{spread, Spreads};
 ghost use Rattle.address_map.specs.Outcome.{IsWorkers, IsCells, IsOdd, IsFault};

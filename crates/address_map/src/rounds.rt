@@ -1,5 +1,5 @@
 //! The map in rounds of multiplication and shift.
-ghost use Rattle.std.specs.Prelude.{◌≡◌, ◌↔◌, ◌<◌, ◌≤◌, ◌^◌, ◌*◌, ◌%◌, take, true, IfOk, IfErr};
+ghost use Rattle.std.specs.Prelude.{◌≡◌, ◌↔◌, ◌≤◌, ◌%◌, take, true, IfOk, IfErr};
 ghost use Rattle.std.specs.List.{All};
 ghost use Rattle.address_map.specs.Permutation as permutation;
 ghost use Rattle.address_map.specs.Lawful.{spread, Spreads};

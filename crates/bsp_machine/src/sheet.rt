@@ -1,6 +1,6 @@
 //! Rows of messages.
 
-ghost use Rattle.std.specs.Prelude.{◌≡◌, ◌≤◌, ◌<◌, ℕ, length, vec_capacity, IfOk};
+ghost use Rattle.std.specs.Prelude.{◌≡◌, ℕ, vec_capacity, IfOk};
 ghost use Rattle.bsp_machine.specs.Sheets.{IsSheet};
 
 use crate::letter::Letter;

@@ -1,6 +1,6 @@
 //! One instruction against the code and the state of its place.
 
-ghost use Rattle.std.specs.Prelude.{◌≡◌, ◌<◌, ◌&&◌, true, length};
+ghost use Rattle.std.specs.Prelude.{◌≡◌, ◌&&◌, true};
 ghost use Rattle.bsp_verify.specs.Judging as spec;
 ghost use Rattle.bsp_verify.specs.States.{after};
 

@@ -1,6 +1,6 @@
 //! What is written to standard error.
 
-ghost use Rattle.std.specs.Prelude.{◌<◌, ◌^◌, ◌∷◌, [], IfOk, map};
+ghost use Rattle.std.specs.Prelude.{◌∷◌, [], IfOk, map};
 ghost use Rattle.std.specs.String.{string_bytes};
 ghost use Rattle.text_out.specs.Out.{Writes};
 ghost use Rattle.json_lines.specs.Lines.{IsJson};

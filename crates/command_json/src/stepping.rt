@@ -1,6 +1,6 @@
 //! Runs of a program that are told statement by statement as they go.
 
-ghost use Rattle.std.specs.Prelude.{◌≡◌, ◌<◌, ◌≤◌, ◌^◌, ◌∷◌, [], IfErr, IfOk, OnOk, length, string_bytes};
+ghost use Rattle.std.specs.Prelude.{◌≡◌, ◌≤◌, ◌∷◌, [], IfErr, IfOk, OnOk, length, string_bytes};
 ghost use Rattle.json_lines.specs.Lines.{IsJson};
 ghost use Rattle.pram_model.specs.Layout.{total_size};
 ghost use Rattle.json_streams.specs.Streamed.{WroteJson};

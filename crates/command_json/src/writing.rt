@@ -1,6 +1,6 @@
 //! What is written to standard output.
 
-ghost use Rattle.std.specs.Prelude.{◌<◌, ◌^◌, string_bytes};
+ghost use Rattle.std.specs.Prelude.{string_bytes};
 ghost use Rattle.command_facts.specs.Written.{Wrote};
 
 use program_texts::{Status, Stop, finish};

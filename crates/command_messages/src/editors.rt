@@ -1,6 +1,6 @@
 //! Why a call stops, in the lines that editors read.
 
-ghost use Rattle.std.specs.Prelude.{◌≡◌, ◌<◌, ◌^◌, ℕ, List, map};
+ghost use Rattle.std.specs.Prelude.{◌≡◌, ℕ, List, map};
 ghost use Rattle.std.specs.String.{string_bytes};
 ghost use Rattle.text_out.specs.Out.{Writes};
 ghost use Rattle.refusal_messages.specs.Messages.{message_is};

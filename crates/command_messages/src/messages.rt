@@ -1,6 +1,6 @@
 //! The message of why a call stops.
 
-ghost use Rattle.std.specs.Prelude.{◌≡◌, IfOk, map, take, length, nat_lt, ◌-◌};
+ghost use Rattle.std.specs.Prelude.{◌≡◌, IfOk, map, nat_lt, ◌-◌};
 ghost use Rattle.std.specs.String.{string_bytes};
 ghost use Rattle.word_faults.specs.Values.{IsWrong};
 ghost use Rattle.word_faults.specs.Sentences.{word_fault};

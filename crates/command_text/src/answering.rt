@@ -1,6 +1,6 @@
 //! How the program answers a request.
 
-ghost use Rattle.std.specs.Prelude.{◌<◌, ◌≤◌, ◌^◌, length, map};
+ghost use Rattle.std.specs.Prelude.{◌≤◌, length, map};
 ghost use Rattle.std.specs.String.{string_bytes};
 ghost use Rattle.pram_model.specs.Layout.{total_size};
 ghost use Rattle.command_facts.specs.Calls.{FitsIn, IsSettled};

@@ -1,6 +1,6 @@
 //! Runs of a program of which the flow of data is drawn.
 
-ghost use Rattle.std.specs.Prelude.{◌≡◌, ◌<◌, ◌≤◌, ◌^◌, IfErr, IfOk, length};
+ghost use Rattle.std.specs.Prelude.{◌≡◌, ◌≤◌, IfErr, IfOk, length};
 ghost use Rattle.pram_model.specs.Layout.{total_size};
 ghost use Rattle.text_out.specs.Out.{with_bytes};
 ghost use Rattle.command_facts.specs.Found.{IsOutcomeOf, entries_of, with_outcome};

@@ -1,6 +1,6 @@
 //! Runs of a program that are told as a page.
 
-ghost use Rattle.std.specs.Prelude.{◌≡◌, ◌<◌, ◌≤◌, ◌^◌, IfErr, IfOk, length};
+ghost use Rattle.std.specs.Prelude.{◌≡◌, ◌≤◌, IfErr, IfOk, length};
 ghost use Rattle.pram_model.specs.Layout.{total_size};
 ghost use Rattle.command_facts.specs.Found.{IsOutcomeOf};
 ghost use Rattle.command_text.specs.Stepped as stepped;

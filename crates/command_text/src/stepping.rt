@@ -1,6 +1,6 @@
 //! Runs of a program that are told statement by statement: in words as they go, drawn, or as a page.
 
-ghost use Rattle.std.specs.Prelude.{◌≡◌, ◌<◌, ◌≤◌, ◌^◌, IfErr, IfOk, OnOk, length, map};
+ghost use Rattle.std.specs.Prelude.{◌≡◌, ◌≤◌, IfErr, IfOk, OnOk, length, map};
 ghost use Rattle.pram_model.specs.Layout.{total_size};
 ghost use Rattle.text_out.specs.Out.{with_bytes};
 ghost use Rattle.write_rules.specs.Verdict.{verdict_of};

@@ -1,6 +1,4 @@
 //! Runs of a program at several sizes: a line each, values separated by commas, or drawn.
-
-ghost use Rattle.std.specs.Prelude.{◌<◌, ◌^◌};
 ghost use Rattle.text_out.specs.Out.{Writes};
 ghost use Rattle.command_facts.specs.Written.{Wrote};
 ghost use Rattle.command_text.specs.Texts.{swept_text, table_text};

@@ -1,6 +1,4 @@
 //! What was found, told on standard output.
-
-ghost use Rattle.std.specs.Prelude.{◌<◌, ◌^◌};
 ghost use Rattle.program_texts.specs.Status.{status_of};
 ghost use Rattle.command_facts.specs.Calls.{IsSettled, status_of_found};
 ghost use Rattle.command_facts.specs.Written.{Wrote, WroteSome};

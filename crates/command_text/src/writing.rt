@@ -1,6 +1,6 @@
 //! What a call writes to standard output.
 
-ghost use Rattle.std.specs.Prelude.{◌<◌, ◌^◌, ◌++◌};
+ghost use Rattle.std.specs.Prelude.{◌++◌};
 ghost use Rattle.text_out.specs.Out.{Writes};
 ghost use Rattle.write_rules.specs.Verdict.{verdict_of};
 ghost use Rattle.program_texts.specs.Shown.{shown};

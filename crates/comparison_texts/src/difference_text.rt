@@ -1,6 +1,6 @@
 //! The text of what differs.
 
-ghost use Rattle.std.specs.Prelude.{◌≡◌, ◌++◌, ◌<◌, ◌^◌, codes};
+ghost use Rattle.std.specs.Prelude.{◌≡◌, ◌++◌, codes};
 ghost use Rattle.text_out.specs.Out.{Writes};
 ghost use Rattle.comparison_texts.specs.ComparisonText as spec;
 

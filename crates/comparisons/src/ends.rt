@@ -1,6 +1,6 @@
 //! Two runs that end.
 
-ghost use Rattle.std.specs.Prelude.{◌≡◌, ◌<◌, ◌^◌, slice_get};
+ghost use Rattle.std.specs.Prelude.{◌≡◌, slice_get};
 ghost use Rattle.comparisons.specs.Ends as spec;
 
 use crate::compared::{CommonRange, Compared};

@@ -1,6 +1,6 @@
 //! The text of what a run costs.
 
-ghost use Rattle.std.specs.Prelude.{◌<◌, ◌^◌, codes};
+ghost use Rattle.std.specs.Prelude.{codes};
 ghost use Rattle.text_out.specs.Out.{Writes};
 ghost use Rattle.write_rules.specs.Verdict.{verdict_of};
 ghost use Rattle.cost_texts.specs.CostText as spec;

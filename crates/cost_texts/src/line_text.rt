@@ -1,6 +1,4 @@
 //! The text of what lines cost.
-
-ghost use Rattle.std.specs.Prelude.{◌<◌, ◌^◌};
 ghost use Rattle.text_out.specs.Out.{Writes};
 ghost use Rattle.cost_texts.specs.CostText as spec;
 

@@ -1,6 +1,6 @@
 //! Why a statement faults, as it is said.
 
-ghost use Rattle.std.specs.Prelude.{◌≡◌, ◌<◌, ◌^◌, ◌-◌, ◌∷◌, IfSome, codes, length, slice_get, take};
+ghost use Rattle.std.specs.Prelude.{◌≡◌, ◌<◌, ◌-◌, ◌∷◌, IfSome, codes, length, slice_get, take};
 ghost use Rattle.pram_model.specs.Layout.{width};
 ghost use Rattle.text_out.specs.Out.{Writes};
 ghost use Rattle.step_entries.specs.Causes.{cause_is};

@@ -1,6 +1,6 @@
 //! What happened in a fault of some kind, and who met.
 
-ghost use Rattle.std.specs.Prelude.{◌≡◌, ◌<◌, ◌^◌, ◌-◌, length, take};
+ghost use Rattle.std.specs.Prelude.{◌≡◌, ◌-◌, length, take};
 ghost use Rattle.text_out.specs.Out.{Writes};
 ghost use Rattle.diagnoses.specs.FaultTexts as spec;
 

@@ -1,6 +1,4 @@
 //! What is said of a fault.
-
-ghost use Rattle.std.specs.Prelude.{◌<◌, ◌^◌};
 ghost use Rattle.text_out.specs.Out.{Writes};
 ghost use Rattle.diagnoses.specs.FaultTexts as spec;
 ghost use Rattle.diagnoses.specs.Reasons.{reason_is};

@@ -1,6 +1,6 @@
 //! What is said of a file that can't be read.
 
-ghost use Rattle.std.specs.Prelude.{◌≡◌, ◌<◌, ◌^◌, IfOk};
+ghost use Rattle.std.specs.Prelude.{◌≡◌, IfOk};
 ghost use Rattle.std.specs.Option.{option_map};
 ghost use Rattle.text_out.specs.Out.{Writes};
 ghost use Rattle.refusal_messages.specs.Messages.{message_is};

@@ -1,6 +1,6 @@
 //! Messages in lines that editors read, with the numbers of their refusals.
 
-ghost use Rattle.std.specs.Prelude.{◌≡◌, ◌<◌, ◌^◌};
+ghost use Rattle.std.specs.Prelude.{◌≡◌};
 ghost use Rattle.text_out.specs.Out.{Writes};
 ghost use Rattle.refusal_messages.specs.Messages.{message_is};
 ghost use Rattle.diagnoses.specs.Numbers as spec;

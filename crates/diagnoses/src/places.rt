@@ -4,7 +4,6 @@ ghost use Rattle.std.specs.Prelude.{◌≡◌, ◌≤◌, drop, length, slice_in
 ghost use Rattle.std.specs.List.{prefix_len};
 ghost use Rattle.pram_model.specs.Names.{is_word as is_word_byte, same_text};
 ghost use Rattle.text_out.specs.Out.{Writes};
-ghost use Rattle.std.specs.Prelude.{◌<◌, ◌^◌};
 ghost use Rattle.diagnoses.specs.Places as spec;
 
 use text_out::{Out, WriteFault};

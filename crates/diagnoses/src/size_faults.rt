@@ -1,6 +1,6 @@
 //! What is said of a text with sizes that has no expansion.
 
-ghost use Rattle.std.specs.Prelude.{◌≡◌, ◌<◌, ◌^◌, IfOk};
+ghost use Rattle.std.specs.Prelude.{◌≡◌, IfOk};
 ghost use Rattle.text_out.specs.Out.{Writes};
 ghost use Rattle.refusal_messages.specs.Messages.{message_is};
 ghost use Rattle.diagnoses.specs.SizeFaults as spec;

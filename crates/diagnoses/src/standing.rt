@@ -1,6 +1,6 @@
 //! Refusals with their offsets in the file.
 
-ghost use Rattle.std.specs.Prelude.{◌≡◌, ◌<◌, ◌^◌, MatchOption};
+ghost use Rattle.std.specs.Prelude.{◌≡◌, MatchOption};
 ghost use Rattle.text_out.specs.Out.{Writes};
 ghost use Rattle.program_texts.specs.declared.stop.Stop.TheVariants.{Refused};
 ghost use Rattle.diagnoses.specs.Sources as sources;

@@ -1,6 +1,6 @@
 //! What is said behind the line of a refusal.
 
-ghost use Rattle.std.specs.Prelude.{◌≡◌, ◌<◌, ◌^◌, List, ℕ, IfOk, None};
+ghost use Rattle.std.specs.Prelude.{◌≡◌, List, ℕ, IfOk, None};
 ghost use Rattle.text_out.specs.Out.{Writes};
 ghost use Rattle.refusal_messages.specs.Messages.{message_is, said};
 ghost use Rattle.diagnoses.specs.Remarks.{remark_is};

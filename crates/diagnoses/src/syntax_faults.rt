@@ -1,6 +1,4 @@
 //! What is said of a token with which no program goes on, or of the end of a text whose program goes on.
-
-ghost use Rattle.std.specs.Prelude.{◌<◌, ◌^◌};
 ghost use Rattle.text_out.specs.Out.{Writes};
 ghost use Rattle.diagnoses.specs.Remarks.{remark_is};
 ghost use Rattle.diagnoses.specs.SyntaxFaults as spec;

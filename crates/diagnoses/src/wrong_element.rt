@@ -1,6 +1,6 @@
 //! Where the element stands whose subscript is outside the bounds of its array.
 
-ghost use Rattle.std.specs.Prelude.{◌≡◌, ◌<◌, ◌^◌, IfOk, IfSome, length, map, slice_get};
+ghost use Rattle.std.specs.Prelude.{◌≡◌, ◌<◌, IfOk, IfSome, length, map, slice_get};
 ghost use Rattle.step_entries.specs.Causes.{known_cause};
 ghost use Rattle.step_entries.specs.Entries.{act_is};
 ghost use Rattle.diagnoses.specs.WrongElements as spec;

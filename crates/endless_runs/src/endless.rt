@@ -1,7 +1,6 @@
 //! Runs that never end.
 
-ghost use Rattle.std.specs.Prelude.{◌≡◌, ◌≤◌, length, Some};
-ghost use Rattle.pram_model.specs.Layout.{total_size};
+ghost use Rattle.std.specs.Prelude.{◌≡◌, Some};
 ghost use Rattle.endless_runs.specs.Endless.{HasCycle, NeverEnds};
 
 use crate::cycle::Cycle;

@@ -1,6 +1,6 @@
 //! A run that is searched for a loop that comes back to a state that it had.
 
-ghost use Rattle.std.specs.Prelude.{◌≡◌, ◌≤◌, ◌<◌, ◌+◌, IfOk, OnOk};
+ghost use Rattle.std.specs.Prelude.{◌≡◌, ◌≤◌, ◌+◌, IfOk, OnOk};
 ghost use Rattle.pram_tokens.specs.declared.token.Location.{Location};
 ghost use Rattle.pram_meaning.specs.Attempt.{attempt_bounds};
 ghost use Rattle.pram_meaning.specs.Meaning.{Begins, Ends, Evaluated, Tested};

@@ -1,6 +1,6 @@
 //! The laws of this crate.
 
-ghost use Rattle.std.specs.Prelude.{◌≡◌, ◌<◌, ◌≤◌, ◌-◌, ◌++◌, ◌∷◌, ℕ, [], List, length, map};
+ghost use Rattle.std.specs.Prelude.{◌≡◌, ◌≤◌, ◌-◌, ◌++◌, ◌∷◌, ℕ, [], List, length, map};
 ghost use Rattle.std.specs.List.{range_with_len};
 ghost use Rattle.exchange_counts.specs.declared.count.Count.{Count as Counted};
 ghost use Rattle.exchange_counts.specs.Columns.{column_of, AreColumns, AreSame, GrowBy};

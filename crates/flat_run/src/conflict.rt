@@ -2,7 +2,6 @@
 
 ghost use Rattle.std.specs.Prelude.{◌≡◌, ◌<◌, ◌&&◌, None, Some, if◌then◌else◌, length, map, pos};
 ghost use Rattle.std.specs.List.{range_with_len};
-ghost use Rattle.pram_model.specs.Layout.{total_size};
 ghost use Rattle.pram_values.specs.Total.{total};
 ghost use Rattle.pram_values.specs.declared.kind.Kind.TheVariants as kind_is;
 ghost use Rattle.write_rules.specs.Rule.{shares_reads as spec_shares_reads};

@@ -1,6 +1,6 @@
 //! The exchanges of a run.
 
-ghost use Rattle.std.specs.Prelude.{◌≡◌, ◌+◌, ◌*◌, ◌++◌, ◌∷◌, [], true, length, IfOk, OnOk, Some};
+ghost use Rattle.std.specs.Prelude.{◌≡◌, ◌+◌, ◌*◌, ◌++◌, ◌∷◌, [], true, IfOk, OnOk, Some};
 ghost use Rattle.superstep_machine.specs.Stretch.{ToClose};
 ghost use Rattle.superstep_machine.specs.Run as spec;
 ghost use Rattle.instruction_steps.specs.Views.{uniform_of};

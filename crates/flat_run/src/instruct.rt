@@ -1,6 +1,6 @@
 //! An instruction on registers, by all processors of the range.
 
-ghost use Rattle.std.specs.Prelude.{◌≡◌, ◌<◌, ◌≤◌, ◌^◌, ℕ, None, OnOk, IfOk, if◌then◌else◌, length, map, pos};
+ghost use Rattle.std.specs.Prelude.{◌≡◌, ◌<◌, ◌≤◌, ◌^◌, ℕ, None, OnOk, IfOk, if◌then◌else◌, length};
 ghost use Rattle.std.specs.List.{range_with_len};
 ghost use Rattle.pram_model.specs.Layout.{total_size};
 ghost use Rattle.pram_values.specs.Total.{total};

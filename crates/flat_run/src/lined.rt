@@ -1,6 +1,6 @@
 //! The lines of a run's exchanges.
 
-ghost use Rattle.std.specs.Prelude.{◌≡◌, ◌+◌, ◌*◌, ◌++◌, ◌∷◌, [], true, length, IfOk, OnOk, Some};
+ghost use Rattle.std.specs.Prelude.{◌≡◌, ◌+◌, ◌*◌, ◌++◌, ◌∷◌, [], true, IfOk, OnOk, Some};
 ghost use Rattle.bsp_verify.specs.WellFormed.{IsWellFormed};
 ghost use Rattle.superstep_machine.specs.Stretch.{ToClose};
 ghost use Rattle.superstep_machine.specs.Run as spec;

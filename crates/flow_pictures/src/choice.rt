@@ -1,6 +1,6 @@
 //! Which statements of a run are drawn.
 
-ghost use Rattle.std.specs.Prelude.{◌≡◌, ◌+◌, ◌&&◌, ◌||◌};
+ghost use Rattle.std.specs.Prelude.{◌≡◌, ◌&&◌};
 ghost use Rattle.step_entries.specs.Entries.{entry_is};
 ghost use Rattle.flow_pictures.specs.Choice as spec;
 

@@ -1,6 +1,6 @@
 //! What is said above the rows: how many statements and cells are drawn, and what is what.
 
-ghost use Rattle.std.specs.Prelude.{◌≡◌, ◌<◌, ◌^◌, ◌++◌, codes, decimal};
+ghost use Rattle.std.specs.Prelude.{◌≡◌, ◌++◌, codes, decimal};
 ghost use Rattle.text_out.specs.Out.{Writes};
 ghost use Rattle.flow_pictures.specs.Picture as spec;
 

@@ -1,6 +1,6 @@
 //! Equations in echelon form.
 
-ghost use Rattle.std.specs.Prelude.{◌≡◌, ◌≢◌, ◌↔◌, ◌<◌, ◌≤◌, ℕ, ℤ, pos, All, MatchOption};
+ghost use Rattle.std.specs.Prelude.{◌≡◌, ◌↔◌, ◌<◌, ℕ, ℤ, pos, All, MatchOption};
 ghost use Rattle.growth_formulas.specs.Choices.{chosen};
 ghost use Rattle.growth_formulas.specs.Echelons.{BeginsAt, IsDependent, IsEchelon, IsOfChoice, MaySolve, SolveFirst, Solves};
 ghost use Rattle.growth_formulas.specs.Equations.{IsBounded, Vector, dot, entry};

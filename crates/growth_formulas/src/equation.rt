@@ -1,6 +1,6 @@
 //! A row as an equation for the coefficients.
 
-ghost use Rattle.std.specs.Prelude.{◌≡◌, ◌≢◌, ◌↔◌, ◌<◌, ◌≤◌, ◌^◌, ◌+◌, ◌*◌, ℕ, ℤ, pos, IsTrue};
+ghost use Rattle.std.specs.Prelude.{◌≡◌, ◌<◌, ◌+◌, ◌*◌, ℕ, ℤ, IsTrue};
 ghost use Rattle.growth_formulas.specs.Equations.{IsBounded, bits, crossed, dot, entry, entry_at, row_entry, unit_entry, vector};
 ghost use Rattle.growth_formulas.specs.Formulas.{IsLog};
 ghost use Rattle.growth_formulas.specs.Naturals.{limit, number};

@@ -1,6 +1,6 @@
 //! The formula of a table.
 
-ghost use Rattle.std.specs.Prelude.{◌≡◌, ◌≢◌, ◌≤◌, ◌<◌, ℕ, ℤ, FitsSigned, MatchOption};
+ghost use Rattle.std.specs.Prelude.{◌≡◌, ◌≢◌, ◌≤◌, ℕ, ℤ, FitsSigned, MatchOption};
 ghost use Rattle.std.specs.Int.{w128};
 ghost use Rattle.growth_formulas.specs.declared.formula.Formula.{Formula as TheFormula};
 ghost use Rattle.growth_formulas.specs.declared.growth.Growth.TheVariants.{Nothing};

@@ -1,6 +1,6 @@
 //! The text of how a number grows.
 
-ghost use Rattle.std.specs.Prelude.{◌≡◌, ◌<◌, ◌^◌, ◌++◌, decimal};
+ghost use Rattle.std.specs.Prelude.{◌≡◌, ◌^◌, ◌++◌, decimal};
 ghost use Rattle.text_out.specs.Out.{Writes, joined};
 ghost use Rattle.growth_formulas.specs.GrowthText as spec;
 

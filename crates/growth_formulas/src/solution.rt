@@ -1,8 +1,7 @@
 //! The coefficients that solve equations in echelon form.
 
-ghost use Rattle.std.specs.Prelude.{◌≡◌, ◌≢◌, ◌<◌, ℕ, ℤ, pos, neg_ℤ, ◌*ℤ◌, FitsSigned, MatchOption, slice_index_or};
+ghost use Rattle.std.specs.Prelude.{◌≡◌, ◌≢◌, ◌<◌, ℕ, ℤ, neg_ℤ, ◌*ℤ◌, FitsSigned, MatchOption, slice_index_or};
 ghost use Rattle.std.specs.Int.{w128};
-ghost use Rattle.growth_formulas.specs.Choices.{chosen};
 ghost use Rattle.growth_formulas.specs.Echelons.{BeginsAt, IsEchelon, IsOfChoice, SolveFirst};
 ghost use Rattle.growth_formulas.specs.Equations.{dot, entry, entry_at, vector};
 ghost use Rattle.growth_formulas.specs.Formulas.{coefficient};

@@ -1,6 +1,6 @@
 //! The steps of a run as lines of JSON, written as it goes.
 
-ghost use Rattle.std.specs.Prelude.{◌≡◌, ◌↔◌, ◌<◌, ◌≤◌, ◌^◌, [], IfOk, OnOk, length};
+ghost use Rattle.std.specs.Prelude.{◌≡◌, ◌↔◌, ◌<◌, ◌≤◌, [], IfOk, OnOk, length};
 ghost use Rattle.pram_model.specs.Layout.{total_size};
 ghost use Rattle.text_out.specs.Printing.{printing};
 ghost use Rattle.write_rules.specs.Verdict.{verdict_of};

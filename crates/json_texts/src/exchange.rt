@@ -1,6 +1,6 @@
 //! One exchange.
 
-ghost use Rattle.std.specs.Prelude.{◌≡◌, ◌≤◌, ◌<◌, IfOk, OnOk, length};
+ghost use Rattle.std.specs.Prelude.{◌≡◌, ◌≤◌, IfOk, OnOk, length};
 ghost use Rattle.serde_json.specs.View.{view};
 ghost use Rattle.superstep_machine.specs.Purposes.{purpose_is};
 ghost use Rattle.exchange_counts.specs.CountedExchanges.{exchange_at};

@@ -1,6 +1,6 @@
 //! What a line gives: some cells, and their values.
 
-ghost use Rattle.std.specs.Prelude.{◌≡◌, ◌≤◌, length, IfOk};
+ghost use Rattle.std.specs.Prelude.{◌≡◌, ◌≤◌, IfOk};
 ghost use Rattle.pram_tokens.specs.Scanning.{longest};
 ghost use Rattle.memory_texts.specs.Assignments as spec;
 ghost use Rattle.memory_texts.specs.Assignments.{Answers, assigned, assigned_if};

@@ -1,7 +1,6 @@
 //! Which cells a heading speaks of.
 
 ghost use Rattle.std.specs.Prelude.{◌≡◌, ◌≤◌, ◌<◌, ◌^◌, IfSome};
-ghost use Rattle.pram_model.specs.Layout.{total_size};
 ghost use Rattle.pram_model.specs.Names.{same_text};
 ghost use Rattle.pram_tokens.specs.Scanning.{longest};
 ghost use Rattle.memory_texts.specs.Cells as spec;

@@ -1,6 +1,6 @@
 //! The text of an outcome with the chosen declarations.
 
-ghost use Rattle.std.specs.Prelude.{◌≡◌, ◌++◌, ◌<◌, ◌^◌, codes, drop, take};
+ghost use Rattle.std.specs.Prelude.{◌≡◌, ◌++◌, codes, drop, take};
 ghost use Rattle.program_texts.specs.Shown.{item_lines, line};
 ghost use Rattle.text_out.specs.Out.{Writes};
 ghost use Rattle.write_rules.specs.Verdict.{Ended, verdict_of};

@@ -1,7 +1,6 @@
 //! From a memory text to the values of all cells.
 
 ghost use Rattle.std.specs.Prelude.{◌≡◌, ℤ, List, ◌+◌, ◌≤◌, ◌<◌, ◌↔◌, length, pos, replicate, Err, IfErr, IfOk};
-ghost use Rattle.pram_model.specs.Layout.{total_size};
 ghost use Rattle.pram_tokens.specs.Plain.{IsPlain};
 ghost use Rattle.pram_tokens.specs.Scanning.{longest};
 ghost use Rattle.pram_tokens.specs.declared.error.TextFault.TheVariants.{TextTooLong};

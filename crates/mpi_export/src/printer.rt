@@ -1,6 +1,6 @@
 //! A printer of C texts that stops at the first failure of its writer.
 
-ghost use Rattle.std.specs.Prelude.{◌≡◌, ◌<◌, ◌≤◌, ◌++◌, codes, length, map, slice_get, IfSome, None, Some};
+ghost use Rattle.std.specs.Prelude.{◌≡◌, ◌<◌, ◌++◌, codes, length, map, slice_get, IfSome, None, Some};
 ghost use Rattle.std.specs.List.{flat_map};
 ghost use Rattle.text_out.specs.Printing.{Prints, printing};
 ghost use Rattle.mpi_export.specs.Program as spec;

@@ -1,6 +1,4 @@
 //! The writer of C texts.
-
-ghost use Rattle.std.specs.Prelude.{◌<◌, ◌^◌};
 ghost use Rattle.text_out.specs.Out.{Writes};
 ghost use Rattle.mpi_export.specs.Program.{c_text};
 

@@ -1,6 +1,6 @@
 //! The facts of a run, of which a page keeps some.
 
-ghost use Rattle.std.specs.Prelude.{◌≡◌, ◌-◌, IfOk, List, ℤ, ℕ, length, nat_lt, string_bytes};
+ghost use Rattle.std.specs.Prelude.{◌≡◌, ◌-◌, IfOk, List, ℤ, ℕ, nat_lt, string_bytes};
 ghost use Rattle.step_entries.specs.Entries.{Entry};
 ghost use Rattle.write_rules.specs.Verdict.{verdict_of};
 ghost use Rattle.page_streams.specs.Gathered.{IsGathered, IsLineIf};

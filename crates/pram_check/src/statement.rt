@@ -1,6 +1,6 @@
 //! Statements outside pardo: their names resolved.
 
-ghost use Rattle.std.specs.Prelude.{◌≡◌, ◌++◌, [], ◌∷◌, false, length, OnOk};
+ghost use Rattle.std.specs.Prelude.{◌≡◌, ◌++◌, [], ◌∷◌, false, OnOk};
 ghost use Rattle.pram_names.specs.Scope as names;
 ghost use Rattle.pram_names.specs.Breaches.{uses, statement_breaches, block_breaches, outside_of};
 ghost use Rattle.pram_names.specs.Resolved.{Says, SaysStatement, SayStatements};

@@ -1,6 +1,6 @@
 //! Shared declarations and their cells.
 
-ghost use Rattle.std.specs.Prelude.{◌≡◌, ℤ, ◌+◌, ◌≤◌, ◌<◌, ◌++◌, ◌∷◌, [], ◌+ℤ◌, ◌-ℤ◌, ◌≤ℤ◌, pos, ◌^◌, length, map, slice_get, nat_abs};
+ghost use Rattle.std.specs.Prelude.{◌≡◌, ℤ, ◌+◌, ◌≤◌, ◌<◌, ◌++◌, ◌∷◌, [], ◌+ℤ◌, ◌-ℤ◌, ◌≤ℤ◌, pos, ◌^◌, length, slice_get, nat_abs};
 ghost use Rattle.std.specs.Prelude.{Some, None};
 ghost use Rattle.std.specs.Prelude.{Option, IfOk, IfSome, OnOk, OnErr, MatchOption};
 ghost use Rattle.pram_model.specs.Layout as spec;

@@ -1,6 +1,6 @@
 //! What stands at the front of a list of tokens, with what is behind it.
 
-ghost use Rattle.std.specs.Prelude.{◌≡◌, true, false, [], ◌∷◌, length, IfOk, MatchOption};
+ghost use Rattle.std.specs.Prelude.{◌≡◌, true, false, [], ◌∷◌, IfOk, MatchOption};
 ghost use Rattle.pram_trees.specs.Grammar as grammar;
 ghost use Rattle.pram_trees.specs.Machine as machine;
 ghost use Rattle.pram_trees.specs.Symbols as symbol;

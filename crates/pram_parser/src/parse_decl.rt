@@ -1,6 +1,6 @@
 //! The parser of a program's header and declarations.
 
-ghost use Rattle.std.specs.Prelude.{◌≡◌, true, false, [], ◌∷◌, ◌++◌, length, IfOk, MatchOption};
+ghost use Rattle.std.specs.Prelude.{◌≡◌, true, false, [], ◌∷◌, ◌++◌, IfOk, MatchOption};
 ghost use Rattle.pram_trees.specs.Machine as machine;
 ghost use Rattle.pram_model.specs.Rules as rules;
 ghost use Rattle.pram_trees.specs.Program as grammar;

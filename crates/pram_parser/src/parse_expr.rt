@@ -1,6 +1,6 @@
 //! The parser of expressions: a function for each kind of line of the grammar.
 
-ghost use Rattle.std.specs.Prelude.{◌≡◌, ℕ, true, false, [], ◌∷◌, ◌++◌, length, IfOk};
+ghost use Rattle.std.specs.Prelude.{◌≡◌, ℕ, true, false, [], ◌∷◌, ◌++◌, IfOk};
 ghost use Rattle.pram_trees.specs.Grammar as grammar;
 ghost use Rattle.pram_trees.specs.Machine as machine;
 ghost use Rattle.pram_trees.specs.Symbols as symbol;

@@ -1,6 +1,6 @@
 //! The parser of what stands between `for` and the statements of its body.
 
-ghost use Rattle.std.specs.Prelude.{◌≡◌, true, false, [], ◌∷◌, ◌++◌, length, IfOk, MatchOption};
+ghost use Rattle.std.specs.Prelude.{◌≡◌, true, false, [], ◌∷◌, ◌++◌, IfOk, MatchOption};
 ghost use Rattle.pram_trees.specs.Blocks as grammar;
 ghost use Rattle.pram_trees.specs.Machine as machine;
 ghost use Rattle.pram_trees.specs.Symbols as symbol;

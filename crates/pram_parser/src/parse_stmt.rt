@@ -1,6 +1,6 @@
 //! The parser of statements.
 
-ghost use Rattle.std.specs.Prelude.{◌≡◌, ◌≢◌, ℕ, true, false, [], ◌∷◌, ◌++◌, length, ◌-◌, IfOk};
+ghost use Rattle.std.specs.Prelude.{◌≡◌, ◌≢◌, ℕ, true, false, [], ◌∷◌, ◌++◌, ◌-◌, IfOk};
 ghost use Rattle.pram_trees.specs.Machine as machine;
 ghost use Rattle.pram_trees.specs.Symbols as symbol;
 ghost use Rattle.pram_trees.specs.Follows.{Follows, FoundBlock, FoundBody, FoundStatement};

@@ -1,6 +1,6 @@
 //! The parser of whole programs.
 
-ghost use Rattle.std.specs.Prelude.{◌≡◌, true, false, [], ◌∷◌, ◌++◌, length, IfOk};
+ghost use Rattle.std.specs.Prelude.{◌≡◌, true, false, [], ◌∷◌, ◌++◌, IfOk};
 ghost use Rattle.pram_trees.specs.Blocks.{block_tokens, IsBlock};
 ghost use Rattle.pram_trees.specs.Faults.{Answers, IsRefusedRightly};
 ghost use Rattle.pram_trees.specs.Follows.{Follows};

@@ -1,6 +1,6 @@
 //! The printer of trees.
 
-ghost use Rattle.std.specs.Prelude.{◌≡◌, ◌++◌, ◌<◌, ◌^◌, []};
+ghost use Rattle.std.specs.Prelude.{◌≡◌, ◌++◌, []};
 ghost use Rattle.pram_trees.specs.Blocks.{block_tokens, local_tokens, statement_tokens};
 ghost use Rattle.pram_trees.specs.Grammar.{step_tokens, tokens};
 ghost use Rattle.text_out.specs.Out.{Writes};

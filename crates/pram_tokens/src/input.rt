@@ -1,6 +1,6 @@
 //! Input texts: whole numbers with white space between them.
 
-ghost use Rattle.std.specs.Prelude.{◌≡◌, ℤ, List, neg_ℤ, pos, suc, ◌↔◌, ◌≤◌, ◌<◌, Err, Some, false, true, length, not, IfErr, IfOk};
+ghost use Rattle.std.specs.Prelude.{◌≡◌, ℤ, List, neg_ℤ, suc, ◌↔◌, ◌≤◌, ◌<◌, Err, Some, false, true, length, not, IfErr, IfOk};
 ghost use Rattle.std.specs.Prelude.{MatchOption};
 ghost use Rattle.std.specs.List.{prefix_len};
 ghost use Rattle.pram_tokens.specs.declared.error.TextFault.TheVariants.{TextTooLong};

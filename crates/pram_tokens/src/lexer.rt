@@ -1,6 +1,6 @@
 //! The tokenizer: the longest token at each place of a text.
 
-ghost use Rattle.std.specs.Prelude.{◌≡◌, ℕ, pos, ◌+◌, ◌≤◌, ◌<◌, true, false, Some, None, Ok, Err, take, drop, length, slice_index, IfOk};
+ghost use Rattle.std.specs.Prelude.{◌≡◌, ℕ, ◌+◌, ◌≤◌, ◌<◌, true, false, Some, None, Ok, Err, take, drop, length, slice_index, IfOk};
 ghost use Rattle.std.specs.Prelude.{MatchOption};
 ghost use Rattle.pram_tokens.specs.Lexemes as lexemes;
 ghost use Rattle.pram_tokens.specs.Scanning as scanning;

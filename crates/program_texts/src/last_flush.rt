@@ -1,6 +1,6 @@
 //! The end of a call.
 
-ghost use Rattle.std.specs.Prelude.{◌≡◌, ◌<◌, ◌^◌, IfErr, IfOk};
+ghost use Rattle.std.specs.Prelude.{◌≡◌, IfErr, IfOk};
 ghost use Rattle.text_out.specs.Out.{with_failure};
 ghost use Rattle.program_texts.specs.declared.stop.Stop.TheVariants.{WriteFailed};
 

@@ -1,6 +1,6 @@
 //! The parts of an outcome's text.
 
-ghost use Rattle.std.specs.Prelude.{◌≡◌, ◌++◌, ◌<◌, ◌^◌, IfSome, Option, drop, length, slice_get, take};
+ghost use Rattle.std.specs.Prelude.{◌≡◌, ◌++◌, ◌<◌, IfSome, Option, drop, length, slice_get, take};
 ghost use Rattle.std.specs.Fmt.{signed_decimal};
 ghost use Rattle.pram_model.specs.Layout.{size};
 ghost use Rattle.text_out.specs.Out.{Writes};

@@ -1,6 +1,6 @@
 //! Why the program stops without an outcome, and how it says so.
 
-ghost use Rattle.std.specs.Prelude.{◌≡◌, ◌<◌, ◌^◌};
+ghost use Rattle.std.specs.Prelude.{◌≡◌};
 ghost use Rattle.text_out.specs.Out.{Writes};
 ghost use Rattle.program_texts.specs.Stopped as stopped;
 ghost use Rattle.program_texts.specs.StoppedFields.{bad_size_line, name_end, named_line, stop_text, unverified_line};

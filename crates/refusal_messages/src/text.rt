@@ -1,6 +1,6 @@
 //! Messages as text.
 
-ghost use Rattle.std.specs.Prelude.{◌≡◌, ◌<◌, ◌^◌};
+ghost use Rattle.std.specs.Prelude.{◌≡◌};
 ghost use Rattle.text_out.specs.Out.{Writes};
 ghost use Rattle.refusal_messages.specs.Messages as spec;
 

@@ -28,7 +28,7 @@ fn own_numbers(alloc: Global) -> Result<Vec<u16>, AllocError>
 }
 
 impl Numbers {
-    ghost use Rattle.std.specs.Prelude.{◌≡◌, ◌<◌, ℕ, IfOk};
+    ghost use Rattle.std.specs.Prelude.{◌≡◌, ℕ, IfOk};
     ghost use Rattle.renaming.specs.Named.{IsAmong, IsNamedIn, named as spec_named};
     ghost use Rattle.renaming.specs.Numbers.{AreNumbers, HaveNumbers, number_of};
 

@@ -1,6 +1,6 @@
 //! The text of a comparison.
 
-ghost use Rattle.std.specs.Prelude.{◌≡◌, ◌++◌, ◌<◌, ◌^◌, codes};
+ghost use Rattle.std.specs.Prelude.{◌≡◌, ◌++◌, codes};
 ghost use Rattle.text_out.specs.Out.{Writes};
 ghost use Rattle.program_texts.specs.Shown.{line};
 ghost use Rattle.rule_comparison.specs.ComparisonText.{comparison_text, declared_text, finding_text, rule_line, told};

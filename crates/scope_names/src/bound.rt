@@ -1,6 +1,6 @@
 //! Names that hold in the body of a pardo alone: its index and its locals.
 
-ghost use Rattle.std.specs.Prelude.{◌≡◌, Some, drop, map};
+ghost use Rattle.std.specs.Prelude.{◌≡◌, Some, map};
 ghost use Rattle.std.specs.Option.{option_map};
 ghost use Rattle.pram_model.specs.Names.{same_text};
 ghost use Rattle.scope_names.specs.declared.known.Sort.TheVariants.{Local};

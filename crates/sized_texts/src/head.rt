@@ -1,6 +1,6 @@
 //! The head of a text: the sizes that it declares before its first token.
 
-ghost use Rattle.std.specs.Prelude.{◌≡◌, ◌≤◌, not, ◌==◌, length, IfOk, take, []};
+ghost use Rattle.std.specs.Prelude.{◌≡◌, ◌≤◌, not, ◌==◌, length, IfOk, []};
 ghost use Rattle.std.specs.List.{prefix_len};
 ghost use Rattle.pram_tokens.specs.Lexemes as lexemes;
 ghost use Rattle.pram_tokens.specs.Scanning.{longest};

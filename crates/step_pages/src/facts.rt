@@ -1,6 +1,6 @@
 //! Facts as they stand in the page.
 
-ghost use Rattle.std.specs.Prelude.{◌≡◌, ◌≤◌, ◌<◌, ◌^◌, ◌&&◌, [], if◌then◌else◌, length, nat_le};
+ghost use Rattle.std.specs.Prelude.{◌≡◌, ◌≤◌, ◌&&◌, [], if◌then◌else◌, length, nat_le};
 ghost use Rattle.text_out.specs.Out.{Writes};
 ghost use Rattle.step_pages.specs.Facts as spec;
 

@@ -1,6 +1,6 @@
 //! The page.
 
-ghost use Rattle.std.specs.Prelude.{◌≤◌, ◌<◌, ◌+◌, ◌^◌, List, length, ℕ};
+ghost use Rattle.std.specs.Prelude.{◌≤◌, ◌+◌, List, length, ℕ};
 ghost use Rattle.text_out.specs.Out.{Writes};
 ghost use Rattle.step_pages.specs.Kept.{Holds};
 ghost use Rattle.step_pages.specs.Page as spec;

@@ -1,6 +1,4 @@
 //! The parts of a page that are the same for each run.
-
-ghost use Rattle.std.specs.Prelude.{◌<◌, ◌^◌};
 ghost use Rattle.text_out.specs.Out.{Writes};
 ghost use Rattle.step_pages.specs.Page as spec;
 

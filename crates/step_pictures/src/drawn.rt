@@ -1,6 +1,6 @@
 //! Which statements of a run are drawn.
 
-ghost use Rattle.std.specs.Prelude.{◌≡◌, ◌<◌, ◌≤◌, ◌+◌, ◌-◌, length, map, min};
+ghost use Rattle.std.specs.Prelude.{◌≡◌, ◌≤◌, ◌+◌, ◌-◌, length, map, min};
 ghost use Rattle.step_entries.specs.Entries.{act_is, entry_is};
 ghost use Rattle.step_pictures.specs.Drawn as spec;
 ghost use Rattle.step_pictures.specs.Measures as measures;

@@ -1,6 +1,6 @@
 //! What stands above the bands.
 
-ghost use Rattle.std.specs.Prelude.{◌≡◌, ◌≤◌, ◌<◌, ◌+◌, ◌-◌, ◌^◌, ◌++◌, codes, decimal};
+ghost use Rattle.std.specs.Prelude.{◌≡◌, ◌<◌, ◌+◌, ◌-◌, ◌++◌, codes, decimal};
 ghost use Rattle.text_out.specs.Out.{Writes};
 ghost use Rattle.step_pictures.specs.Picture as spec;
 

@@ -1,6 +1,6 @@
 //! A processor in the column of a statement.
 
-ghost use Rattle.std.specs.Prelude.{◌≡◌, ◌≤◌, ◌<◌, ◌^◌};
+ghost use Rattle.std.specs.Prelude.{◌≡◌, ◌≤◌};
 ghost use Rattle.text_out.specs.Out.{Writes};
 ghost use Rattle.step_entries.specs.Entries.{act_is};
 ghost use Rattle.step_pictures.specs.Marks as spec;

@@ -1,6 +1,6 @@
 //! Where columns and rows stand.
 
-ghost use Rattle.std.specs.Prelude.{◌≡◌, ◌≤◌, ◌<◌, ◌+◌, length, map};
+ghost use Rattle.std.specs.Prelude.{◌≡◌, ◌≤◌, ◌<◌, ◌+◌, map};
 ghost use Rattle.step_entries.specs.Entries.{entry_is};
 ghost use Rattle.step_pictures.specs.Measures as spec;
 ghost use Rattle.step_pictures.specs.Measures.{frame_is};

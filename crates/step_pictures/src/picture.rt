@@ -1,6 +1,6 @@
 //! All of a picture.
 
-ghost use Rattle.std.specs.Prelude.{◌≡◌, ◌≤◌, ◌<◌, ◌^◌, drop, length, map, take};
+ghost use Rattle.std.specs.Prelude.{◌≡◌, ◌≤◌, drop, map, take};
 ghost use Rattle.text_out.specs.Out.{Writes};
 ghost use Rattle.step_entries.specs.Entries.{entry_is};
 ghost use Rattle.step_pictures.specs.Measures.{frame_is};

@@ -1,6 +1,6 @@
 //! What is told of a statement that ran beside its cells.
 
-ghost use Rattle.std.specs.Prelude.{◌≡◌, ◌<◌, ◌^◌, None, take};
+ghost use Rattle.std.specs.Prelude.{◌≡◌, None, take};
 ghost use Rattle.text_out.specs.Out.{Writes};
 ghost use Rattle.step_texts.specs.BesideCells as spec;
 

@@ -1,6 +1,4 @@
 //! Where statements stand.
-
-ghost use Rattle.std.specs.Prelude.{◌<◌, ◌^◌};
 ghost use Rattle.text_out.specs.Out.{Writes};
 ghost use Rattle.step_texts.specs.Columns as spec;
 

@@ -1,6 +1,6 @@
 //! The text of entries on a terminal.
 
-ghost use Rattle.std.specs.Prelude.{◌≡◌, ◌<◌, ◌^◌};
+ghost use Rattle.std.specs.Prelude.{◌≡◌};
 ghost use Rattle.text_out.specs.Out.{Writes};
 ghost use Rattle.step_entries.specs.Entries.{entry_is};
 ghost use Rattle.step_texts.specs.OnTerminal as spec;

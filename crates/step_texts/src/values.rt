@@ -1,6 +1,4 @@
 //! The text of values.
-
-ghost use Rattle.std.specs.Prelude.{◌<◌, ◌^◌};
 ghost use Rattle.text_out.specs.Out.{Writes};
 ghost use Rattle.step_texts.specs.ValueTexts as spec;
 

@@ -1,6 +1,6 @@
 //! The reader of listings.
 
-ghost use Rattle.std.specs.Prelude.{◌≡◌, ◌≤◌, ◌<◌, ◌↔◌, Err, length, IfOk, IfErr};
+ghost use Rattle.std.specs.Prelude.{◌≡◌, ◌<◌, ◌↔◌, Err, length, IfOk, IfErr};
 ghost use Rattle.superstep_listing.specs.declared.error.ListingFault.TheVariants.{TextTooLong};
 ghost use Rattle.superstep_instructions.specs.Code.{SuperstepCode};
 ghost use Rattle.superstep_instructions.specs.Limits.{IsCode};

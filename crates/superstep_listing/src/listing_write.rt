@@ -1,6 +1,6 @@
 //! The writer of listings.
 
-ghost use Rattle.std.specs.Prelude.{◌≡◌, ◌<◌, ◌≤◌, ◌^◌, length};
+ghost use Rattle.std.specs.Prelude.{◌≡◌, ◌≤◌, length};
 ghost use Rattle.text_out.specs.Out.{Writes};
 ghost use Rattle.superstep_listing.specs.Listing.{spelling};
 ghost use Rattle.superstep_listing.specs.Text.{IsListing, longest};

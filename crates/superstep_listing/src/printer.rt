@@ -1,6 +1,6 @@
 //! A printer of lines that stops at the first failure of its writer.
 
-ghost use Rattle.std.specs.Prelude.{◌≡◌, ◌<◌, ◌++◌, ◌∷◌, [], codes, take, pos, length, map, slice_get, IfSome, None, Some, ◌≤◌};
+ghost use Rattle.std.specs.Prelude.{◌≡◌, ◌<◌, ◌++◌, ◌∷◌, [], codes, length, map, slice_get, IfSome, None, Some, ◌≤◌};
 ghost use Rattle.std.specs.Fmt.{signed_decimal};
 ghost use Rattle.std.specs.List.{flat_map};
 ghost use Rattle.text_out.specs.Printing.{Prints, printing};

@@ -1,6 +1,6 @@
 //! Bytes as a text of SVG.
 
-ghost use Rattle.std.specs.Prelude.{◌≡◌, ◌<◌, ◌^◌};
+ghost use Rattle.std.specs.Prelude.{◌≡◌};
 ghost use Rattle.text_out.specs.Out.{Writes};
 ghost use Rattle.svg_texts.specs.Letters as spec;
 

@@ -1,6 +1,6 @@
 //! The labels of a panel.
 
-ghost use Rattle.std.specs.Prelude.{◌≡◌, ◌<◌, ◌^◌, length, decimal};
+ghost use Rattle.std.specs.Prelude.{◌≡◌, ◌<◌, length, decimal};
 ghost use Rattle.text_out.specs.Out.{Writes};
 ghost use Rattle.sweep_pictures.specs.Labels as spec;
 

@@ -1,6 +1,6 @@
 //! All of a picture.
 
-ghost use Rattle.std.specs.Prelude.{◌≡◌, ◌<◌, ◌^◌, length};
+ghost use Rattle.std.specs.Prelude.{◌≡◌};
 ghost use Rattle.text_out.specs.Out.{Writes};
 ghost use Rattle.sweep_pictures.specs.Picture as spec;
 

@@ -1,6 +1,6 @@
 //! The shapes of marks.
 
-ghost use Rattle.std.specs.Prelude.{◌≡◌, ◌<◌, ◌≤◌, ◌^◌};
+ghost use Rattle.std.specs.Prelude.{◌≡◌};
 ghost use Rattle.text_out.specs.Out.{Writes};
 ghost use Rattle.sweep_pictures.specs.Marks as spec;
 

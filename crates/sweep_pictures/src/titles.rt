@@ -1,6 +1,6 @@
 //! What marks say where they are pointed at.
 
-ghost use Rattle.std.specs.Prelude.{◌≡◌, ◌<◌, ◌^◌};
+ghost use Rattle.std.specs.Prelude.{◌≡◌};
 ghost use Rattle.text_out.specs.Out.{Writes};
 ghost use Rattle.sweep_pictures.specs.Titles as spec;
 

@@ -1,6 +1,6 @@
 //! Fields and records of CSV.
 
-ghost use Rattle.std.specs.Prelude.{◌≡◌, ◌<◌, ◌^◌, ◌∷◌, map};
+ghost use Rattle.std.specs.Prelude.{◌≡◌, ◌∷◌, map};
 ghost use Rattle.std.specs.List.{list_any};
 ghost use Rattle.text_out.specs.Out.{Writes};
 ghost use Rattle.sweep_texts.specs.CsvText as spec;

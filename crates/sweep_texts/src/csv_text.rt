@@ -1,6 +1,6 @@
 //! A sweep as CSV.
 
-ghost use Rattle.std.specs.Prelude.{◌≡◌, ◌<◌, ◌^◌, ◌∷◌, decimal, map};
+ghost use Rattle.std.specs.Prelude.{◌≡◌, ◌∷◌, decimal, map};
 ghost use Rattle.text_out.specs.Out.{Writes};
 ghost use Rattle.sweep_texts.specs.CsvText as spec;
 

@@ -1,6 +1,6 @@
 //! The text of a sweep.
 
-ghost use Rattle.std.specs.Prelude.{◌≡◌, ◌<◌, ◌^◌, ◌++◌};
+ghost use Rattle.std.specs.Prelude.{◌≡◌, ◌++◌};
 ghost use Rattle.text_out.specs.Out.{Writes};
 ghost use Rattle.sweep_texts.specs.SweepText as spec;
 

@@ -1,6 +1,6 @@
 //! What the tokens that could stand at a place tell of it.
 
-ghost use Rattle.std.specs.Prelude.{◌≡◌, drop};
+ghost use Rattle.std.specs.Prelude.{◌≡◌};
 ghost use Rattle.std.specs.List.{list_any};
 ghost use Rattle.syntax_hints.specs.Signs as spec;
 

@@ -1,6 +1,6 @@
 //! Names on one line, whatever stands in them.
 
-ghost use Rattle.std.specs.Prelude.{◌≡◌, ◌<◌, ◌^◌, ◌++◌, ℕ, List, codes};
+ghost use Rattle.std.specs.Prelude.{◌≡◌, ◌<◌, ◌++◌, ℕ, List, codes};
 ghost use Rattle.text_out.specs.Out.{Writes};
 ghost use Rattle.text_places.specs.Escaped as spec;
 

@@ -1,5 +1,5 @@
 // Workers that cross, alone and in threads.
-ghost use Rattle.std.specs.Prelude.{◌≡◌, ◌<◌, ◌≤◌, ◌+◌, ◌++◌, ◌∷◌, [], All, length, map, vec_capacity};
+ghost use Rattle.std.specs.Prelude.{◌≡◌, ◌+◌, ◌++◌, ◌∷◌, [], All, vec_capacity};
 ghost use Rattle.std.specs.Thread.{IsSync};
 ghost use Rattle.turnstile.specs.Seats.{TurnstileShape, RowState, AreSeatsOf};
 ghost use Rattle.thread_tests.specs.Tested.{SameOwners, MayPlay};

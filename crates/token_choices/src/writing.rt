@@ -1,6 +1,6 @@
 //! How kinds of tokens are told.
 
-ghost use Rattle.std.specs.Prelude.{◌≡◌, ◌<◌, ◌^◌};
+ghost use Rattle.std.specs.Prelude.{◌≡◌};
 ghost use Rattle.text_out.specs.Out.{Writes};
 ghost use Rattle.pram_printer.specs.Spelling as spelled;
 ghost use Rattle.token_choices.specs.Kinds.{fixed_token};

@@ -1,6 +1,6 @@
 //! The line of an exchange.
 
-ghost use Rattle.std.specs.Prelude.{◌≡◌, ◌≤◌, ◌<◌, ◌^◌, length};
+ghost use Rattle.std.specs.Prelude.{◌≡◌, ◌≤◌, length};
 ghost use Rattle.text_out.specs.Out.{Writes};
 ghost use Rattle.superstep_machine.specs.Purposes.{purpose_is};
 ghost use Rattle.superstep_machine.specs.Trace.{relation_of};

@@ -1,6 +1,4 @@
 //! The trace of a run.
-
-ghost use Rattle.std.specs.Prelude.{◌<◌, ◌^◌};
 ghost use Rattle.text_out.specs.Out.{Writes};
 ghost use Rattle.tracer.specs.Traced.{trace_text};
 

@@ -1,5 +1,5 @@
 // How the seats of a new turnstile are made.
-ghost use Rattle.std.specs.Prelude.{◌≡◌, ◌+◌, ◌<◌, ◌≤◌, [], All, length, map, IfOk, vec_capacity};
+ghost use Rattle.std.specs.Prelude.{◌≡◌, ◌+◌, ◌<◌, ◌≤◌, [], All, length, IfOk, vec_capacity};
 ghost use Rattle.turnstile.specs.Turns.{message, keeper};
 ghost use Rattle.turnstile.specs.Seats.{blank_row};
 ghost use Rattle.turnstile.specs.Works.{Rested, Seeing, IsSame, rows_of, columns_of, done};

@@ -1,11 +1,11 @@
 // What a worker does at the table.
-ghost use Rattle.std.specs.Prelude.{◌≡◌, ℕ, ◌+◌, ◌*◌, ◌%◌, ◌^◌, ◌<◌, ◌≤◌, List, [], ◌∷◌, ◌++◌, length, map, Some, None, IsTrue, ◌↔◌, false};
+ghost use Rattle.std.specs.Prelude.{◌≡◌, ℕ, ◌+◌, ◌*◌, ◌%◌, ◌^◌, ◌<◌, ◌≤◌, List, [], ◌∷◌, ◌++◌, length, map, Some, None, IsTrue, false};
 ghost use Rattle.std.specs.Prelude.{Option};
 ghost use Rattle.exchange_arena.specs.Piece.{PieceState};
 ghost use Rattle.atomic_table.specs.Table.{rest};
 ghost use Rattle.turnstile.specs.declared.views.Kind.TheVariants.{Seated};
 ghost use Rattle.turnstile.specs.Turns.{message, slot, phase, saw, seated, Got, letters, finished, departed};
-ghost use Rattle.std.specs.Prelude.{take, drop};
+ghost use Rattle.std.specs.Prelude.{take};
 ghost use Rattle.std.specs.VecDeque.{deque_capacity};
 ghost use Rattle.turnstile.specs.Loads.{Ready, loaded, emptied};
 ghost use Rattle.turnstile.specs.Works.{Rested, Seeing, IsSame, done, before, rows_of, columns_of};

@@ -1,6 +1,6 @@
 //! What is said of a word that is wrong.
 
-ghost use Rattle.std.specs.Prelude.{◌≡◌, ◌<◌, ◌^◌};
+ghost use Rattle.std.specs.Prelude.{◌≡◌, ◌<◌};
 ghost use Rattle.text_out.specs.Out.{Writes};
 ghost use Rattle.word_faults.specs.Sentences as spec;
 

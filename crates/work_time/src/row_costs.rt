@@ -1,6 +1,6 @@
 //! The costs of lines.
 
-ghost use Rattle.std.specs.Prelude.{◌≡◌, ◌≤◌, ◌<◌, ◌^◌, IfOk, length};
+ghost use Rattle.std.specs.Prelude.{◌≡◌, ◌≤◌, ◌^◌, IfOk, length};
 ghost use Rattle.work_time.specs.Ledgers.{tally_is};
 ghost use Rattle.work_time.specs.RowCosts.{cost_of_row, costs_of_rows};
 

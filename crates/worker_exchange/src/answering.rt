@@ -1,6 +1,6 @@
 //! The answers of a reply, read by read.
 
-ghost use Rattle.std.specs.Prelude.{◌≡◌, ◌<◌, ◌≤◌, ◌+◌, ◌^◌, ℕ, ℤ, Some, length, map as each};
+ghost use Rattle.std.specs.Prelude.{◌≡◌, ◌<◌, ◌≤◌, ◌^◌, ℕ, ℤ, Some, length, map as each};
 ghost use Rattle.std.specs.List.{AllByRecursion, zip};
 ghost use Rattle.superstep_machine.specs.Answering.{answer as spec_answer, answers, destinations};
 ghost use Rattle.superstep_machine.specs.Fitting.{IsCellBelow};

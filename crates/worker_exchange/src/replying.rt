@@ -1,6 +1,6 @@
 //! What came in a reply: the awaited reads get their values.
 
-ghost use Rattle.std.specs.Prelude.{◌≡◌, ◌<◌, ◌≤◌, ◌+◌, ◌^◌, ℕ, Some, [], length, map as each, vec_capacity, slice_get};
+ghost use Rattle.std.specs.Prelude.{◌≡◌, ◌+◌, ℕ, Some, [], length, map as each, vec_capacity, slice_get};
 ghost use Rattle.std.specs.List.{AllByRecursion};
 ghost use Rattle.superstep_instructions.specs.declared.instr.Instr.TheVariants as instr_is;
 ghost use Rattle.superstep_instructions.specs.Code.{SuperstepCode};

@@ -1,6 +1,6 @@
 //! Memory that is taken in advance.
 
-ghost use Rattle.std.specs.Prelude.{◌≡◌, ◌<◌, ℕ, OnOk};
+ghost use Rattle.std.specs.Prelude.{◌≡◌, ℕ, OnOk};
 ghost use Rattle.address_map.specs.Lawful.{Shape};
 ghost use Rattle.superstep_instructions.specs.Code.{SuperstepCode};
 ghost use Rattle.superstep_machine.specs.Setting.{Setting};

@@ -1,6 +1,6 @@
 //! The seats of a turnstile as rows and columns of messages.
 
-ghost use Rattle.std.specs.Prelude.{◌≡◌, ◌<◌, ◌≤◌, ℕ, length};
+ghost use Rattle.std.specs.Prelude.{◌≡◌, ℕ};
 ghost use Rattle.workers.specs.Seating.{AreShort};
 
 use bsp_machine::{Column, Row};

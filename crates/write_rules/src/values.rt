@@ -1,6 +1,6 @@
 //! What a rule gives for the writes to one cell.
 
-ghost use Rattle.std.specs.Prelude.{◌≡◌, pos, ◌<◌, ◌+ℤ◌, ◌≤ℤ◌, ◌-◌, ◌^◌, neg_ℤ, FitsSigned};
+ghost use Rattle.std.specs.Prelude.{◌≡◌, pos, ◌+ℤ◌, ◌≤ℤ◌, ◌-◌, ◌^◌, neg_ℤ, FitsSigned};
 ghost use Rattle.std.specs.Int.{w64, w128};
 ghost use Rattle.write_rules.specs.Rule.{only_value, common_value, least_writer, sum_of};
 ghost use Rattle.pram_values.specs.Value.{checked};

@@ -1,5 +1,5 @@
 // The line.
-ghost use Rattle.std.specs.Prelude.{◌≡◌, ◌<◌, ◌≤◌, ℕ, [], IfOk, length, slice_get, Some, vec_capacity, false};
+ghost use Rattle.std.specs.Prelude.{◌≡◌, ◌<◌, ◌≤◌, ℕ, [], IfOk, slice_get, Some, vec_capacity, false};
 ghost use Rattle.exchange_arena.specs.declared.block.TheConstants.{MAX_SIDE};
 ghost use Rattle.turnstile.specs.declared.start.told.Told.TheVariants.{Nothing};
 ghost use Rattle.turnstile.specs.Lines.{starter, Hears};
