@@ -31,7 +31,7 @@ use memory_texts::{Choice, show_chosen};
 use mpi_export::write_program;
 use pram_check::Program;
 use pram_trees::Layout;
-use program_texts::{Status, Stop, finish, rule_word, show};
+use program_texts::{Status, Stop, finish, show};
 use rule_comparison::{Comparison, show_comparison};
 use superstep_instructions::Code;
 use superstep_listing::write_listing;
@@ -213,7 +213,7 @@ fn write_accepted_line<O: Out>(out: &mut O, program: &Program) -> Result<(), Wri
         b" procs ",
         procs.format(program.procs()).as_bytes(),
         b" rule ",
-        rule_word(program.rule()),
+        program.rule().word().as_bytes(),
         b"\n",
     ])
 }

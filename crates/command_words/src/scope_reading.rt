@@ -6,7 +6,7 @@ ghost use Rattle.command_requests.specs.Words.{IsOfWords};
 use crate::options::{CELLS, PERMUTATIONS, UNDER, VALUES, WORKERS};
 use crate::run_reading::number_of;
 use clap::ArgMatches;
-use command_requests::{FewInputs, MOST_CELLS, MOST_INPUTS, MOST_ORDERED, ScopeWords, read_rule};
+use command_requests::{FewInputs, MOST_CELLS, MOST_INPUTS, MOST_ORDERED, ScopeWords};
 use drawn_inputs::read_interval;
 use pram_model::Rule;
 use program_texts::Stop;
@@ -66,7 +66,7 @@ fn rule_of<'a>(words: &ArgMatches<'a>) -> Result<Option<Rule>, Stop<'a>>
 {
     match words.get_str(UNDER) {
         None => Ok(None),
-        Some(word) => match read_rule(word) {
+        Some(word) => match Rule::of_word(word.as_bytes()) {
             Some(rule) => Ok(Some(rule)),
             None => Err(Stop::Number(word)),
         },

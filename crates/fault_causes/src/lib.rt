@@ -4,7 +4,6 @@
 mod alone;
 pub mod cause_laws;
 mod cells;
-mod operation;
 mod seeing;
 mod together;
 mod value;

@@ -8,9 +8,9 @@ ghost use Rattle.step_entries.specs.Causes as told;
 ghost use Rattle.fault_causes.specs.Answers.{IsFound};
 ghost use Rattle.fault_causes.specs.Causes as spec;
 
-use crate::operation::{apply, apply_before};
 use pram_check::Expression;
 use pram_meaning::view::{View, number_at};
+use pram_meaning::{apply, apply_before};
 use pram_trees::{Binary, Prefix};
 use step_entries::Cause;
 

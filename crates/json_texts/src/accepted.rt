@@ -6,7 +6,6 @@ ghost use Rattle.json_lines.specs.Lines.{IsJson};
 ghost use Rattle.json_lines.specs.Shown.{shown};
 ghost use Rattle.json_texts.specs.AcceptedFacts as spec;
 
-use crate::rule::rule_name;
 use json_lines::{Object, Value, line_of};
 use pram_check::Program;
 use std::alloc::{AllocError, Global};
@@ -17,7 +16,7 @@ fn put_accepted(object: &mut Object, program: &Program) -> Result<(), AllocError
     object.put("accepted", Value::Bool(true))?;
     object.put_count("cells", u64::from(program.layout().cells()))?;
     object.put_count("procs", u64::from(program.procs()))?;
-    object.put_word("rule", rule_name(program.rule()))
+    object.put_word("rule", program.rule().word())
 }
 
 /// That a program is accepted, on a line: `{"accepted":true,"cells":16,"procs":8,"rule":"erew"}`.

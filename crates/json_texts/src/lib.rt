@@ -14,7 +14,6 @@ mod outcome;
 mod own_locals;
 mod pair;
 mod refusal;
-mod rule;
 mod rules;
 mod steps;
 mod sweep;

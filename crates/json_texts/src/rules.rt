@@ -9,7 +9,6 @@ ghost use Rattle.rule_comparison.specs.Compared.{rules as all_rules};
 ghost use Rattle.json_texts.specs.RuleFacts as spec;
 
 use crate::fault::put_fault;
-use crate::rule::rule_name;
 use json_lines::{Object, Value, line_of};
 use pram_trees::{Layout, Rule};
 use rule_comparison::{Comparison, Finding};
@@ -67,7 +66,7 @@ fn rule_facts(alloc: Global, comparison: &Comparison, rule: Rule) -> Result<Valu
     ensures { IfOk result (λ v. view v ≡ spec.rule_facts comparison.now rule) }
 {
     let mut object = Object::new(alloc);
-    object.put_word("rule", rule_name(rule))?;
+    object.put_word("rule", rule.word())?;
     let finding = comparison.of(rule);
     put_finding(alloc, &mut object, &comparison.layout, finding)?;
     put_declared(&mut object, comparison.declares(rule), finding)?;

@@ -7,7 +7,6 @@ mod printer;
 mod program;
 pub mod program_laws;
 mod run_text;
-mod spell;
 mod state_text;
 
 pub use program::write_program;

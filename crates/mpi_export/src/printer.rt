@@ -8,11 +8,11 @@ ghost use Rattle.mpi_export.specs.Program as spec;
 use crate::exchange_text::{EXCHANGE, HELD, JOINS, MODULE, SENDING};
 use crate::opening_text::{INPUT, MEMORY, OPENING, OPTIONS};
 use crate::run_text::{OUTCOME, RUN, START};
-use crate::spell::{letter, numbers, rule_text, stem};
 use crate::state_text::{FAULTS, HEAD, STATE, VALUES};
 use itoa::Buffer;
 use pram_model::{Layout, Rule};
 use superstep_instructions::{Code, Instr};
+use superstep_listing::{letter, numbers, stem};
 use text_out::Out;
 
 /// Prints until its writer fails, and then nothing more.
@@ -72,7 +72,7 @@ impl<'a, W: Out> Printer<'a, W> {
             (spec.rule_definition rule) }
     {
         self.text(b"\n#define RULE rule_");
-        self.text(rule_text(rule));
+        self.text(rule.word().as_bytes());
         self.text(b"\n");
     }
 

@@ -30,5 +30,6 @@ pub mod view;
 
 // `Key` and `Read` are types of the definitions.
 pub use key::Key;
+pub use operation::{apply, apply_before};
 pub use read::Read;
 pub use reference::{MeaningRefusal, open, reference_run};

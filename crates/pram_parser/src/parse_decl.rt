@@ -15,21 +15,6 @@ use pram_trees::{Declaration, ParseError};
 use sqlite_items::Items;
 use std::alloc::Global;
 
-/// The rule that has this word.
-fn rule_of(text: &[u8]) -> Option<Rule>
-    ensures word { MatchOption result (is_one_of rules.rule_words text.now ≡ false)
-        (λ r. text.now ≡ rules.rule_word r) }
-{
-    match text {
-        b"erew" => Some(Rule::Erew),
-        b"crew" => Some(Rule::Crew),
-        b"common" => Some(Rule::Common),
-        b"priority" => Some(Rule::Priority),
-        b"sum" => Some(Rule::Sum),
-        _ => None,
-    }
-}
-
 /// The rule whose word has to be at the front, and where the word stands.
 fn a_rule(tokens: &[Token]) -> Result<(Rule, Location, &[Token]), ParseError>
     ensures found { IfOk result (λ f. tokens.now ≡ grammar.rule_token f.0 f.1 ∷ f.2.now) }
@@ -37,7 +22,7 @@ fn a_rule(tokens: &[Token]) -> Result<(Rule, Location, &[Token]), ParseError>
         (λ f. f.2.now) result }
 {
     match tokens {
-        [Token::Name(name), rest @ ..] => match rule_of(name.text.as_slice()) {
+        [Token::Name(name), rest @ ..] => match Rule::of_word(name.text.as_slice()) {
             Some(rule) => Ok((rule, name.location, rest)),
             None => Err(ParseError::Syntax(tokens.len())),
         },

@@ -10,7 +10,6 @@ ghost use Rattle.pram_trees.specs.Program.{declaration_tokens, declarations_toke
 ghost use Rattle.pram_printer.specs.Spelling.{spelled, spelling};
 
 use crate::printer::Printer;
-use crate::spell::rule_text;
 use pram_tokens::{Binary, Mark, Name, Opening, Token};
 use pram_trees::{Declaration, Expr, Stmt, Tree};
 use text_out::{Out, WriteFault};
@@ -277,7 +276,7 @@ impl<'a, W: Out> Printer<'a, W> {
             (spelling (header_tokens tree.now.rule tree.now.rule_location tree.now.procs [])) }
     {
         self.mark(Mark::Rule);
-        self.put(rule_text(tree.rule()), b' ');
+        self.put(tree.rule().word().as_bytes(), b' ');
         self.mark(Mark::Semicolon);
         self.mark(Mark::Procs);
         self.number(tree.procs());

@@ -1,24 +1,10 @@
 //! The spelling of words and symbols.
 
 ghost use Rattle.std.specs.Prelude.{◌≡◌};
-ghost use Rattle.pram_model.specs.Rules as rules;
 ghost use Rattle.pram_printer.specs.Spelling as spec;
 
-use pram_model::Rule;
 use pram_tokens::{Binary, Mark, Opening};
 use pram_trees::Prefix;
-
-pub(crate) fn rule_text(rule: Rule) -> &'static [u8]
-    ensures text { result.now ≡ rules.rule_word rule }
-{
-    match rule {
-        Rule::Erew => b"erew",
-        Rule::Crew => b"crew",
-        Rule::Common => b"common",
-        Rule::Priority => b"priority",
-        Rule::Sum => b"sum",
-    }
-}
 
 /// The word or the symbol of an operation between two operands, as a text spells it.
 pub fn binary_text(op: Binary) -> &'static [u8]

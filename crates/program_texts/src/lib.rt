@@ -4,7 +4,6 @@
 mod from_text;
 mod last_flush;
 mod outcome_text;
-mod rule_text;
 mod show_parts;
 mod status;
 mod stop;
@@ -13,7 +12,6 @@ pub mod text_laws;
 pub use from_text::{Refusal, TextOutcome, mean_program, meaning_of_text, read_program};
 pub use last_flush::finish;
 pub use outcome_text::{show, write_fault, write_fault_text};
-pub use rule_text::rule_word;
 pub use show_parts::{write_cell, write_entry, write_items, write_values};
 pub use status::Status;
 pub use stop::{Stop, write_stop};

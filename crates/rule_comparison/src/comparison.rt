@@ -7,7 +7,6 @@ ghost use Rattle.rule_comparison.specs.Compared.{finding_of};
 
 use crate::finding::Finding;
 use pram_trees::{Layout, Rule};
-use program_texts::rule_word;
 
 /// How a program comes out under each of the five rules, and the shared declarations by which its cells are named.
 #[derive(Drop)]
@@ -33,7 +32,7 @@ impl Comparison {
     pub fn declares(&self, rule: Rule) -> bool
         ensures value { result ≡ spec.declares self.now rule }
     {
-        is_same(rule_word(rule), rule_word(self.declared))
+        is_same(rule.word().as_bytes(), self.declared.word().as_bytes())
     }
 
     /// What is found under that rule.

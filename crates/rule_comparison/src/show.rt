@@ -8,7 +8,7 @@ ghost use Rattle.rule_comparison.specs.ComparisonText.{comparison_text, declared
 use crate::comparison::Comparison;
 use crate::finding::Finding;
 use pram_trees::{Layout, Rule};
-use program_texts::{rule_word, write_fault};
+use program_texts::write_fault;
 use text_out::{Out, WriteFault};
 
 /// The rules, in the order in which they are compared.
@@ -61,7 +61,7 @@ fn write_told<W: Out>(
 fn write_line<W: Out>(out: &mut W, comparison: &Comparison, rule: Rule) -> Result<(), WriteFault>
     ensures written { Writes (W.Out.state out.old) (W.Out.state out.new) (rule_line comparison.now rule) result }
 {
-    out.write_parts(&[rule_word(rule), b" "])?;
+    out.write_parts(&[rule.word().as_bytes(), b" "])?;
     let declared = comparison.declares(rule);
     write_told(out, declared, &comparison.layout, comparison.of(rule))
 }

@@ -6,25 +6,12 @@ ghost use Rattle.serde_json.specs.View.{view};
 ghost use Rattle.json_lines.specs.Facts.{letters as letters_of, with_fields};
 ghost use Rattle.json_lines.specs.Lines.{IsJson};
 ghost use Rattle.json_lines.specs.Shown.{shown};
-ghost use Rattle.pram_model.specs.Rules.{rule_word};
 ghost use Rattle.step_pages.specs.Opening as spec;
 
 use crate::pardos::pardos_facts;
 use json_lines::{Object, Value, line_of};
 use pram_trees::{Declaration, Name, Numeral, Rule, Tree};
 use std::alloc::{AllocError, Global};
-
-fn rule_name(rule: Rule) -> &'static str
-    ensures { result.now ≡ rule_word rule }
-{
-    match rule {
-        Rule::Erew => "erew",
-        Rule::Crew => "crew",
-        Rule::Common => "common",
-        Rule::Priority => "priority",
-        Rule::Sum => "sum",
-    }
-}
 
 fn single_facts(alloc: Global, x: &Name) -> Result<Value, AllocError>
     ensures { IfOk result (λ v. view v ≡ spec.single_facts x.now) }
@@ -134,7 +121,7 @@ fn put_source(
 {
     object.put_letters("file", file)?;
     object.put_letters("program", text)?;
-    object.put_word("rule", rule_name(rule))?;
+    object.put_word("rule", rule.word())?;
     object.put_values("input", input)?;
     object.put_count("statements", statements)
 }

@@ -22,3 +22,4 @@ mod template;
 pub use error::ListingFault;
 pub use listing_read::{LONGEST, read_listing};
 pub use listing_write::write_listing;
+pub use spell::{letter, numbers, stem};

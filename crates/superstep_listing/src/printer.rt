@@ -9,7 +9,7 @@ ghost use Rattle.superstep_listing.specs.Listing.{ended, entry_line, entry_words
 ghost use Rattle.superstep_listing.specs.Listing.{spelling};
 ghost use Rattle.superstep_listing.specs.Cutting.{spaced};
 
-use crate::spell::{letter, numbers, rule_text, stem};
+use crate::spell::{letter, numbers, stem};
 use itoa::Buffer;
 use pram_model::{Layout, Rule};
 use superstep_instructions::{Code, Instr};
@@ -160,7 +160,7 @@ impl<'a, W: Out> Printer<'a, W> {
             (ended (head_lines rule procs)) }
     {
         self.text(b"bsp 1\nrule ");
-        self.text(rule_text(rule));
+        self.text(rule.word().as_bytes());
         self.text(b"\n");
         self.field(b"procs", procs);
     }

@@ -1,24 +1,9 @@
-//! The words and numbers of a listing.
+//! The words and numbers of instructions, as in a listing.
 
 ghost use Rattle.std.specs.Prelude.{◌≡◌, ◌≤◌, take};
-ghost use Rattle.pram_model.specs.Rules.{rule_word};
 ghost use Rattle.superstep_listing.specs.Listing as spec;
 
-use pram_model::Rule;
 use superstep_instructions::{Arithmetic, Instr, Side, Truth};
-
-/// The word of a rule.
-pub(crate) fn rule_text(rule: Rule) -> &'static [u8]
-    ensures text { result.now ≡ rule_word rule }
-{
-    match rule {
-        Rule::Erew => b"erew",
-        Rule::Crew => b"crew",
-        Rule::Common => b"common",
-        Rule::Priority => b"priority",
-        Rule::Sum => b"sum",
-    }
-}
 
 /// The letter of a side.
 fn side_text(side: Side) -> &'static [u8]
@@ -55,7 +40,7 @@ fn truth_text(operation: Truth) -> &'static [u8]
 }
 
 /// The letter of an instruction's side, and nothing where it has none.
-pub(crate) fn letter(instr: Instr) -> &'static [u8]
+pub fn letter(instr: Instr) -> &'static [u8]
     ensures text { result.now ≡ spec.side_of instr }
 {
     match instr {
@@ -72,7 +57,7 @@ pub(crate) fn letter(instr: Instr) -> &'static [u8]
 }
 
 /// The word of an instruction without that letter.
-pub(crate) fn stem(instr: Instr) -> &'static [u8]
+pub fn stem(instr: Instr) -> &'static [u8]
     ensures text { result.now ≡ spec.stem_of instr }
 {
     match instr {
@@ -103,7 +88,7 @@ pub(crate) fn stem(instr: Instr) -> &'static [u8]
 }
 
 /// The numbers of an instruction's operands, and how many there are.
-pub(crate) fn numbers(instr: Instr) -> ([i64; 4], usize)
+pub fn numbers(instr: Instr) -> ([i64; 4], usize)
     ensures numbers { take result.1 result.0 ≡ spec.numbers_of instr }
     ensures few { result.1 ≤ 4 }
 {

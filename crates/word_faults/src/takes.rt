@@ -7,8 +7,9 @@ ghost use Rattle.drawn_inputs.specs.Intervals.{IsInterval};
 ghost use Rattle.word_faults.specs.Options as spec;
 
 use crate::given::Given;
-use command_requests::{MOST_CELLS, MOST_DRAWN, MOST_ORDERED, read_rule};
+use command_requests::{MOST_CELLS, MOST_DRAWN, MOST_ORDERED};
 use drawn_inputs::read_interval;
+use pram_model::Rule;
 use run_options::{read_map, read_number, read_pair};
 
 fn is_number(word: &str) -> bool
@@ -94,7 +95,7 @@ fn are_drawn(word: &str) -> bool
 fn is_rule(word: &str) -> bool
     ensures { MatchBool result (spec.IsRule word.now) (¬ (spec.IsRule word.now)) }
 {
-    match read_rule(word) {
+    match Rule::of_word(word.as_bytes()) {
         Some(_) => true,
         None => false,
     }

@@ -4,5 +4,5 @@ use Rattle.mpi_export.proofs.printer.Printer.rule.Goals as goal
 
 pub returns-clause-prints : goal.returns-clause-prints
 returns-clause-prints g c =
-    prints_then c.text.ensures.prints (prints_then (printed_as (sym c.rule_text.ensures.text) c.text-2.ensures.prints)
+    prints_then c.text.ensures.prints (prints_then (printed_as (sym c.word.ensures) c.text-2.ensures.prints)
     c.text-3.ensures.prints)
