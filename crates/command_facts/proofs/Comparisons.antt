@@ -3,7 +3,7 @@ use Rattle.std.proofs.Common.{◌≡◌, ◌≤◌, ℕ, ℤ, List, subst, sym}
 use Rattle.std.specs.Prelude.{Option, length}
 use Rattle.pram_model.specs.Layout.{SharedEntry, total_size}
 use Rattle.rule_comparison.specs.Compared.{IsComparison}
-use Rattle.rule_comparison.specs.declared.comparison.Comparison.{Comparison}
+use Rattle.rule_comparison.specs.declared.comparison.UnderRules.{UnderRules}
 use Rattle.command_requests.specs.declared.request.ProgramFile.{ProgramFile}
 use Rattle.command_requests.specs.declared.request.RunWords.{RunWords}
 use Rattle.command_facts.specs.declared.loaded.Loaded.{Loaded}
@@ -11,7 +11,7 @@ use Rattle.command_facts.specs.Found.{IsComparisonFound, IsLoaded, IsOpening}
 
 pub comparison_found : (holds : List ℕ → Option (List ℕ) → Type 0) (file : ProgramFile) (words : RunWords) (l : Loaded)
     (input given : List ℤ)
-    (c : Comparison) → given ≡ input → IsLoaded (holds file.name.now) file l → IsOpening holds l.program.layout words.opening input → c.layout ≡ l.program.layout →
+    (c : UnderRules) → given ≡ input → IsLoaded (holds file.name.now) file l → IsOpening holds l.program.layout words.opening input → c.layout ≡ l.program.layout →
     length given ≤ total_size l.program.layout → IsComparison l.program given words.options.bound c → IsComparisonFound holds file words c
 comparison_found holds file words l input given c same is is_input declared fits compared = record {
   loaded = l;

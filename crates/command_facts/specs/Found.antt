@@ -16,7 +16,7 @@ use Rattle.work_time.specs.declared.time_step.TimeStep.{TimeStep}
 use Rattle.work_time.specs.Cost as cost
 use Rattle.exchange_bound.specs.Bound.{exchange_bound}
 use Rattle.rule_comparison.specs.Compared.{IsComparison}
-use Rattle.rule_comparison.specs.declared.comparison.Comparison.{Comparison}
+use Rattle.rule_comparison.specs.declared.comparison.UnderRules.{UnderRules}
 use Rattle.exchange_lines.specs.Lines.{AreLinesOf}
 use Rattle.program_texts.specs.Shown.{fault_text}
 use Rattle.program_runs.specs.Compiled.{IsCodeOf}
@@ -150,7 +150,7 @@ abbrev pub with_outcome : FoundSteps → Outcome → FoundRun
 with_outcome s o = record { loaded = s.loaded; input = s.input; words = s.words; outcome = o; facts = facts.Nothing }
 
 -- how the file's program comes out under each rule, on the call's input within its bound
-pub record IsComparisonFound (holds : List ℕ → Option (List ℕ) → Type 0) (file : ProgramFile) (words : RunWords) (c : Comparison)
+pub record IsComparisonFound (holds : List ℕ → Option (List ℕ) → Type 0) (file : ProgramFile) (words : RunWords) (c : UnderRules)
     : Type 0 where
   pub loaded : Loaded
   pub is_loaded : IsLoaded (holds file.name.now) file loaded

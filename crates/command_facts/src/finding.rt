@@ -34,7 +34,7 @@ use pram_check::Program;
 use pram_trees::{Layout, Tree};
 use program_runs::{compile_program, outcome_of_code};
 use program_texts::{Refusal, Stop};
-use rule_comparison::{Comparison, compare_rules};
+use rule_comparison::{UnderRules, compare_rules};
 use std::alloc::Global;
 use std::sync::Wait;
 use std::thread::Threads;
@@ -127,7 +127,7 @@ fn find_comparison<'a, S: Sources, V: Watch>(
     words: RunWords<'a>,
     sources: &mut S,
     watch: &mut V,
-) -> Result<Comparison, Halted<'a>>
+) -> Result<UnderRules, Halted<'a>>
     ensures found { IfOk result (IsComparisonFound (S.Sources.holds sources.old) file.now words.entry) }
     ensures refused { IfErr result (RefusesRun (S.Sources.holds sources.old) Verb.Rules file.now words.entry) }
 {

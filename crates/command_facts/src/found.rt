@@ -6,14 +6,14 @@ ghost use Rattle.command_facts.specs.Found.{with_outcome};
 use crate::loaded::Loaded;
 use bsp_verify::Verified;
 use command_requests::{Form, RunWords};
-use comparisons::Comparison as PairComparison;
+use comparisons::Comparison;
 use diagnoses::Source;
 use exchange_counts::Counts;
 use explanations::Subject;
 use explorations::Findings;
 use memory_texts::Choice;
 use pram_check::Program;
-use rule_comparison::Comparison;
+use rule_comparison::UnderRules;
 use sized_texts::Sweep;
 use sweep_texts::{Growths, SizeRow};
 use work_time::Cost;
@@ -108,7 +108,7 @@ pub struct FoundPair {
     pub first: Program,
     pub second: Program,
     pub drawn: Option<u32>,
-    pub comparison: PairComparison,
+    pub comparison: Comparison,
 }
 
 /// What a call finds.
@@ -127,7 +127,7 @@ pub enum Found<'a> {
     /// The code of a program or of a listing, to be written in C.
     Exported(Verified),
     /// How a program comes out under each rule.
-    Compared(Comparison),
+    Compared(UnderRules),
     /// A program was run.
     Run(FoundRun<'a>),
     /// A program is to be run, and told as it runs.

@@ -32,7 +32,7 @@ use mpi_export::write_program;
 use pram_check::Program;
 use pram_trees::Layout;
 use program_texts::{Status, Stop, finish, show};
-use rule_comparison::{Comparison, show_comparison};
+use rule_comparison::{UnderRules, show_comparison};
 use superstep_instructions::Code;
 use superstep_listing::write_listing;
 use text_out::{Out, WriteFault};
@@ -105,7 +105,7 @@ pub(crate) fn write_costs<'a, O: Out>(
 /// Writes how a program comes out under each rule.
 pub(crate) fn write_rules<'a, O: Out>(
     out: &mut O,
-    comparison: &Comparison,
+    comparison: &UnderRules,
 ) -> Result<Status, Stop<'a>>
     ensures written { Wrote Done (comparison_text comparison.now)
         (O.Out.state out.old) (O.Out.state out.new) result }

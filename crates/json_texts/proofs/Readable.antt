@@ -23,7 +23,7 @@ use Rattle.program_texts.specs.declared.from_text.Refusal.TheVariants as refusal
 use Rattle.program_texts.specs.declared.stop.Stop.{Stop}
 use Rattle.program_texts.specs.declared.stop.Stop.TheVariants as stop
 use Rattle.rule_comparison.specs.Compared.{declares, finding_of, rules}
-use Rattle.rule_comparison.specs.declared.comparison.Comparison.{Comparison}
+use Rattle.rule_comparison.specs.declared.comparison.UnderRules.{UnderRules}
 use Rattle.rule_comparison.specs.declared.finding.Finding.{Finding}
 use Rattle.rule_comparison.specs.declared.finding.Finding.TheVariants as finding
 use Rattle.write_rules.specs.declared.write.Write.{Write}
@@ -205,14 +205,14 @@ small_declared true (finding.Faulted fault) = tt
 small_declared true finding.GoesOn = tt
 small_declared false f = tt
 
-small_rule : (c : Comparison) (r : Rule) → IsSmall 2 (rule_facts c r)
+small_rule : (c : UnderRules) (r : Rule) → IsSmall 2 (rule_facts c r)
 small_rule c r =
     let found = finding_fields c.layout (finding_of c r) in
     let declared = declared_fields (declares c r) (finding_of c r) in
     small_object 1 ((codes "rule", _) ∷ (found ++ declared))
     (small_word 1 _, has_all 1 found declared (small_finding c.layout (finding_of c r)) (small_declared (declares c r) (finding_of c r)))
 
-pub readable_comparison : (c : Comparison) → IsReadable (comparison_facts c)
+pub readable_comparison : (c : UnderRules) → IsReadable (comparison_facts c)
 readable_comparison c = readable ((codes "rules", _) ∷ [])
     (small_list 2 (map (rule_facts c) rules) (small_map 2 (rule_facts c) (small_rule c) rules), tt)
 

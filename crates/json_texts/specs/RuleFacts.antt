@@ -6,7 +6,7 @@ use Rattle.pram_model.specs.Layout.{SharedEntry}
 use Rattle.pram_model.specs.Rules.{rule_word}
 use Rattle.pram_model.specs.declared.rule.Rule.{Rule}
 use Rattle.rule_comparison.specs.Compared.{declares, finding_of, rules}
-use Rattle.rule_comparison.specs.declared.comparison.Comparison.{Comparison}
+use Rattle.rule_comparison.specs.declared.comparison.UnderRules.{UnderRules}
 use Rattle.rule_comparison.specs.declared.finding.Finding.{Finding}
 use Rattle.rule_comparison.specs.declared.finding.Finding.TheVariants as finding
 use Rattle.json_texts.specs.OutcomeFacts.{fault_fields}
@@ -27,11 +27,11 @@ abbrev pub declared_fields : Bool → Finding → List Field
 declared_fields true finding.Same = (codes "declared", flag true) ∷ []
 declared_fields _ _ = []
 
-abbrev pub rule_facts : Comparison → Rule → Data
+abbrev pub rule_facts : UnderRules → Rule → Data
 rule_facts c r =
     object_of ((codes "rule", word (rule_word r))
     ∷ (finding_fields c.layout (finding_of c r) ++ declared_fields (declares c r) (finding_of c r)))
 
 -- an object for each rule, in the order in which they are compared
-abbrev pub comparison_facts : Comparison → Data
+abbrev pub comparison_facts : UnderRules → Data
 comparison_facts c = object_of ((codes "rules", list (map (rule_facts c) rules)) ∷ [])

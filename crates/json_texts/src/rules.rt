@@ -11,7 +11,7 @@ ghost use Rattle.json_texts.specs.RuleFacts as spec;
 use crate::fault::put_fault;
 use json_lines::{Object, Value, line_of};
 use pram_trees::{Layout, Rule};
-use rule_comparison::{Comparison, Finding};
+use rule_comparison::{UnderRules, Finding};
 use std::alloc::{AllocError, Global};
 
 /// The rules, in the order in which they are compared.
@@ -62,7 +62,7 @@ fn put_declared(object: &mut Object, declared: bool, finding: Finding) -> Result
 }
 
 // What is found under a rule.
-fn rule_facts(alloc: Global, comparison: &Comparison, rule: Rule) -> Result<Value, AllocError>
+fn rule_facts(alloc: Global, comparison: &UnderRules, rule: Rule) -> Result<Value, AllocError>
     ensures { IfOk result (λ v. view v ≡ spec.rule_facts comparison.now rule) }
 {
     let mut object = Object::new(alloc);
@@ -73,7 +73,7 @@ fn rule_facts(alloc: Global, comparison: &Comparison, rule: Rule) -> Result<Valu
     Ok(object.into_value())
 }
 
-fn findings(alloc: Global, comparison: &Comparison) -> Result<Vec<Value>, AllocError>
+fn findings(alloc: Global, comparison: &UnderRules) -> Result<Vec<Value>, AllocError>
     ensures { IfOk result (λ list. map view list.items ≡ map (spec.rule_facts comparison.now) all_rules) }
 {
     let mut list = Vec::new(alloc);
@@ -83,7 +83,7 @@ fn findings(alloc: Global, comparison: &Comparison) -> Result<Vec<Value>, AllocE
     Ok(list)
 }
 
-fn comparison_value(alloc: Global, comparison: &Comparison) -> Result<Value, AllocError>
+fn comparison_value(alloc: Global, comparison: &UnderRules) -> Result<Value, AllocError>
     ensures { IfOk result (λ v. view v ≡ spec.comparison_facts comparison.now) }
 {
     let list = findings(alloc, comparison)?;
@@ -93,7 +93,7 @@ fn comparison_value(alloc: Global, comparison: &Comparison) -> Result<Value, All
 }
 
 /// How a program comes out under each rule, on a line: `{"rules":[{"end":"same","outcome":"ended","rule":"erew"}, ..]}`.
-pub fn json_comparison(alloc: Global, comparison: &Comparison) -> Result<String, AllocError>
+pub fn json_comparison(alloc: Global, comparison: &UnderRules) -> Result<String, AllocError>
     ensures json { IfOk result (λ text. IsJson (spec.comparison_facts comparison.now ∷ []) (string_bytes text)) }
 {
     let facts = comparison_value(alloc, comparison)?;

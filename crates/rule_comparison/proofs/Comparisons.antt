@@ -15,7 +15,7 @@ use Rattle.rule_comparison.specs.FirstEnd.{or_end}
 use Rattle.rule_comparison.specs.Found.{IsFound, first_end}
 use Rattle.rule_comparison.specs.Judged.{IsFoundUnder, IsJudged}
 use Rattle.rule_comparison.specs.Told.{ahead}
-use Rattle.rule_comparison.specs.declared.comparison.Comparison.{Comparison}
+use Rattle.rule_comparison.specs.declared.comparison.UnderRules.{UnderRules}
 use Rattle.rule_comparison.specs.declared.finding.Finding.{Finding}
 use Rattle.rule_comparison.proofs.Beside.{beside}
 use Rattle.rule_comparison.proofs.Told.{ends_kept, settled}
@@ -53,7 +53,7 @@ by_rule a b c d e Common = c
 by_rule a b c d e Priority = d
 by_rule a b c d e Sum = e
 
-module _ (p : Checked) (input : List ℤ) (n : ℕ) (found : Comparison) (early : Finding) (a b z c d e : Verdict)
+module _ (p : Checked) (input : List ℤ) (n : ℕ) (found : UnderRules) (early : Finding) (a b z c d e : Verdict)
     (none one two three four five six : Option (List ℤ × List ℤ)) (nothing : none ≡ None) (at_erew : IsJudged none a found.erew one)
     (at_crew : IsJudged one b found.crew two) (at_ahead : IsJudged two z early three) (at_common : IsJudged three c found.common four)
     (at_priority : IsJudged four d found.priority five) (at_sum : IsJudged five e found.sum six) where

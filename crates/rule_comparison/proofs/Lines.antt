@@ -3,10 +3,10 @@ use Rattle.std.proofs.Common.{◌≡◌, ◌∙◌, ◌<◌, ◌+◌, ◌++◌, 
 use Rattle.std.proofs.lemmas.List.{drop_more}
 use Rattle.pram_model.specs.declared.rule.Rule.{Rule}
 use Rattle.rule_comparison.specs.ComparisonText.{rule_line, rule_lines}
-use Rattle.rule_comparison.specs.declared.comparison.Comparison.{Comparison}
+use Rattle.rule_comparison.specs.declared.comparison.UnderRules.{UnderRules}
 
 -- the line of the rule at i, and those behind it
-pub lines_at : (c : Comparison) (rs : List Rule) (i : ℕ) (d : Rule) → i < length rs →
+pub lines_at : (c : UnderRules) (rs : List Rule) (i : ℕ) (d : Rule) → i < length rs →
     rule_lines c (drop i rs) ≡ rule_line c (get_or rs i d) ++ rule_lines c (drop (i + 1) rs)
 lines_at c rs i d below = ap (rule_lines c) (drop_more rs i d below)
 

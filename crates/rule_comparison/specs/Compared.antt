@@ -8,7 +8,7 @@ use Rattle.pram_check.specs.Checked.{Checked}
 use Rattle.pram_check.specs.OtherRule.{under}
 use Rattle.write_rules.specs.Verdict.{Verdict}
 use Rattle.pram_meaning.specs.Outcome.{IsOutcome}
-use Rattle.rule_comparison.specs.declared.comparison.Comparison.{Comparison}
+use Rattle.rule_comparison.specs.declared.comparison.UnderRules.{UnderRules}
 use Rattle.rule_comparison.specs.declared.finding.Finding.{Finding}
 use Rattle.rule_comparison.specs.Found.{IsFound, first_end}
 
@@ -17,7 +17,7 @@ abbrev pub rules : List Rule
 rules = Erew ∷ Crew ∷ Common ∷ Priority ∷ Sum ∷ []
 
 -- what is found under a rule
-abbrev pub finding_of : Comparison → Rule → Finding
+abbrev pub finding_of : UnderRules → Rule → Finding
 finding_of c Erew = c.erew
 finding_of c Crew = c.crew
 finding_of c Common = c.common
@@ -25,7 +25,7 @@ finding_of c Priority = c.priority
 finding_of c Sum = c.sum
 
 -- whether the program declares that rule
-abbrev pub declares : Comparison → Rule → Bool
+abbrev pub declares : UnderRules → Rule → Bool
 declares c r = same_text (rule_word r) (rule_word c.declared)
 
 -- the end beside which all are told: that under the declared rule, or else the first
@@ -33,7 +33,7 @@ abbrev pub end_beside : Rule → (Rule → Verdict) → Option (List ℤ × List
 end_beside declared verdict = first_end (verdict declared ∷ map verdict rules)
 
 -- The findings are those of the program's outcomes under the five rules, on the input within n statements.
-pub record IsComparison (p : Checked) (input : List ℤ) (n : ℕ) (c : Comparison) : Type 0 where
+pub record IsComparison (p : Checked) (input : List ℤ) (n : ℕ) (c : UnderRules) : Type 0 where
   pub verdict : Rule → Verdict
   pub outcome : (r : Rule) → IsOutcome (under r p) input n (verdict r)
   pub declared : c.declared ≡ p.rule
@@ -42,5 +42,5 @@ pub record IsComparison (p : Checked) (input : List ℤ) (n : ℕ) (c : Comparis
 -- Two comparisons of one program on one input, within one bound, find the same under each rule.
 abbrev pub HasOneComparisonAtMost : Type 0
 HasOneComparisonAtMost =
-    (p : Checked) (input : List ℤ) (n : ℕ) (c d : Comparison) → IsComparison p input n c → IsComparison p input n d → (r : Rule) →
+    (p : Checked) (input : List ℤ) (n : ℕ) (c d : UnderRules) → IsComparison p input n c → IsComparison p input n d → (r : Rule) →
     finding_of c r ≡ finding_of d r

@@ -5,7 +5,7 @@ use Rattle.pram_model.specs.Rules.{rule_word}
 use Rattle.pram_model.specs.declared.rule.Rule.{Rule}
 use Rattle.program_texts.specs.Shown.{fault_text, line}
 use Rattle.rule_comparison.specs.Compared.{declares, finding_of, rules}
-use Rattle.rule_comparison.specs.declared.comparison.Comparison.{Comparison}
+use Rattle.rule_comparison.specs.declared.comparison.UnderRules.{UnderRules}
 use Rattle.rule_comparison.specs.declared.finding.Finding.{Finding}
 use Rattle.rule_comparison.specs.declared.finding.Finding.TheVariants as finding
 
@@ -27,14 +27,14 @@ abbrev pub told : Bool → List SharedEntry → Finding → List ℕ
 told declared layout x = if declared then declared_text layout x else finding_text layout x
 
 -- `erew fault read-conflict a[1] line 4`
-abbrev pub rule_line : Comparison → Rule → List ℕ
+abbrev pub rule_line : UnderRules → Rule → List ℕ
 rule_line c r = line (rule_word r ++ (codes " " ++ told (declares c r) c.layout (finding_of c r)))
 
 -- a line for each of some rules
-abbrev pub rule_lines : Comparison → List Rule → List ℕ
+abbrev pub rule_lines : UnderRules → List Rule → List ℕ
 rule_lines c [] = []
 rule_lines c (r ∷ rs) = rule_line c r ++ rule_lines c rs
 
 -- what `show_comparison` writes
-abbrev pub comparison_text : Comparison → List ℕ
+abbrev pub comparison_text : UnderRules → List ℕ
 comparison_text c = rule_lines c rules

@@ -10,7 +10,7 @@ ghost use Rattle.rule_comparison.specs.Compared.{IsComparison};
 ghost use Rattle.rule_comparison.specs.Judged.{IsFoundUnder};
 ghost use Rattle.rule_comparison.specs.Told.{IsKnown, ahead};
 
-use crate::comparison::Comparison;
+use crate::comparison::UnderRules;
 use crate::finding::Finding;
 use crate::first_end::FirstEnd;
 use crate::input::have_64_bits;
@@ -125,7 +125,7 @@ pub fn compare_rules<V: Watch>(
     input: &[i64],
     bound: u32,
     watch: &mut V,
-) -> Result<Comparison, MeaningRefusal>
+) -> Result<UnderRules, MeaningRefusal>
     // Each finding is that of the program's outcome under its rule.
     ensures comparison { IfOk result (IsComparison program input.now bound) }
     ensures layout { IfOk result (λ c. c.layout ≡ program.layout) }
@@ -178,7 +178,7 @@ pub fn compare_rules<V: Watch>(
         bound,
         watch,
     )?;
-    Ok(Comparison {
+    Ok(UnderRules {
         layout: program.into_layout(),
         declared: rule,
         erew,

@@ -10,7 +10,7 @@ use pram_trees::{Layout, Rule};
 
 /// How a program comes out under each of the five rules, and the shared declarations by which its cells are named.
 #[derive(Drop)]
-pub struct Comparison {
+pub struct UnderRules {
     pub layout: Layout,
     /// The rule that the program declares.
     pub declared: Rule,
@@ -27,7 +27,7 @@ fn is_same(a: &[u8], b: &[u8]) -> bool
     a == b
 }
 
-impl Comparison {
+impl UnderRules {
     /// Whether the program declares that rule.
     pub fn declares(&self, rule: Rule) -> bool
         ensures value { result ≡ spec.declares self.now rule }

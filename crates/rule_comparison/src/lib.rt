@@ -10,6 +10,6 @@ mod input;
 mod show;
 
 pub use compare::compare_rules;
-pub use comparison::Comparison;
+pub use comparison::UnderRules;
 pub use finding::Finding;
 pub use show::show_comparison;

@@ -5,7 +5,7 @@ ghost use Rattle.text_out.specs.Out.{Writes};
 ghost use Rattle.program_texts.specs.Shown.{line};
 ghost use Rattle.rule_comparison.specs.ComparisonText.{comparison_text, declared_text, finding_text, rule_line, told};
 
-use crate::comparison::Comparison;
+use crate::comparison::UnderRules;
 use crate::finding::Finding;
 use pram_trees::{Layout, Rule};
 use program_texts::write_fault;
@@ -58,7 +58,7 @@ fn write_told<W: Out>(
     }
 }
 
-fn write_line<W: Out>(out: &mut W, comparison: &Comparison, rule: Rule) -> Result<(), WriteFault>
+fn write_line<W: Out>(out: &mut W, comparison: &UnderRules, rule: Rule) -> Result<(), WriteFault>
     ensures written { Writes (W.Out.state out.old) (W.Out.state out.new) (rule_line comparison.now rule) result }
 {
     out.write_parts(&[rule.word().as_bytes(), b" "])?;
@@ -69,7 +69,7 @@ fn write_line<W: Out>(out: &mut W, comparison: &Comparison, rule: Rule) -> Resul
 /// Writes a line for each rule: `erew fault read-conflict a[1] line 4`, `crew ended same`, `priority ended other` or `sum goes on`. Where
 /// the program ends under the rule that it declares, the line of that says so: `common ended same (declared)`.
 /// The error is that the writer failed (E17).
-pub fn show_comparison<W: Out>(comparison: &Comparison, out: &mut W) -> Result<(), WriteFault>
+pub fn show_comparison<W: Out>(comparison: &UnderRules, out: &mut W) -> Result<(), WriteFault>
     ensures written { Writes (W.Out.state out.old) (W.Out.state out.new) (comparison_text comparison.now) result }
 {
     for rule in RULES {
