@@ -127,6 +127,8 @@ impl Layout {
     pub fn subscript(&self, i: usize, number: u32) -> i64
         requires entry { i < length self.now }
         requires inside { IfSome (slice_get self.now i) (λ e. number < spec.size e.bounds) }
+        // The cell of that number among a declaration's cells, counted from 0, has the lower bound plus the number as
+        // its subscript; a single cell has 0.
         ensures { IfSome (slice_get self.now i) (λ e. result ≡ (subscripts e.bounds).0 +ℤ pos number) }
     {
         let entry = &self.entries[i];
@@ -140,8 +142,11 @@ impl Layout {
     /// The cells of a declaration, with their subscripts.
     pub fn range(&self, i: usize) -> Range
         requires { i < length self.now }
+        // The range has the declaration's bounds; a single cell has the one subscript 0.
         ensures bounds { IfSome (slice_get self.now i)
             (λ e. (result.low ≡ (subscripts e.bounds).0) × (result.high ≡ (subscripts e.bounds).1)) }
+        // The declaration's cell at any subscript is the range's first cell plus the subscript's distance from the
+        // lower bound, and none outside the bounds.
         ensures cells { (z : ℤ) → spec.cell_of self.now i z ≡ cell_at result.first result.low result.high z }
     {
         self.entries[i].range
@@ -149,6 +154,7 @@ impl Layout {
 
     /// The same declarations.
     pub fn copied(&self, alloc: Global) -> Result<Layout, AllocError>
+        // The copy is the same layout, if memory is not refused.
         ensures { IfOk result (λ copy. copy ≡ self.now) }
     {
         let mut entries = Vec::new(alloc);
@@ -164,7 +170,9 @@ impl Layout {
     /// Takes a single cell in, behind the other declarations.
     pub fn push_cell(&mut self, alloc: Global, name: &[u8]) -> Result<(), AllocError>
         requires { spec.total_size self.old + 1 ≤ spec.most_cells }
+        // The single cell stands behind the declarations that were there.
         ensures ok { OnOk result (self.new ≡ self.old ++ record { name = name.now; bounds = None } ∷ []) }
+        // Where memory is refused the layout stays as it was.
         ensures err { OnErr result (self.new ≡ self.old) }
     {
         self.push(alloc, name, false, 0, 0)
@@ -181,7 +189,9 @@ impl Layout {
     ) -> Result<(), AllocError>
         requires ordered { low ≤ℤ high }
         requires room { spec.total_size self.old + spec.width low high ≤ spec.most_cells }
+        // The array stands behind the declarations that were there, with its bounds.
         ensures ok { OnOk result (self.new ≡ self.old ++ record { name = name.now; bounds = Some (low, high) } ∷ []) }
+        // Where memory is refused the layout stays as it was.
         ensures err { OnErr result (self.new ≡ self.old) }
     {
         self.push(alloc, name, true, low, high)
@@ -216,6 +226,8 @@ impl Layout {
 
     /// The number of the cell at a subscript of a declaration; a single cell has the subscript 0.
     pub fn cell(&self, entry: usize, subscript: i64) -> Option<u32>
+        // The answer is the number of the declaration's cell at the subscript, with cells numbered on through all
+        // declarations in order; none where there is no such cell.
         ensures { result ≡ spec.cell_of self.now entry subscript }
     {
         match at(self.entries.as_slice(), entry) {

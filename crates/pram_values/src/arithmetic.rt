@@ -8,6 +8,7 @@ use crate::kind::Kind;
 /// `x + y`; Overflow where no `i64` is the sum.
 #[tactic(auto, using(crate::proofs::Checked::checked_some, crate::proofs::Checked::checked_none))]
 pub fn add(x: i64, y: i64) -> Result<i64, Kind>
+    // The result is the sum of the integers, or Overflow where that is no number of 64 bits.
     ensures { result ≡ checked (x +ℤ y) }
 {
     match x.checked_add(y) {
@@ -19,6 +20,7 @@ pub fn add(x: i64, y: i64) -> Result<i64, Kind>
 /// `x - y`; Overflow where no `i64` is the difference.
 #[tactic(auto, using(crate::proofs::Checked::checked_some, crate::proofs::Checked::checked_none))]
 pub fn subtract(x: i64, y: i64) -> Result<i64, Kind>
+    // The result is the difference of the integers, or Overflow where that is no number of 64 bits.
     ensures { result ≡ checked (x -ℤ y) }
 {
     match x.checked_sub(y) {
@@ -30,6 +32,7 @@ pub fn subtract(x: i64, y: i64) -> Result<i64, Kind>
 /// `x * y`; Overflow where no `i64` is the product.
 #[tactic(auto, using(crate::proofs::Checked::checked_some, crate::proofs::Checked::checked_none))]
 pub fn multiply(x: i64, y: i64) -> Result<i64, Kind>
+    // The result is the product of the integers, or Overflow where that is no number of 64 bits.
     ensures { result ≡ checked (x *ℤ y) }
 {
     match x.checked_mul(y) {
@@ -41,6 +44,7 @@ pub fn multiply(x: i64, y: i64) -> Result<i64, Kind>
 /// `-x`; Overflow for the least `i64`.
 #[tactic(auto, using(crate::proofs::Checked::checked_some, crate::proofs::Checked::checked_none))]
 pub fn negate(x: i64) -> Result<i64, Kind>
+    // The result is the negative of the integer, or Overflow where that is no number of 64 bits.
     ensures { result ≡ checked (neg_ℤ x) }
 {
     match x.checked_neg() {

@@ -9,6 +9,8 @@ use crate::kind::Kind;
 /// `i64` is the quotient.
 #[tactic(auto, using(crate::proofs::Checked::checked_some))]
 pub fn divide(x: i64, d: i64) -> Result<i64, Kind>
+    // The result is the quotient rounded down, DivideByZero for a zero divisor, or Overflow where the quotient is no
+    // number of 64 bits.
     ensures { result ≡ quotient x d }
 {
     if d == 0 {
@@ -41,6 +43,7 @@ fn quotient_below(x: i64, d: i64) -> i64
 
 /// `x mod d`, what floor division leaves; DivideByZero for a zero divisor, and no other fault.
 pub fn remainder(x: i64, d: i64) -> Result<i64, Kind>
+    // The result is what floor division leaves, or DivideByZero for a zero divisor; there is no other fault.
     ensures { result ≡ remainder_of x d }
 {
     if d == 0 {
@@ -97,6 +100,9 @@ fn remainder_below(x: i64, d: i64) -> i64
 /// between 0 and the divisor.
 #[tactic(auto, using(crate::proofs::Divisions::splits, crate::proofs::Divisions::remainder_is_within))]
 pub fn division_law()
+    // A number is the divisor times the floor quotient, plus the remainder.
     ensures splits { (x d : ℤ) → x ≡ d *ℤ floor_quotient x d +ℤ floor_remainder x d }
+    // For a divisor other than 0 the remainder is 0 or has the divisor's sign, and its absolute value is less than the
+    // divisor's.
     ensures within { (x d : ℤ) → d ≢ pos 0 → IsRemainderFor d (floor_remainder x d) }
 {}

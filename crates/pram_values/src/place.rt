@@ -34,8 +34,11 @@ impl Place {
 /// Places are in a strict linear order.
 #[tactic(auto, using(crate::proofs::PlaceOrder::never_before_itself, crate::proofs::PlaceOrder::before_is_passed_on, crate::proofs::PlaceOrder::one_is_before))]
 pub fn place_order()
+    // No place comes before itself.
     ensures irreflexive { (p : specification.Place) → is_place_before p p ≡ false }
+    // A place before a second, which is before a third, is before the third.
     ensures transitive { (p q r : specification.Place) → is_place_before p q ≡ true → is_place_before q r ≡ true →
         is_place_before p r ≡ true }
+    // Of two different places one comes before the other.
     ensures connected { (p q : specification.Place) → is_place_before p q ≡ false → is_place_before q p ≡ false → p ≡ q }
 {}

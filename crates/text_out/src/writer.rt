@@ -38,6 +38,7 @@ pub trait Out {
     final fn write_all(&mut self, bytes: &[u8]) -> Result<(), WriteFault>
     where
         Self: Sized,
+        // All of the text is written, or a beginning of it and then the writer failed.
         ensures written { Writes (state self.old) (state self.new) bytes.now result }
     {
         let mut rest = bytes;
@@ -54,6 +55,7 @@ pub trait Out {
     final fn write_parts(&mut self, parts: &[&[u8]]) -> Result<(), WriteFault>
     where
         Self: Sized,
+        // All of the texts are written in order, or a beginning of them and then the writer failed.
         ensures written { Writes (state self.old) (state self.new) (joined parts.now) result }
     {
         for part in parts {

@@ -27,6 +27,7 @@ pub trait RuleBody {
 /// Runs a body under a rule: it is matched here, once, and the body knows which rule it is by a type.
 pub fn under<B: RuleBody>(rule: Rule, body: B) -> B::Answer
     requires { B.can_run body rule }
+    // What the body answers meets what it promises of the given rule, whichever that is.
     ensures { B.gives body rule result }
 {
     match rule {

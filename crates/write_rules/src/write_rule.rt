@@ -36,13 +36,19 @@ pub trait WriteRule {
 
     /// Whether the values of the writers are added up, so that an entry's value has 128 bits.
     fn sums(&self) -> bool
+        // The answer is whether the rule is sum.
         ensures { result ≡ is_sum (rule self.now) };
 
     /// What is in a cell after some writes, where `old` is its value before them.
     fn value_after(&self, old: i64, writes: &[Write]) -> Result<i64, Kind>
+        // What any list of writes leaves in a cell is what the rule gives: its old value if there are none, else a
+        // value or a fault.
         ensures { result ≡ written (rule self.now) old writes.now };
 
+    // An instance combines the writers of a cell as its rule does.
     ghost known: { (r : Self) → combining r ≡ combining_by (rule r) };
 
+    // Entries may be joined two by two in any order, and writers with different indices come to what the rule gives for
+    // them.
     ghost lawful: { (r : Self) → Carries (rule r) (combining r) };
 }
