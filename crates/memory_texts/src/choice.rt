@@ -74,6 +74,7 @@ fn unknown_part<'a>(layout: &Layout, word: &'a str) -> Option<&'a str>
 /// The first part of the word, between its commas, that is the name of no declaration: an empty part, for one. `None`: each part is the
 /// name of a declaration, or the choice has no word.
 pub fn unknown_name<'a>(layout: &Layout, choice: Choice<'a>) -> Option<&'a str>
+    // The answer is the first part of the word between its commas that is no declaration's name, if there is one.
     ensures { option_map (λ part. part.now) result ≡ spec.unknown_name layout.now choice.entry }
 {
     match choice {

@@ -77,6 +77,8 @@ pub fn show_chosen<W: Out>(
     choice: Choice<'_>,
     out: &mut W,
 ) -> Result<(), WriteFault>
+    // Of an ended run's memory the chosen declarations are written, each with its own cells; or a beginning of the
+    // text, and then the writer failed.
     ensures written { Writes (W.Out.state out.old) (W.Out.state out.new)
         (spec.shown_by choice.entry layout.now (verdict_of outcome.now)) result }
 {

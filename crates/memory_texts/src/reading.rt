@@ -88,14 +88,15 @@ fn memory_of(alloc: Global, layout: &Layout, text: &[u8]) -> Result<Vec<i64>, Me
 /// no declaration has it, or at LOW, where LOW to HIGH is no interval of the array's subscripts or the declaration is a single cell;
 /// `MemoryFault::TooMany` (E11) where it has more values than cells. `MemoryFault::OutOfMemory` (E16) says that memory was refused.
 pub fn read_memory(alloc: Global, layout: &Layout, text: &[u8]) -> Result<Vec<i64>, MemoryFault>
-    // The answer is what the text's lines leave.
+    // The answer has for each cell the value that the text's lines leave, in order, and 0 where they say nothing.
     ensures found { IfOk result (λ memory. spec.IsMemoryOf layout.now text.now memory.items) }
-    // Whatever they leave, that is the answer, unless memory was refused.
+    // Whatever values the lines leave, those are the answer, unless memory was refused.
     ensures only { (memory : List ℤ) →
         spec.IsMemoryOf layout.now text.now memory → spec.IsAnswer (λ found. found.items) memory result }
-    // A text that is too long is told so, memory or not, and no other is.
+    // TextTooLong is answered exactly for a text of more than 1,048,576 bytes.
     ensures too_long { (result ≡ Err (Text TextTooLong)) ↔ (longest < length text.now) }
-    // A refusal is right, and stands where it should. That of memory is of a plain text.
+    // A refusal tells the first of these: length, non-ASCII byte, what is wrong with the first wrong line. Memory is
+    // refused only past the first two.
     ensures refused { IfErr result (spec.IsRefused layout.now text.now) }
 {
     if text.len() > LONGEST {

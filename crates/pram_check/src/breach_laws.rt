@@ -10,16 +10,18 @@ ghost use Rattle.pram_check.specs.Faults.{faults, offsets_in, IsAccepted, IsLeas
 /// A tree is accepted exactly if no breach is told of it.
 #[tactic(auto, using(crate::proofs::ProgramFaults::nothing_told))]
 pub fn breaches_are_told_where_faults_are()
+    // Nothing is wrong with a tree exactly where no refusal is told of it.
     ensures exactly { (tree : ProgramTree) → IsAccepted tree ↔ (breaches tree ≡ []) }
 {}
 
 /// A refusal stands at the first place of the text where anything is wrong, and tells what has the
 /// lowest number of all that is wrong there. Nothing is wrong with an accepted program.
 pub fn first_breach_is_least()
-    // The first breach is the least of all faults, and where there is none there is no fault.
+    // A refusal stands at the first place where anything is wrong, with the lowest number of what is wrong there;
+    // without one nothing is wrong.
     ensures least { (text : List ℕ) (tree : ProgramTree) → IsTextOf text tree →
         MatchOption (first (breaches tree)) (faults tree ≡ []) (IsLeast (length text) (faults tree)) }
-    // The breaches stand in the order of the text, one at a place.
+    // What is told of a tree stands in the order of the text, one thing at a place.
     ensures ascend { (text : List ℕ) (tree : ProgramTree) → IsTextOf text tree →
         IsStrictlyIncreasing (offsets_in (length text) (breaches tree)) }
 {}

@@ -44,10 +44,15 @@ impl Model for Program {
 /// where memory was refused (E16).
 #[tactic(auto, using(crate::proofs::ProgramFaults::accepted))]
 pub fn check(alloc: Global, tree: Tree) -> Result<Program, (CheckFault, Tree)>
+    // The program's tree is the one that was given.
     ensures tree { IfOk result (λ p. p.tree ≡ tree) }
+    // A program is made only of a tree in which nothing is wrong.
     ensures accepted { IfOk result (λ p. IsAccepted tree) }
+    // The program says what its tree says.
     ensures says { IfOk result IsResolved }
+    // The refusal is the first thing that is wrong with the tree, or memory was refused.
     ensures refused { IfErr result (λ e. Tells (breaches tree) e.0) }
+    // The refused tree is given back as it was.
     ensures kept { IfErr result (λ e. e.1 ≡ tree) }
 {
     match resolve(alloc, &tree) {
@@ -59,6 +64,7 @@ pub fn check(alloc: Global, tree: Tree) -> Result<Program, (CheckFault, Tree)>
 impl Program {
     /// The same program under another rule. Whether a program is accepted doesn't depend on its rule.
     pub fn under(self, rule: Rule) -> Program
+        // The program is the same but for its rule, in its tree too, and so accepted.
         ensures value { result ≡ under rule self }
     {
         let Program { tree, parts } = self;
@@ -71,8 +77,9 @@ impl Program {
     /// The tree that was checked.
     pub fn tree(&self) -> &Tree
         ensures tree { result.now ≡ self.now.tree }
-        // Every program is accepted, and says what its tree says.
+        // Nothing is wrong with the tree of a program.
         ensures accepted { IsAccepted self.now.tree }
+        // Every program says what its tree says.
         ensures says { IsResolved self.now }
     {
         &self.tree
@@ -82,6 +89,8 @@ impl Program {
     /// eight shared reads, statements nest at most 64 deep, and there is no more of it than there
     /// are tokens in its text.
     pub fn bounded(&self)
+        // Names are declared for their use, statements have at most eight shared reads and 64 levels, and the program's
+        // size is at most its count of tokens, at most 16,384.
         ensures bounded { IsBounded self.now }
     {
         let _count = self.tree.token_count();

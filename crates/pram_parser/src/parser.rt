@@ -58,7 +58,7 @@ fn program(alloc: Global, tokens: &[Token]) -> Result<(Parts, &[Token]), ParseEr
 /// stands before it or at it. `ParseError::OutOfMemory` says that memory was refused.
 pub fn parse_tokens(alloc: Global, tokens: &[Token]) -> Result<Tree, ParseError>
     requires real { AreReal tokens.now }
-    // The tree stands in the grammar, within the limits of nesting.
+    // The tree stands in the grammar, nested at most 64 deep.
     ensures stands { IfOk result (λ tree. IsTree limit limit tree) }
     // Its tokens are the ones that were given.
     ensures found { IfOk result (λ tree. tokens.now ≡ program_tokens tree) }

@@ -43,14 +43,14 @@ fn lex_fault(fault: LexError) -> TextFault
 /// `TextFault::OutOfMemory` (E16) says that memory was refused. It is asked for only where the
 /// text is neither too long nor has a byte of 128 or more.
 pub fn parse(alloc: Global, text: &[u8]) -> Result<Tree, TextFault>
-    // The tree is that of the text.
+    // The tree is that of the text, by the grammar.
     ensures found { IfOk result (λ tree. spec.IsTextOf text.now tree) }
-    // Whatever tree the text is that of, that tree is the answer, unless memory was refused: no
-    // text has two trees, and no text of a tree is refused.
+    // If the text has a tree by the grammar, that tree is the answer, unless memory was refused.
     ensures only { (tree : ProgramTree) → spec.IsTextOf text.now tree → spec.IsAnswer tree result }
-    // A text that is too long is told so, memory or not, and no other is.
+    // TextTooLong is answered exactly for a text of more than 1,048,576 bytes.
     ensures too_long { (result ≡ Err TextTooLong) ↔ (longest < length text.now) }
-    // A refusal is right, and stands where it should. That of memory is of a plain text.
+    // A refusal tells the first of these at its offset: length, non-ASCII byte, non-token, token continuing no program
+    // or opening level 65. Memory is refused only past the first two.
     ensures refused { spec.IsFaultOf text.now result }
 {
     if text.len() > LONGEST {

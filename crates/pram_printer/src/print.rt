@@ -303,6 +303,7 @@ impl<'a, W: Out> Printer<'a, W> {
 ///
 /// `WriteFault` (E17) says that the writer failed. What it took is a beginning of the spelling.
 pub fn print_tree<W: Out>(tree: &Tree, out: &mut W) -> Result<(), WriteFault>
+    // The tree's one spelling is written, all of it, or a beginning of it and then the writer failed.
     ensures written { Writes (W.Out.state out.old) (W.Out.state out.new)
         (spelling (program_tokens tree.now)) result }
 {
@@ -315,5 +316,6 @@ pub fn print_tree<W: Out>(tree: &Tree, out: &mut W) -> Result<(), WriteFault>
 /// What `print_tree` writes is the text of a program that is the same tree but for offsets and
 /// lines. So `parse` finds that tree, unless memory is refused.
 pub fn printing_reads_back()
+    // A tree's spelling of at most 1,048,576 bytes is the text of the same tree, but for offsets and lines.
     ensures reads_back { PrintingReadsBack }
 {}

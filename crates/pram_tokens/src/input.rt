@@ -98,14 +98,15 @@ fn numbers(alloc: Global, text: &[u8]) -> Result<Vec<i64>, LexError>
 /// such number `TextFault::BadToken` (E3), with the offset of its first byte.
 /// `TextFault::OutOfMemory` (E16) says that memory was refused.
 pub fn read_input(alloc: Global, text: &[u8]) -> Result<Vec<i64>, TextFault>
-    // The answer is the numbers of the words, in their order.
+    // The answer is the numbers of the text's words, in order.
     ensures found { IfOk result (λ values. spec.IsInputOf text.now values.items) }
     // Whatever numbers the words are, those are the answer, unless memory was refused.
     ensures only { (values : List ℤ) →
         spec.IsInputOf text.now values → spec.AreAnswer (λ found. found.items) values result }
-    // A text that is too long is told so, memory or not, and no other is.
+    // TextTooLong is answered exactly for a text of more than 1,048,576 bytes.
     ensures too_long { (result ≡ Err TextTooLong) ↔ (longest < length text.now) }
-    // A refusal is right, and stands where it should. That of memory is of a plain text.
+    // A refusal tells the first of these at its offset: length, non-ASCII byte, word that is no number of 64 bits.
+    // Memory is refused only past the first two.
     ensures refused { spec.IsInputFault text.now result }
 {
     if text.len() > LONGEST {

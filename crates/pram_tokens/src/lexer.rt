@@ -201,7 +201,7 @@ pub fn tokenize(alloc: Global, text: &[u8]) -> Result<(Vec<Token>, Vec<u32>), Le
     ensures cut { scanning.Finds (λ found. scanning.cut found.0.items found.1.items) result (scanning.cut_of text.now) }
     // Each token has an offset.
     ensures even { IfOk result (λ found. length found.0.items ≡ length found.1.items) }
-    // Names are names, and numbers are not too large.
+    // Each name has the form of a name, and each number is at most 9223372036854775807.
     ensures real { IfOk result (λ found. AreReal found.0.items) }
 {
     let mut tokens = Vec::new(alloc);

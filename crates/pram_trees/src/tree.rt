@@ -139,6 +139,7 @@ impl Tree {
 
     /// The same tree under another rule: nothing else of it changes, the place of the rule's word included.
     pub fn under(self, rule: Rule) -> Tree
+        // The tree is the same but for its rule.
         ensures value { result ≡ tree_under rule self }
     {
         Tree { rule, ..self }

@@ -65,7 +65,8 @@ fn expanded(alloc: Global, sizes: &[Size], text: &[u8]) -> Result<Expanded, Size
 /// `SizeFault::OutOfMemory` (E16) says that memory was refused.
 pub fn expand(alloc: Global, text: &[u8], given: &[Size]) -> Result<Expanded, SizeFault>
     requires fits { length text.now ≤ longest }
-    // The answer is the expansion, or why there is none, unless memory was refused.
+    // The answer is the text's expansion by the given numbers, text and places, or why and where it first has none;
+    // unless memory was refused.
     ensures answers { Answers shown result (spec.expansion given.now text.now) }
 {
     let sizes = sizes_of(alloc, given, text)?;

@@ -15,7 +15,8 @@ use std::alloc::Global;
 /// A text of more than 1,048,576 bytes is `SizeFault::TooLong` (E2). `SizeFault::BadSize` (E19) stands at the first place of an expression
 /// that is wrong. `SizeFault::OutOfMemory` (E16) says that memory was refused.
 pub fn fill(alloc: Global, sizes: &[Size], text: &[u8]) -> Result<Vec<u8>, SizeFault>
-    // The answer is the text that is made of the pieces, or why there is none, unless memory was refused.
+    // The answer is the name with its braces' numbers put in, as in texts with sizes, or why and where that first
+    // fails; unless memory was refused.
     ensures answers { Answers (λ filled. filled.items) result (spec.filled sizes.now text.now) }
 {
     if text.len() > LONGEST {

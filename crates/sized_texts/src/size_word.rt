@@ -62,6 +62,8 @@ pub fn name_of(word: &str) -> &[u8]
 /// The size of a word `NAME=VALUE`, as of a command line: NAME is one or more letters, digits and `_`, and VALUE one or more digits of a
 /// number up to 9223372036854775807. `None`: the word has another form. The error is that memory was refused.
 pub fn read_size(alloc: Global, word: &str) -> Result<Option<Size>, AllocError>
+    // The answer is a size exactly where the word is one: a name, `=`, and digits of a number up to
+    // 9223372036854775807, which is its value.
     ensures read { IfOk result (spec.IsSizeOf word.now) }
 {
     let (name, rest) = split_name(word.as_bytes());

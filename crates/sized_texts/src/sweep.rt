@@ -55,6 +55,8 @@ fn sizes_of(alloc: Global, text: &str) -> Result<Option<Vec<u64>>, AllocError>
 /// so on, as long as they are at most B. There A is at most B, F at least 2 and then A at least 1, S at least 1. There are at most 1,000
 /// sizes, and each number is at most 9223372036854775807. `None`: the word has another form. The error is that memory was refused.
 pub fn read_sweep(alloc: Global, word: &str) -> Result<Option<Sweep>, AllocError>
+    // The answer is a sweep exactly where the word is one: a name, `=`, and numbers or a range, whose sizes are just
+    // those, 1,000 at most.
     ensures read { IfOk result (spec.IsSweepOf word.now) }
 {
     let Some((name, text)) = word.split_once('=') else {
