@@ -24,7 +24,10 @@ pub fn find_cycle<V: Watch>(
     bound: u32,
     watch: &mut V,
 ) -> Option<Cycle>
+    // Where a loop is told, the program on that input goes on within every bound: it never ends.
     ensures never { (cycle : Cycle) → result ≡ Some cycle → NeverEnds program.now input.now }
+    // The told loop is the run's: its `while` is tested twice, with the same cells and uniform variables, the second
+    // time the told number of statements later, one at least.
     ensures found { (cycle : Cycle) → result ≡ Some cycle → HasCycle program.now input.now cycle }
 {
     if input.len() > program.layout().cells() as usize {

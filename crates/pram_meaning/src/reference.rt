@@ -57,6 +57,7 @@ pub fn reference_run(
     input: &[i64],
     bound: u32,
 ) -> Result<Outcome, MeaningRefusal>
+    // The answer is the program's outcome on the input, within the bound, by the definition.
     ensures outcome { IfOk result (λ o. IsOutcome program.now input.now bound (verdict_of o)) }
     ensures fits { IfOk result (λ o. length input.now ≤ total_size program.now.layout) }
     ensures too_long { (result ≡ Err MeaningRefusal.InputTooLong) ↔ (total_size program.now.layout < length input.now) }

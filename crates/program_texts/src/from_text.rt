@@ -73,7 +73,10 @@ pub struct TextOutcome {
 /// The program of a text, with its names resolved. It is refused for E1 to E10, and for E16 where
 /// memory was refused.
 pub fn read_program(alloc: Global, text: &[u8]) -> Result<Program, Refusal>
+    // The program is that of the text, and so accepted.
     ensures program { IfOk result (IsProgramOf text.now) }
+    // Each refusal says what is wrong with the text; E16 comes only for a text that is neither too long nor has a
+    // non-ASCII byte.
     ensures refused { IsNoProgram text.now result }
 {
     let tree = parse(alloc, text)?;
@@ -93,12 +96,15 @@ pub fn mean_program(
     input: &[i64],
     bound: u32,
 ) -> Result<Outcome, Refusal>
-    // The verdict is the outcome of the program itself, whichever rule it is under.
+    // The answer is the program's outcome on an input that fits, by the definition, whichever rule it is under.
     ensures meaning { IfOk result (λ o. IsMeaningOf program.now input.now bound (verdict_of o)) }
+    // E11 is answered only where the input has more values than there are cells, and E16 only where it has not.
     ensures stopped { IfErr result (IsMeaningRefused program.now input.now) }
-    // So it is for each text that the program is of.
+    // The answer is the run of each text that the program is of.
     ensures outcome { IfOk result (λ o. (text : List ℕ) → IsProgramOf text program.now →
         IsRunOf text input.now bound program.now.layout (verdict_of o)) }
+    // For each text of the program, E11 says that the input has more values than cells; E16 comes only where the text
+    // is neither too long nor non-ASCII.
     ensures refused { (text : List ℕ) → IsProgramOf text program.now → IsRefusedRightly text input.now result }
 {
     let outcome = reference_run(alloc, program, input, bound)?;
@@ -113,7 +119,11 @@ pub fn meaning_of_text(
     input: &[i64],
     bound: u32,
 ) -> Result<TextOutcome, Refusal>
+    // The answer is the run of the text's accepted program on an input that fits, within the bound, by the definition
+    // alone.
     ensures outcome { IfOk result (λ r. IsRunOf text.now input.now bound r.layout (verdict_of r.outcome)) }
+    // Each refusal is right: of the text, or E11 where the input has more values than cells; E16 only for a text
+    // neither too long nor with a non-ASCII byte.
     ensures refused { IsRefusedRightly text.now input.now result }
 {
     let program = read_program(alloc, text)?;

@@ -18,6 +18,8 @@ use write_rules::{Fault, Outcome};
 /// cells, as `s = 7` or `a[1..4] = 4 3 2 1`; at a fault a line as `fault read-conflict a[1] line 4`;
 /// and `goes on` where the bound was met. The error is that the writer failed (E17).
 pub fn show<W: Out>(layout: &Layout, outcome: &Outcome, out: &mut W) -> Result<(), WriteFault>
+    // The outcome's text is written, or a beginning before the writer failed: each output item, then every cell's
+    // value, or the fault's kind, place and line, or `goes on`.
     ensures written { Writes (W.Out.state out.old) (W.Out.state out.new) (shown.shown layout.now (verdict_of outcome.now)) result }
 {
     match outcome {

@@ -77,6 +77,8 @@ impl<'a> From<WriteFault> for Stop<'a> {
 
 /// Writes the line that says why, or the text of the parser of command lines.
 pub fn write_stop<W: Out>(out: &mut W, stop: &Stop<'_>) -> Result<(), WriteFault>
+    // A refusal's line is written with its number, its name and its place, if it has one; or a beginning of it, and
+    // then the writer failed.
     ensures written { Writes (W.Out.state out.old) (W.Out.state out.new) (stop_text stop.now) result }
 {
     match stop {

@@ -126,10 +126,14 @@ pub fn compare_rules<V: Watch>(
     bound: u32,
     watch: &mut V,
 ) -> Result<UnderRules, MeaningRefusal>
-    // Each finding is that of the program's outcome under its rule.
+    // Each rule's outcome is told, faults with line and place; an end is `same` exactly if output and memory are those
+    // of the declared rule's end, or else the first.
     ensures comparison { IfOk result (IsComparison program input.now bound) }
+    // The shared declarations are the program's.
     ensures layout { IfOk result (λ c. c.layout ≡ program.layout) }
+    // There is a comparison only where the input has at most as many values as there are cells.
     ensures fits { IfOk result (λ c. length input.now ≤ total_size program.layout) }
+    // InputTooLong is answered exactly where the input has more values than there are cells.
     ensures too_long { (result ≡ Err MeaningRefusal.InputTooLong) ↔ (total_size program.layout < length input.now) }
 {
     let rule = program.rule();

@@ -70,6 +70,8 @@ fn write_line<W: Out>(out: &mut W, comparison: &UnderRules, rule: Rule) -> Resul
 /// the program ends under the rule that it declares, the line of that says so: `common ended same (declared)`.
 /// The error is that the writer failed (E17).
 pub fn show_comparison<W: Out>(comparison: &UnderRules, out: &mut W) -> Result<(), WriteFault>
+    // A line for each rule, in the order erew, crew, common, priority, sum, says how the program comes out; all is
+    // written, or a beginning before the writer failed.
     ensures written { Writes (W.Out.state out.old) (W.Out.state out.new) (comparison_text comparison.now) result }
 {
     for rule in RULES {

@@ -42,6 +42,8 @@ fn write_byte<W: Out>(out: &mut W, byte: u8) -> Result<(), WriteFault>
 /// Writes the name of a file, or a word of a command line, so that it ends no line and steers no terminal: a control byte as `\n` or
 /// `\x1b`, and every other byte as it is. The error is that the writer failed (E17).
 pub fn write_escaped<W: Out>(out: &mut W, name: &[u8]) -> Result<(), WriteFault>
+    // A name of a file or a word is written with each control byte escaped; or a beginning of that, and then the writer
+    // failed.
     ensures written { Writes (W.Out.state out.old) (W.Out.state out.new) (spec.escaped name.now) result }
 {
     for byte in name {
@@ -52,5 +54,6 @@ pub fn write_escaped<W: Out>(out: &mut W, name: &[u8]) -> Result<(), WriteFault>
 
 /// What is written of a name has no control byte: it stays on its line.
 pub fn names_stay_on_their_line()
+    // What is written of a name has no control byte, so it stays on its line.
     ensures { (name : List ℕ) → spec.HasNoControl (spec.escaped name) }
 {}
