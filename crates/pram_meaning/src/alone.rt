@@ -104,6 +104,7 @@ impl<'a> Interpreter<'a> {
         bounds(&view_of(self.program, run, &no_locals), low, high, trail)
     }
 
+    // The last index of the range is a number of 64 bits.
     fn try_range(
         &self,
         run: &Run,
@@ -114,7 +115,6 @@ impl<'a> Interpreter<'a> {
         requires { trail.old.items ≡ [] }
         ensures range { IsPair result trail.new.items
             (attempt_range self.now.program.now.procs (seen self.now.program.now (state_of run.now)) low.now high.now) }
-        // The last index is an i64.
         ensures fits { IfOk result (λ r. FitsSigned w64 (r.0 +ℤ pos (r.1 - 1))) }
     {
         let no_locals: Vec<i64> = Vec::new(self.alloc);
@@ -258,7 +258,7 @@ impl<'a> Interpreter<'a> {
         ensures heard { HasHeard result H.hears H.gives_up listener.old
             (range_moment self.now.program.now self.now.bound location low.now high.now (state_of run.old)) listener.new }
         ensures more { OnOk result (run.new.count ≡ run.old.count + 1) }
-        // The last index is an i64.
+        // The last index of the range is a number of 64 bits.
         ensures fits { IfOk result (λ r. FitsSigned w64 (r.0 +ℤ pos (r.1 - 1))) }
     {
         self.begin(run)?;

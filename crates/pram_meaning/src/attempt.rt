@@ -197,7 +197,7 @@ pub fn range(
 ) -> Result<(i64, u32), Failure>
     requires { trail.old.items ≡ [] }
     ensures range { IsPair result trail.new.items (attempt_range procs (view_is view.now) low.now high.now) }
-    // The last index is an i64.
+    // The last index of the range is a number of 64 bits.
     ensures fits { IfOk result (λ r. FitsSigned w64 (r.0 +ℤ pos (r.1 - 1))) }
 {
     let a = value_of(view, low, trail)?;

@@ -60,7 +60,7 @@ pub fn parse_tokens(alloc: Global, tokens: &[Token]) -> Result<Tree, ParseError>
     requires real { AreReal tokens.now }
     // The tree stands in the grammar, nested at most 64 deep.
     ensures stands { IfOk result (λ tree. IsTree limit limit tree) }
-    // Its tokens are the ones that were given.
+    // The tree's tokens are the ones that were given.
     ensures found { IfOk result (λ tree. tokens.now ≡ program_tokens tree) }
     // Whatever tree of the grammar has these tokens, that tree is the answer, unless memory was
     // refused: no tokens have two trees, and nothing of the grammar is refused.

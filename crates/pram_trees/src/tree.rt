@@ -183,7 +183,7 @@ impl Tree {
     /// The number of tokens of the program's text.
     pub fn token_count(&self) -> usize
         ensures value { result ≡ length (program_tokens self.now) }
-        // Every tree stands in the grammar within the limits.
+        // Every tree stands in the grammar, nested at most 64 deep.
         ensures stands { IsTree limit limit self.now }
     {
         self.count

@@ -25,7 +25,8 @@ pub fn number_by(
     expression: &[u8],
 ) -> Result<u64, SizeFault>
     requires fits { length text.now ≤ longest }
-    // The answer is the number of all of the expression, or why there is none, unless memory was refused.
+    // The answer is the number that all of the expression comes to by the text's sizes, or why there is none; unless
+    // memory was refused.
     ensures answers { Answers (λ v. v) result (spec.number_by given.now text.now expression.now) }
 {
     if expression.len() > LONGEST {
