@@ -38,6 +38,7 @@ test: $(PROGRAM)
 gate:
 	python3 gate/release.py check
 	python3 gate/crates.py
+	python3 gate/promises.py
 	python3 gate/definitions.py
 	python3 gate/walks.py
 	python3 gate/gallery.py

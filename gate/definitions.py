@@ -105,6 +105,7 @@ def main():
     sys.exit("\n".join(f"docs/BELIEVE.md: {it}" for it in wrong) or 0)
 
 
-main()
+if __name__ == "__main__":
+    main()
 
 
