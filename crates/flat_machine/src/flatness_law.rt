@@ -24,7 +24,12 @@ pub fn runs_agree()
 /// exchanges that the workers of every map make up to its outcome, each with its words, are for the same,
 /// one by one. So whoever counts the exchanges of code counts those of its workers.
 pub fn one_list_of_exchanges()
+    // Of any code, the exchanges of workers up to a verdict are for the same, one by one, as those of the run on one
+    // memory that comes to it.
     ensures same { ExchangesAreOne }
+    // The workers of a map make one list of exchanges, with their words, up to a verdict.
     ensures unique { ExchangesAreUnique }
+    // Of well-formed code the workers of every map make exchanges up to its outcome, and these are for what the code's
+    // list says.
     ensures workers { WorkersMakeListed }
 {}

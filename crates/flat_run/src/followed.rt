@@ -147,6 +147,8 @@ pub fn flat_exchanges(
     input: &[i64],
     bound: u32,
 ) -> Result<Vec<Exchange>, AllocError>
+    // They are the exchanges that the definition has for this run, in order, each with what it is for and whether
+    // anything is held there.
     ensures { IfOk result (λ all. exchanges_are all.items ≡ exchanges_of code.now bound input.now) }
 {
     let run = open(alloc, code, bound, input)?;

@@ -105,9 +105,11 @@ pub fn flat_run(
     input: &[i64],
     bound: u32,
 ) -> Result<Option<Outcome>, AllocError>
-    // Of well-formed code that is its outcome, and there is one.
+    // Of well-formed code it gives the outcome of the run on one memory, and there is one.
     ensures well_formed { IfOk result (λ found. IsWellFormed code.now → (v : Verdict) × (verdict_in found ≡ Some v)
         × IsFlatOutcome code.now input.now bound v) }
+    // Of any code it gives what the definition comes to within (bound + 1) * N instructions, N those of the code, and
+    // none where that is no outcome.
     ensures found { IfOk result (λ found. verdict_in found ≡ outcome_within code.now bound everywhere
         ((bound + 1) * length code.now.instructions) input.now) }
 {

@@ -16,11 +16,11 @@ ghost use Rattle.machine_examples.specs.SmallExamples.{vote_behind_fault, vote_b
 pub fn ranges_begin_anew()
     // The registers of a new range are 0.
     ensures fresh { IsBspOutcome three_turns (in_turn 2 2) [] 9 (Ended [] (pos 3 ∷ pos 6 ∷ [])) }
-    // Also where it follows another at once.
+    // So they are where a range follows another at once.
     ensures at_once { IsBspOutcome second_range (in_turn 1 1) (pos 9 ∷ []) 9 (Ended [] (pos 0 ∷ [])) }
-    // Behind its end nobody is active.
+    // Behind the end of a range nobody is active.
     ensures over { IsBspOutcome vote_behind (in_turn 1 1) [] 9 (Ended (pos 0 ∷ []) []) }
-    // One that is too wide is empty: nothing is written.
+    // A range that is too wide is empty, so nothing is written in it.
     ensures empty { AreBspExchanges wide_writes (in_turn 2 1) [] 9
         (Faulted (record { kind = TooWide; line = 1; place = All }) [])
         (record { purpose = Sends; sent = 0 ∷ []; received = 0 ∷ [] }
@@ -30,26 +30,30 @@ pub fn ranges_begin_anew()
 
 /// Processors that aren't active do nothing, and note no fault.
 pub fn inactive_processors_do_nothing()
-    // What is turned round are the processors that were active before the mask, and the others do nothing.
+    // A mask turns round the processors that were active before it, and the others do nothing.
     ensures turned { IsBspOutcome three_parts (in_turn 8 2) [] 9
         (Ended [] (pos 1 ∷ pos 1 ∷ pos 3 ∷ pos 4 ∷ pos 0 ∷ pos 0 ∷ pos 4 ∷ pos 4 ∷ [])) }
+    // A processor that isn't active and divides by zero notes no fault.
     ensures no_fault { IsBspOutcome inactive_division (in_turn 1 2) [] 9 (Ended [] []) }
 {}
 
 /// Which reads of one cell are no conflict under exclusive reads.
 pub fn reads_that_are_no_conflict()
-    // Two reads of one cell in one exchange are no conflict.
+    // Under exclusive reads two processors that read one cell by different reads of a statement have no conflict, on
+    // two workers.
     ensures apart { IsBspOutcome crossed_reads (in_turn 4 2) (pos 1 ∷ pos 2 ∷ []) 9
         (Ended [] (pos 1 ∷ pos 2 ∷ pos 12 ∷ pos 21 ∷ [])) }
+    // So it is on one worker.
     ensures apart_alone { IsBspOutcome crossed_reads (in_turn 4 1) (pos 1 ∷ pos 2 ∷ []) 9
         (Ended [] (pos 1 ∷ pos 2 ∷ pos 12 ∷ pos 21 ∷ [])) }
-    // All workers ask for the cell of a uniform read, and that is no conflict.
+    // A uniform read under exclusive reads is no conflict, though both workers ask for the cell.
     ensures uniform_read { IsBspOutcome (record uniform_puts { rule = Erew }) (in_turn 1 2) [] 9 (Ended (pos 7 ∷ []) (pos 7 ∷ [])) }
 {}
 
 /// A sum of what is written takes the place of the cell's old value.
 pub fn sums_replace_the_old_value()
-    // A put of a sum has four words.
+    // The sum of what four processors write takes the place of the cell's old value, and each worker's put has four
+    // words.
     ensures added { AreBspExchanges added_up (in_turn 1 2) (pos 5 ∷ []) 2 (Ended [] (pos 10 ∷ []))
         (record { purpose = Sends; sent = 4 ∷ 4 ∷ []; received = 8 ∷ 0 ∷ [] }
         ∷ record { purpose = Closes; sent = 0 ∷ 0 ∷ []; received = 0 ∷ 0 ∷ [] }
@@ -58,15 +62,17 @@ pub fn sums_replace_the_old_value()
 
 /// A loop by votes.
 pub fn votes_of_all_workers()
-    // A loop goes on as long as a processor of any worker is active.
+    // A loop on two workers goes on as long as a processor of any worker is active.
     ensures voted { IsBspOutcome counting_down (in_turn 4 2) [] 12 (Ended [] (pos 0 ∷ pos 2 ∷ pos 5 ∷ pos 9 ∷ [])) }
+    // So does a loop on three workers, with the same memory.
     ensures voted_by_three { IsBspOutcome counting_down (in_turn 4 3) [] 12 (Ended [] (pos 0 ∷ pos 2 ∷ pos 5 ∷ pos 9 ∷ [])) }
+    // Within 11 statements the loop's run goes on, which ends within 12.
     ensures bounded { IsBspOutcome counting_down (in_turn 4 2) [] 11 (GoesOn []) }
 {}
 
 /// A uniform write is one write.
 pub fn uniform_writes_are_made_once()
-    // A uniform write is made once, whatever the number of workers.
+    // A uniform write is made once: of two workers only one sends its four words.
     ensures once { AreBspExchanges uniform_puts (in_turn 1 2) (pos 1 ∷ []) 9 (Ended (pos 7 ∷ []) (pos 7 ∷ []))
         (record { purpose = Sends; sent = 4 ∷ 0 ∷ []; received = 4 ∷ 0 ∷ [] }
         ∷ record { purpose = Sends; sent = 1 ∷ 1 ∷ []; received = 2 ∷ 0 ∷ [] }
@@ -79,12 +85,15 @@ pub fn uniform_writes_are_made_once()
 /// Which exchanges tell a fault: a send and a vote in a later statement are the last exchange, a vote
 /// in the same statement isn't.
 pub fn exchanges_that_decide()
+    // A send in a statement behind one that faulted is the last exchange, and tells the fault.
     ensures by_a_send { AreBspExchanges send_behind_fault (in_turn 1 1) [] 9
         (Faulted (record { kind = DivideByZero; line = 1; place = All }) [])
         (record { purpose = Sends; sent = 0 ∷ []; received = 0 ∷ [] } ∷ []) }
+    // A vote in a statement behind one that faulted is the last exchange, and tells the fault.
     ensures by_a_vote { AreBspExchanges vote_behind_fault (in_turn 1 1) [] 9
         (Faulted (record { kind = DivideByZero; line = 1; place = Processor (pos 0) }) [])
         (record { purpose = Votes 0; sent = 0 ∷ []; received = 0 ∷ [] } ∷ []) }
+    // A vote in the statement that faults doesn't tell the fault, and the closing exchange does.
     ensures not_yet { AreBspExchanges vote_beside_fault (in_turn 1 1) [] 9
         (Faulted (record { kind = DivideByZero; line = 1; place = Processor (pos 0) }) [])
         (record { purpose = Votes 0; sent = 0 ∷ []; received = 0 ∷ [] }
@@ -95,6 +104,8 @@ pub fn exchanges_that_decide()
 /// A cell in conflict keeps its value, also for a read before the verdict: were it another than 7, a
 /// division by zero at a lower position would be told.
 pub fn a_cell_in_conflict_keeps_its_value()
+    // A cell with a write conflict keeps its value for a read before the verdict, so the conflict is the fault that is
+    // told.
     ensures { IsBspOutcome conflict_read (in_turn 1 2) (pos 7 ∷ []) 9
         (Faulted (record { kind = WriteConflict; line = 1; place = Cell 0 }) []) }
 {}
