@@ -87,6 +87,7 @@ pub fn write_comparison<W: Out>(
     cells: Option<u32>,
     comparison: &Comparison,
 ) -> Result<(), WriteFault>
+    // Exactly the text of this comparison is written, or a beginning of it and then a failure.
     ensures written { Writes (W.Out.state out.old) (W.Out.state out.new)
         (spec.comparison_text first.now second.now cells (found_is comparison.now)) result }
 {

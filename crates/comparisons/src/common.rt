@@ -72,6 +72,8 @@ pub fn common_ranges(
     first: &Layout,
     second: &Layout,
 ) -> Result<Vec<CommonRange>, AllocError>
+    // They are the cells of the declarations of one name and the same bounds in both programs, in the order of the
+    // first.
     ensures { IfOk result (λ ranges. ranges.items ≡ spec.common first.now second.now) }
 {
     let mut ranges = Vec::new(alloc);
@@ -98,6 +100,7 @@ fn named_with(first: &Layout, i: usize, second: &Layout, name: &[u8]) -> Option<
 
 /// The cells of the declaration of that name, where both programs have it with the same bounds.
 pub fn named_range(first: &Layout, second: &Layout, name: &[u8]) -> Option<CommonRange>
+    // It is that of the declaration of this name which both programs have with the same bounds, if they do.
     ensures { result ≡ spec.common_named first.now second.now name.now }
 {
     for i in 0..first.len() {
@@ -124,6 +127,7 @@ fn cells_before(layout: &Layout, number: usize) -> u32
 /// The cells of the declarations with which both programs begin, each of one name with the same bounds: these have the same numbers in
 /// both.
 pub fn front_cells(first: &Layout, second: &Layout) -> u32
+    // They are counted of the longest beginning that the declarations of both programs have in common.
     ensures { result ≡ spec.front_cells first.now second.now }
 {
     let most = first.len().min(second.len());

@@ -51,7 +51,11 @@ pub fn compare_two(
     input: &[i64],
     bound: u32,
 ) -> Result<Option<Difference>, ComparisonRefusal>
+    // It tells what differs first between the two runs: how they come out, an output item, a common cell, time or work
+    // above a limit; nothing where they agree.
     ensures difference { IfOk result (λ d. d ≡ difference_on first.now second.now compared.now bound input.now) }
+    // The input is refused exactly where a program has fewer cells than it has values, the first program before the
+    // second.
     ensures too_long { (side : rust.Side) → (result ≡ Err (ComparisonRefusal.InputTooLong side))
         ↔ (spec.too_long first.now second.now (length input.now) ≡ Some side) }
 {
@@ -97,8 +101,12 @@ pub fn compare_scope(
     bound: u32,
 ) -> Result<Comparison, ComparisonRefusal>
     requires few { length (inputs_of scope) < 2 ^ 64 }
+    // Over just the scope's inputs it tells on how many the programs come to the same, and the first on which they
+    // don't, as many as may be told.
     ensures found { IfOk result (λ r. found_is r ≡ found first.now second.now compared.now bound (spec.most_told scope.count)
         (inputs_of scope)) }
+    // The inputs are refused exactly where a program has fewer cells than they have values, the first program before
+    // the second.
     ensures too_long { (side : rust.Side) → (result ≡ Err (ComparisonRefusal.InputTooLong side))
         ↔ (spec.too_long first.now second.now scope.count ≡ Some side) }
 {
@@ -136,8 +144,12 @@ pub fn compare_inputs(
     inputs: &[Vec<i64>],
     bound: u32,
 ) -> Result<Comparison, ComparisonRefusal>
+    // Over just these inputs it tells on how many the programs come to the same, and the first on which they don't, as
+    // many as may be told.
     ensures found { IfOk result (λ r. found_is r ≡ found first.now second.now compared.now bound
         (spec.most_told (spec.longest (map values_of inputs.now))) (map values_of inputs.now)) }
+    // They are refused exactly where a program has fewer cells than the longest has values, the first program before
+    // the second.
     ensures too_long { (side : rust.Side) → (result ≡ Err (ComparisonRefusal.InputTooLong side))
         ↔ (spec.too_long first.now second.now (spec.longest (map values_of inputs.now)) ≡ Some side) }
 {
@@ -197,8 +209,11 @@ pub fn compare_drawn(
     bound: u32,
 ) -> Result<Comparison, ComparisonRefusal>
     requires seeds { drawing.seed + count < 2 ^ 64 }
+    // Over just the inputs that these seeds draw it tells on how many the programs come to the same, and the first on
+    // which they don't, as many as allowed.
     ensures found { IfOk result (λ r. found_is r ≡ found first.now second.now compared.now bound
         (spec.most_told cells) (drawn_inputs drawing.low drawing.high drawing.seed cells count)) }
+    // They are refused exactly where a program has fewer cells than are drawn, the first program before the second.
     ensures too_long { (side : rust.Side) → (result ≡ Err (ComparisonRefusal.InputTooLong side))
         ↔ (spec.too_long first.now second.now cells ≡ Some side) }
 {

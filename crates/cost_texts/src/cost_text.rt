@@ -21,6 +21,8 @@ pub fn write_cost<W: Out>(
     schedule: Option<u32>,
     out: &mut W,
 ) -> Result<(), WriteFault>
+    // Exactly the text of these costs is written, or a beginning of it and then a failure. The most exchanges and words
+    // stand there where the outcome is no fault.
     ensures written { Writes (W.Out.state out.old) (W.Out.state out.new)
         (spec.cost_text (verdict_of outcome.now) cost.now schedule) result }
 {

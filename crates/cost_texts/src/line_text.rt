@@ -33,6 +33,7 @@ fn write_line<W: Out>(out: &mut W, cost: &LineCost) -> Result<(), WriteFault>
 /// Writes what each of these lines costs, as `line 4 times 2 work 9 reads 8 writes 8`. The error is
 /// that the writer failed (E17).
 pub fn write_lines<W: Out>(lines: &[LineCost], out: &mut W) -> Result<(), WriteFault>
+    // Exactly the text of these lines' costs is written, or a beginning of it and then a failure.
     ensures written { Writes (W.Out.state out.old) (W.Out.state out.new) (spec.lines_text lines.now) result }
 {
     for cost in lines {

@@ -5,5 +5,6 @@ ghost use Rattle.drawn_inputs.specs.Drawn.{drawn};
 
 /// Fewer numbers are the first of more, by one seed from one interval.
 pub fn fewer_are_the_first_of_more()
+    // Fewer numbers of a seed from an interval are the first of more.
     ensures { (low high : ℤ) (seed few more : ℕ) → few ≤ more → drawn low high seed few ≡ take few (drawn low high seed more) }
 {}

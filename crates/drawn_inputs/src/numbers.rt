@@ -48,8 +48,11 @@ fn number(low: i64, high: i64, word: u64) -> i64
 /// So many numbers of the interval. A seed always draws the same ones, and fewer of them are the first of more. The error is that memory
 /// was refused.
 pub fn draw(alloc: Global, drawing: Drawing, count: u32) -> Result<Vec<i64>, AllocError>
+    // The numbers are those that the seed draws from the interval, always the same.
     ensures drawn { IfOk result (λ found. found.items ≡ spec.drawn drawing.low drawing.high drawing.seed count) }
+    // There are as many as are asked for.
     ensures count { IfOk result (λ found. length found.items ≡ count) }
+    // Each lies in the interval.
     ensures within { IfOk result (λ found. All (spec.IsWithin drawing.low drawing.high) found.items) }
 {
     let mut generator = Pcg32::new(drawing.seed, STREAM);

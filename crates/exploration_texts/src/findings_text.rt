@@ -107,6 +107,7 @@ pub fn write_findings<W: Out>(
     layout: &Layout,
     findings: &Findings,
 ) -> Result<(), WriteFault>
+    // Exactly the text of what is found is written, or a beginning of it and then a failure.
     ensures written { Writes (W.Out.state out.old) (W.Out.state out.new)
         (spec.findings_text layout.now (found_is findings.now)) result }
 {

@@ -124,7 +124,10 @@ pub fn explore<W: Watch>(
     watch: &mut W,
 ) -> Result<Findings, MeaningRefusal>
     requires few { length (inputs_of scope) < 2 ^ 64 }
+    // Over just the scope's inputs it tells how many runs end, fault and go on, the first faults, the first that goes
+    // on, and spans of time and work.
     ensures found { IfOk result (λ r. found_is r ≡ found program.now bound (inputs_of scope)) }
+    // The inputs are refused as too long exactly where they have more values than the program has cells.
     ensures too_long { (result ≡ Err MeaningRefusal.InputTooLong) ↔ (total_size program.now.layout < scope.count) }
 {
     if scope.count > program.layout().cells() {

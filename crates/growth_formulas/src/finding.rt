@@ -68,9 +68,13 @@ fn first_formula(table: &[Row]) -> Option<Formula>
 /// slower. Else, where each of three sizes or more is twice the one before, and the numbers grow by one step, that step. It claims nothing
 /// of other sizes.
 pub fn fit(table: &[Row]) -> Growth
+    // A formula that is told gives the table's number at each size, with at least two terms fewer than different sizes;
+    // a step is the difference at each doubling.
     ensures told { IsSo result table.now }
-    // The formula told is the first that may be told, and only where none may something else is told.
+    // Of formulas with 128-bit coefficients that explain the table and alone fit with their terms, the one with fewest,
+    // then slowest terms is told; something else only where none exists.
     ensures first { TellsFirst result table.now }
+    // Where nothing is told, no step of 128 bits is the table's difference at each doubling.
     ensures nothing { result ≡ Nothing → (step : ℤ) → FitsSigned w128 step → ¬ GrowsBy step table.now }
 {
     if let Some(formula) = first_formula(table) {

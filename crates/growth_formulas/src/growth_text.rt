@@ -179,6 +179,7 @@ pub fn write_growth<W: Out>(
     growth: &Growth,
     out: &mut W,
 ) -> Result<(), WriteFault>
+    // Exactly the text of this growth is written, or a beginning of it and then a failure.
     ensures written { Writes (W.Out.state out.old) (W.Out.state out.new)
         (spec.growth_text label.now variable.now growth.now) result }
 {

@@ -25,8 +25,11 @@ pub fn watched_run<V: Watch>(
     bound: u32,
     watch: &mut V,
 ) -> Result<Outcome, MeaningRefusal>
+    // The run that is looked at comes to the program's outcome on the input within the bound.
     ensures outcome { IfOk result (λ o. IsOutcome program.now input.now bound (verdict_of o)) }
+    // An input that is run has no more values than the program has cells.
     ensures fits { IfOk result (λ o. length input.now ≤ total_size program.now.layout) }
+    // The input is refused as too long exactly where it has more values than the program has cells.
     ensures too_long { (result ≡ Err MeaningRefusal.InputTooLong) ↔ (total_size program.now.layout < length input.now) }
 {
     if input.len() > program.layout().cells() as usize {

@@ -29,7 +29,9 @@ fn choices(apart: bool, wide: u128, place: u32) -> u128
 
 /// How many inputs a scope has, where 64 bits can count them.
 pub fn input_count(scope: Scope) -> Option<u64>
+    // A number that is told is that of the scope's inputs.
     ensures some { IfSome result (λ n. length (inputs_of scope) ≡ n) }
+    // None is told only where 64 bits can't count them.
     ensures none { IfNone result (2 ^ 64 ≤ length (inputs_of scope)) }
 {
     let wide = width(scope.low, scope.high);

@@ -22,6 +22,7 @@ pub struct Inputs {
 /// Before the first input of a scope: all are left.
 pub fn first_input(alloc: Global, scope: Scope) -> Result<Inputs, AllocError>
     ensures scope { IfOk result (λ r. r.scope ≡ scope) }
+    // At the first input all inputs of the scope are left, in order.
     ensures all { IfOk result (λ r. inputs_left r.scope r.over r.input.items ≡ inputs_of scope) }
 {
     let mut input = vec![in alloc; scope.low; scope.count as usize]?;
@@ -71,6 +72,7 @@ impl Inputs {
     pub fn advance(&mut self)
         requires here { self.old.over ≡ false }
         ensures same { self.new.scope ≡ self.old.scope }
+        // Behind the input at which one stands just the others that were left are left, in order.
         ensures left { inputs_left self.old.scope self.old.over self.old.input.items
             ≡ self.old.input.items ∷ inputs_left self.old.scope self.new.over self.new.input.items }
     {

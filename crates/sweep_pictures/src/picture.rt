@@ -89,6 +89,7 @@ pub fn write_sweep_picture<W: Out>(
     rows: &[SizeRow],
     out: &mut W,
 ) -> Result<(), WriteFault>
+    // Exactly the defined picture of these rows is written, or a beginning of it and then a failure.
     ensures written { Writes (W.Out.state out.old) (W.Out.state out.new) (spec.picture name.now rows.now) result }
 {
     write_drawn(name, rows.len(), drawn(rows), out)

@@ -11,8 +11,10 @@ ghost use Rattle.sweep_pictures.specs.Titles.{titled};
 
 /// Each row that is drawn has in the picture a mark with a title of its own size and time, and one with its own size and work.
 pub fn each_row_is_told()
+    // Each of the first 64 rows has its mark in the picture, with its size and its time.
     ensures time { (name : List ℕ) (rows : List SizeRow) (row : SizeRow) → Contains (drawn rows) row →
         StandsIn (titled name Time row) (picture name rows) }
+    // Each of the first 64 rows has its mark in the picture, with its size and its work.
     ensures work { (name : List ℕ) (rows : List SizeRow) (row : SizeRow) → Contains (drawn rows) row →
         StandsIn (titled name Work row) (picture name rows) }
 {}

@@ -154,6 +154,7 @@ fn write_names<W: Out>(name: &[u8], out: &mut W) -> Result<(), WriteFault>
 /// quotes, and quotes in it are doubled, so that every field is read back as it was. A line ends with `\n`. The error is that the writer
 /// failed (E17).
 pub fn write_sweep_csv<W: Out>(name: &[u8], rows: &[SizeRow], out: &mut W) -> Result<(), WriteFault>
+    // Exactly the table of these rows is written, with values between commas, or a beginning of it and then a failure.
     ensures written { Writes (W.Out.state out.old) (W.Out.state out.new) (spec.csv_text name.now rows.now) result }
 {
     write_names(name, out)?;

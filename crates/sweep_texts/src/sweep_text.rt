@@ -156,6 +156,7 @@ pub fn write_sweep<W: Out>(
     growths: &Growths,
     out: &mut W,
 ) -> Result<(), WriteFault>
+    // Exactly the lines of these rows and their growths are written, or a beginning of them and then a failure.
     ensures written { Writes (W.Out.state out.old) (W.Out.state out.new)
         (spec.sweep_text name.now rows.now growths.now) result }
 {

@@ -199,6 +199,8 @@ pub fn write_picture<W: Out>(
     outcome: &[u8],
     out: &mut W,
 ) -> Result<(), WriteFault>
+    // Exactly the defined picture of these exchanges is written, with their lines and the outcome's text, or a
+    // beginning of it and then a failure.
     ensures written { Writes (W.Out.state out.old) (W.Out.state out.new) (spec.picture lines.now outcome.now counts.now) result }
 {
     let measure = Measure {

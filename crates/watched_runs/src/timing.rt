@@ -21,6 +21,7 @@ pub fn bound_in_time<V: Watch>(
     milliseconds: u64,
     watch: &mut V,
 ) -> u32
+    // The bound that is found for a run in time is at most the one that is asked for.
     ensures { result ≤ bound }
 {
     if input.len() > program.layout().cells() as usize {
@@ -57,6 +58,7 @@ pub fn steps_bound_in_time<V: Watch>(
     milliseconds: u64,
     watch: &mut V,
 ) -> u32
+    // The bound that is found for a run told statement by statement is at most the one that is asked for.
     ensures { result ≤ bound }
 {
     let until = watch.elapsed().saturating_add(milliseconds);

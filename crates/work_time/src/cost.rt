@@ -59,23 +59,37 @@ pub fn cost_of<V: Watch>(
     watch: &mut V,
 ) -> Result<(Outcome, Cost), MeaningRefusal>
     requires some { 0 < schedule }
+    // The outcome is that of the program on the input within the bound.
     ensures outcome { IfOk result (λ r. IsOutcome program.now input.now bound (verdict_of r.0)) }
+    // An input that is run has no more values than the program has cells.
     ensures fits { IfOk result (λ r. length input.now ≤ total_size program.now.layout) }
+    // The input is refused as too long exactly where it has more values than the program has cells.
     ensures too_long { (result ≡ Err MeaningRefusal.InputTooLong) ↔ (total_size program.now.layout < length input.now) }
+    // The time is how many statements ran.
     ensures time { IfOk result (λ r. r.1.time ≡ spec.time (run_steps program.now input.now bound)) }
     // The time is at most the bound, and is the bound where the run goes on.
     ensures within { IfOk result (λ r. IsTimeWithin (verdict_of r.0) r.1.time bound) }
+    // The work is for each statement that ran one for each processor that executed it.
     ensures work { IfOk result (λ r. r.1.work ≡ spec.work (run_steps program.now input.now bound)) }
+    // The width is the most processors that executed a statement at once.
     ensures width { IfOk result (λ r. r.1.width ≡ spec.most_processors (run_steps program.now input.now bound)) }
+    // The reads are the shared reads of the run, without those of a statement that faults.
     ensures reads { IfOk result (λ r. r.1.reads ≡ spec.reads (run_steps program.now input.now bound)) }
+    // The writes are the shared writes of the run, without those of a statement that faults.
     ensures writes { IfOk result (λ r. r.1.writes ≡ spec.writes (run_steps program.now input.now bound)) }
+    // The bound on the supersteps of the run is told.
     ensures most_exchanges { IfOk result (λ r. r.1.most_exchanges ≡ exchange_bound program.now input.now bound) }
+    // For p workers, where given, the most words are 2r+kw+2pu+kv, for r reads and w writes inside pardo, u and v
+    // outside, and k words a write.
     ensures most_words { IfOk result (λ r. r.1.most_words ≡ communication.most_words program.now workers input.now bound) }
+    // The rounds are those in which the given number of processors does the work, statement by statement.
     ensures rounds { IfOk result (λ r. r.1.rounds ≡ spec.rounds schedule (run_steps program.now input.now bound)) }
+    // The most rounds are the work divided by the number of processors, rounded down, and the time.
     ensures most_rounds { IfOk result (λ r. r.1.most_rounds ≡ r.1.work / schedule + r.1.time) }
-    // Each line that ran, once, ascending.
+    // Each line that ran is told, once and in ascending order: how often it ran, and the work, the reads and the writes
+    // of its statements.
     ensures lines { IfOk result (λ r. r.1.lines.items ≡ spec.line_costs (run_steps program.now input.now bound)) }
-    // Brent's principle.
+    // The rounds are no more than the most rounds.
     ensures brent { IfOk result (λ r. r.1.rounds ≤ r.1.most_rounds) }
 {
     let (outcome, ledger, outer_reads) = run_whole(alloc, program, input, bound, schedule, watch)?;

@@ -7,6 +7,7 @@ ghost use Rattle.work_time.specs.Time.{GoesOnBeforeTheTime, GoingOnTakesTheBound
 /// Brent's scheduling principle: q processors need no more rounds for a run than its work divided by
 /// q, and its time.
 pub fn brents_principle()
+    // Any number of processors needs no more rounds for a run than its work divided by that number, and its time.
     ensures { BrentsPrinciple }
 {}
 
@@ -14,9 +15,13 @@ pub fn brents_principle()
 /// exactly where its time is at most that bound, and goes on within each smaller one.
 #[tactic(auto, using(crate::proofs::Timed::time_is_within_the_bound, crate::proofs::Timed::going_on_takes_the_bound))]
 pub fn time_keeps_to_the_bound()
+    // The time of a run is at most its bound.
     ensures within { TimeIsWithinTheBound }
+    // Where a run goes on, its time is the bound.
     ensures goes_on { GoingOnTakesTheBound }
+    // A program that ends or faults does so within a bound exactly where its time is at most that bound.
     ensures ends { TimeIsTheLeastBound }
+    // A program that ends or faults goes on within a bound exactly where its time is greater than that bound.
     ensures before { GoesOnBeforeTheTime }
 {}
 
