@@ -115,6 +115,8 @@ pub fn cause_on(
     parts: &[Part],
     key: Key,
 ) -> Result<Option<Cause>, AllocError>
+    // It is the defined cause of this fault of a set's statement in this state: why a processor's attempt fails, or the
+    // accesses that conflict.
     ensures { IfOk result (λ cause. known_cause cause ≡ spec.cause_on program.now (state_in run.now team.now.items)
         (step_action_is action.now) key (map part_is parts.now)) }
 {

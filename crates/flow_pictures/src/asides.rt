@@ -13,6 +13,8 @@ use subscript_reads::subscript_reads;
 /// Which shared reads of the statement of this entry stand in a subscript, read by read, in the order in which a processor makes them; for
 /// `Flow`. `AllocError`: memory was refused.
 pub fn asides_of(alloc: Global, program: &Program, entry: &Entry) -> Result<Vec<bool>, AllocError>
+    // It tells which of the shared reads of the entry's statement stand in a subscript, read by read in order of
+    // evaluation.
     ensures { IfOk result (λ aside. aside.items ≡ spec.asides_in program.now.body (entry_is entry.now)) }
 {
     subscript_reads(alloc, program, location_in(entry).offset)

@@ -177,6 +177,7 @@ impl Flow {
 
     /// What is drawn of all entries that came. `AllocError`: memory was refused.
     pub fn finish(self) -> Result<Drawing, AllocError>
+        // The picture of the drawing is the defined one of all entries that came.
         ensures drawn { IfOk result (λ d. (asides : entries.Entry → List Bool) (opening : List ℤ) (from to : ℕ) (es : List entries.Entry) →
             HasTaken asides opening from to es self →
             (layout : List SharedEntry) (text : List ℕ) (only : List CellSpan) →

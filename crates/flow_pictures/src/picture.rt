@@ -208,6 +208,8 @@ pub fn write_flow<W: Out>(
     only: &[CellSpan],
     drawing: &Drawing,
 ) -> Result<(), WriteFault>
+    // Exactly the defined picture of this drawing is written, of the chosen declarations, or a beginning of it and then
+    // a failure.
     ensures written { Writes (W.Out.state out.old) (W.Out.state out.new)
         (spec.picture layout.now text.now only.now (drawing_is drawing.now)) result }
 {

@@ -35,9 +35,14 @@ pub fn stream_flow<W: Out, V: Watch>(
     watch: &mut V,
     out: &mut W,
 ) -> Result<Outcome, StreamFailure>
+    // The outcome is that of the program on the input within the bound.
     ensures outcome { IfOk result (λ o. IsOutcome program.now input.now bound (verdict_of o)) }
+    // An input that is run has no more values than the program has cells.
     ensures fits { OnOk result (length input.now ≤ total_size program.now.layout) }
+    // The input is refused as too long exactly where it has more values than the program has cells.
     ensures too_long { (result ≡ Err StreamFailure.InputTooLong) ↔ (total_size program.now.layout < length input.now) }
+    // Exactly the defined picture of the flow of data in this run is written, or a beginning of it and then a failure;
+    // nothing where memory is refused.
     ensures written { HasStreamedFlow text.now program.now input.now bound only.now from to
         (W.Out.state out.old) (W.Out.state out.new) result }
 {

@@ -68,9 +68,14 @@ pub fn stream_json<W: Out, V: Watch>(
     watch: &mut V,
     out: &mut W,
 ) -> Result<Outcome, StreamFailure>
+    // The outcome is that of the program on the input within the bound.
     ensures outcome { IfOk result (λ o. IsOutcome program.now input.now bound (verdict_of o)) }
+    // An input that is run has no more values than the program has cells.
     ensures fits { OnOk result (length input.now ≤ total_size program.now.layout) }
+    // The input is refused as too long exactly where it has more values than the program has cells.
     ensures too_long { (result ≡ Err StreamFailure.InputTooLong) ↔ (total_size program.now.layout < length input.now) }
+    // Lines of JSON that say just the entries' facts are written; of some first entries a beginning where the writer
+    // failed, whole lines where memory was refused.
     ensures written { HasStreamedJson (W.Out.state out.old) (W.Out.state out.new)
         (steps_from program.now.layout program.now.tree source.now first last 1) (run_entries program.now input.now bound) result }
 {

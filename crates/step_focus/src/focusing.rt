@@ -101,6 +101,8 @@ fn tells(entry: &Entry) -> bool
 /// variables and the locals alone that bear one of them, and nothing that it printed; none, where it changed none of these. A fault is left
 /// as it is, but for the locals if these are not looked at. No memory is taken.
 pub fn focused(focus: &Focus<'_>, entry: Entry) -> Option<Entry>
+    // Where names are given, just a statement's changes that bear one of them are left, and nothing where there are
+    // none. A fault is always left.
     ensures { option_map entry_is result ≡ spec.focused focus.now (entry_is entry) }
 {
     if matches!(focus.names, Choice::All) {

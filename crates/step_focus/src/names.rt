@@ -76,6 +76,7 @@ fn undeclared_part<'a>(tree: &Tree, word: &'a str) -> Option<&'a str>
 /// The first part of the word, between its commas, that the program has no such name for: that of a shared declaration or of a uniform
 /// variable, or of a local or an index of one of its pardos. `None`: it has each, or the choice has no word.
 pub fn undeclared_name<'a>(tree: &Tree, names: Choice<'a>) -> Option<&'a str>
+    // It is the first of the given names that the program doesn't have, and none where it has all.
     ensures { option_map (λ part. part.now) result ≡ spec.undeclared_name tree.now names.entry }
 {
     match names {

@@ -36,10 +36,15 @@ pub fn steps_between<V: Watch>(
     last: usize,
     watch: &mut V,
 ) -> Result<(Outcome, Excerpt), MeaningRefusal>
+    // The outcome is that of the program on the input within the bound.
     ensures outcome { IfOk result (λ r. IsOutcome program.now input.now bound (verdict_of r.0)) }
+    // An input that is run has no more values than the program has cells.
     ensures fits { OnOk result (length input.now ≤ total_size program.now.layout) }
+    // The input is refused as too long exactly where it has more values than the program has cells.
     ensures too_long { (result ≡ Err MeaningRefusal.InputTooLong) ↔ (total_size program.now.layout < length input.now) }
+    // Just the entries whose numbers go from the one to the other are kept, in order.
     ensures entries { IfOk result (λ r. map entry_is r.1.entries.items ≡ between first last (run_entries program.now input.now bound)) }
+    // All entries of the run are counted.
     ensures whole { IfOk result (λ r. r.1.whole ≡ length (run_entries program.now input.now bound)) }
 {
     let window = Window {

@@ -58,7 +58,9 @@ pub fn fault_of<V: Watch>(
     bound: u32,
     watch: &mut V,
 ) -> Result<Option<Entry>, MeaningRefusal>
+    // It is the last entry of the run where that is a fault, and none where the run ends or goes on.
     ensures fault { IfOk result (λ r. option_map entry_is r ≡ run_fault program.now input.now bound) }
+    // The input is refused as too long exactly where it has more values than the program has cells.
     ensures too_long { (result ≡ Err MeaningRefusal.InputTooLong) ↔ (total_size program.now.layout < length input.now) }
 {
     if input.len() > program.layout().cells() as usize {

@@ -81,12 +81,18 @@ pub fn tell_run<T: Teller + Drop, V: Watch>(
     teller: T,
     watch: &mut V,
 ) -> (T, Result<Outcome, MeaningRefusal>)
+    // The outcome is that of the program on the input within the bound.
     ensures outcome { IfOk result.1 (λ o. IsOutcome program.now input.now bound (verdict_of o)) }
+    // An input that is run has no more values than the program has cells.
     ensures fits { OnOk result.1 (length input.now ≤ total_size program.now.layout) }
+    // The input is refused as too long exactly where it has more values than the program has cells.
     ensures too_long { (result.1 ≡ Err MeaningRefusal.InputTooLong) ↔ (total_size program.now.layout < length input.now) }
+    // Where there is an outcome, all entries of the run were told in order.
     ensures told { OnOk result.1 (T.tells teller (run_entries program.now input.now bound) result.0) }
+    // Where memory was refused or the entries were taken no more, a beginning of them was told.
     ensures part { result.1 ≡ Err MeaningRefusal.OutOfMemory →
         HasToldPart T.tells T.breaks_off teller (run_entries program.now input.now bound) result.0 }
+    // Of an input that is too long no entry was told.
     ensures untold { result.1 ≡ Err MeaningRefusal.InputTooLong → T.tells teller [] result.0 }
 {
     if input.len() > program.layout().cells() as usize {

@@ -32,18 +32,24 @@ pub fn steps_of(
     input: &[i64],
     bound: u32,
 ) -> Result<(Outcome, Vec<Entry>), MeaningRefusal>
+    // The outcome is that of the program on the input within the bound.
     ensures outcome { IfOk result (λ r. IsOutcome program.now input.now bound (verdict_of r.0)) }
+    // An input that is run has no more values than the program has cells.
     ensures fits { IfOk result (λ r. length input.now ≤ total_size program.now.layout) }
+    // The input is refused as too long exactly where it has more values than the program has cells.
     ensures too_long { (result ≡ Err MeaningRefusal.InputTooLong) ↔ (total_size program.now.layout < length input.now) }
+    // Entry k tells the k-th statement that ran: where it stands, each processor's reads and write, what changed and
+    // was printed; or its fault, why, and who met.
     ensures entries { IfOk result (λ r. map entry_is r.1.items ≡ run_entries program.now input.now bound) }
-    // The changes, applied in order to the opening memory, give the memory of the outcome.
+    // The changes, applied in order to the opening memory, give the memory of an outcome that has one.
     ensures memory { IfOk result (λ r. HasMemory (verdict_of r.0)
         (fold with_cells (opening program.now input.now).cells (map entry_is r.1.items))) }
     // The items that were printed, joined, are the output of the outcome.
     ensures output { IfOk result (λ r. items_of (map entry_is r.1.items) ≡ output_of (verdict_of r.0)) }
-    // The last entry is the fault exactly where the outcome is one, with a cause that has it, and no other is.
+    // The last entry is the fault exactly where the outcome is one, with a cause that has it, and no other entry is a
+    // fault.
     ensures last { IfOk result (λ r. HasItsFault program.now (verdict_of r.0) (map entry_is r.1.items)) }
-    // They are the time steps by which the run's cost is counted, one by one.
+    // The entries are the time steps by which the run's cost is counted, one by one.
     ensures steps { IfOk result (λ r. map step_of (map entry_is r.1.items) ≡ run_steps program.now input.now bound) }
 {
     let kept = Kept {

@@ -133,6 +133,8 @@ pub fn write_excerpt<W: Out>(
     from: usize,
     whole: usize,
 ) -> Result<(), WriteFault>
+    // Exactly the defined picture of this part of a run is written, by the program's text, or a beginning of it and
+    // then a failure.
     ensures written { Writes (W.Out.state out.old) (W.Out.state out.new)
         (spec.picture layout.now text.now (spec.part_of from whole) (map entry_is entries.now)) result }
 {
@@ -156,6 +158,8 @@ pub fn write_picture<W: Out>(
     from: usize,
     to: usize,
 ) -> Result<(), WriteFault>
+    // Exactly the defined picture of these entries is written, by the program's text, or a beginning of it and then a
+    // failure.
     ensures written { Writes (W.Out.state out.old) (W.Out.state out.new)
         (spec.picture_from layout.now text.now (map entry_is entries.now) from to) result }
 {

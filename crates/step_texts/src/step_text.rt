@@ -185,6 +185,8 @@ pub fn write_entry<W: Out>(
     number: usize,
     entry: &Entry,
 ) -> Result<(), WriteFault>
+    // Exactly the text of this entry is written, with its locals and its columns where these are asked for, or a
+    // beginning of it and then a failure.
     ensures written { Writes (W.Out.state out.old) (W.Out.state out.new)
         (line (spec.entry_text layout.now detail.now number (entry_is entry.now))) result }
 {
@@ -202,6 +204,8 @@ pub fn write_line<W: Out>(
     number: usize,
     entry: &Entry,
 ) -> Result<(), WriteFault>
+    // Exactly the entry's line is written, plainly or for a terminal, there beside its text shown without control bytes
+    // and coloured if asked, or a beginning and then a failure.
     ensures written { Writes (W.Out.state out.old) (W.Out.state out.new)
         (entry_line layout.now telling.now.manner telling.now.detail number (entry_is entry.now)) result }
 {

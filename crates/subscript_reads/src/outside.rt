@@ -130,6 +130,8 @@ pub fn subscript_reads(
     program: &Program,
     offset: u32,
 ) -> Result<Vec<bool>, AllocError>
+    // It tells which of the shared reads of the statement at this offset stand in a subscript, read by read in order of
+    // evaluation.
     ensures { IfOk result (λ all. all.items ≡ spec.statements_at offset program.now.body) }
 {
     let mut all = Vec::new(alloc);

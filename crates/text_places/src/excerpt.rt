@@ -119,6 +119,7 @@ pub fn write_excerpt<W: Out>(
     text: &[u8],
     at: usize,
 ) -> Result<(), WriteFault>
+    // Exactly the text of the place is written, its line and a caret below it, or a beginning of it and then a failure.
     ensures written { Writes (W.Out.state out.old) (W.Out.state out.new) (spec.excerpt name.now text.now at) result }
 {
     let place = place_of(text, at);
@@ -149,6 +150,7 @@ pub fn write_line_excerpt<W: Out>(
     text: &[u8],
     line: usize,
 ) -> Result<(), WriteFault>
+    // Exactly the text of the line's number and of the line is written, or a beginning of it and then a failure.
     ensures written { Writes (W.Out.state out.old) (W.Out.state out.new) (spec.line_excerpt name.now text.now line) result }
 {
     write_line_place(out, name, line)?;

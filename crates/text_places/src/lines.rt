@@ -37,6 +37,7 @@ fn first_line(text: &[u8]) -> &[u8]
 
 /// The bytes of the line of that number, counted from 1, without its line feed; none where there are not so many lines.
 pub fn line_text(text: &[u8], line: usize) -> &[u8]
+    // It is the text's line of this number, without the end of the line.
     ensures { result.now ≡ spec.line_text text.now line }
 {
     let mut rest = text;

@@ -42,6 +42,7 @@ pub(crate) fn front(text: &[u8], count: usize) -> &[u8]
 
 /// The place of the byte at an offset, and behind the last byte where there are no more.
 pub fn place_of(text: &[u8], at: usize) -> Place
+    // The place is the line and the column of the offset, both counted from 1.
     ensures value { result ≡ spec.place_of text.now at }
     ensures counted { 0 < result.column }
 {
