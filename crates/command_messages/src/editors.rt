@@ -44,6 +44,8 @@ pub fn write_for_editors<W: Out>(
     words: &[String],
     halted: &Halted<'_>,
 ) -> Result<(), WriteFault>
+    // Exactly that message's lines for editors are written, or the refusal's line where nothing is to say or memory was
+    // refused, or a beginning and then a failure.
     ensures written { (text : List ℕ)
         × spec.IsForEditors (map string_bytes words.now) halted.now.stop halted.now.about text
         × Writes (W.Out.state out.old) (W.Out.state out.new) text result }

@@ -48,6 +48,8 @@ pub fn message_for(
     words: &[String],
     halted: &Halted<'_>,
 ) -> Result<Message, AllocError>
+    // It is the message on why the call stops: of a word of the call by the option that doesn't take it, of anything
+    // else by its files.
     ensures { IfOk result
         (λ m. spec.IsMessageFor (map string_bytes words.now) halted.now.stop halted.now.about (message_is m)) }
 {

@@ -91,6 +91,7 @@ pub fn write_run_fault<W: Out>(
     fault: &Fault,
     reason: &Reason,
 ) -> Result<(), WriteFault>
+    // Exactly what is said of this fault and of its reason is written, or a beginning of it and then a failure.
     ensures written { Writes (W.Out.state out.old) (W.Out.state out.new)
         (spec.fault_diagnosis source.now layout.now fault.now (reason_is reason.now)) result }
 {

@@ -104,6 +104,8 @@ pub fn write_gnu_about<W: Out>(
     about: &About<'_>,
     message: &Message,
 ) -> Result<(), WriteFault>
+    // Exactly the message's lines for editors are written, by the file that the refusal is about, or a beginning of
+    // them and then a failure.
     ensures written { Writes (W.Out.state out.old) (W.Out.state out.new)
         (spec.gnu_about stop.now about.now (message_is message.now)) result }
 {

@@ -74,6 +74,8 @@ pub fn run_reason<V: Watch>(
     bound: u32,
     watch: &mut V,
 ) -> Option<Reason>
+    // It is the cause of the run's fault by its meaning, who met at its cell, and the element whose subscript is wrong,
+    // where it is that.
     ensures { IfSome result (λ reason. spec.reason_is reason ≡ spec.run_reason program.now input.now bound) }
 {
     let Ok(fault) = fault_of(alloc, program, input, bound, watch) else {

@@ -91,6 +91,8 @@ pub fn write_refused_line<W: Out>(
     stop: &Stop<'_>,
     about: &About<'_>,
 ) -> Result<(), WriteFault>
+    // Exactly the refusal's line is written, with the offset in the file from which the byte came, or a beginning of it
+    // and then a failure.
     ensures written { Writes (W.Out.state out.old) (W.Out.state out.new) (spec.stop_line stop.now about.now) result }
 {
     match refusal_as_it_stands(stop, about) {

@@ -289,6 +289,8 @@ fn remark_on(alloc: Global, stop: &Stop<'_>, about: &About<'_>) -> Result<Remark
 /// stand there, and of a name which one was meant. The message says nothing where nothing is known beside the line, as of a text that isn't
 /// at hand. The error is that memory was refused.
 pub fn message_of(alloc: Global, stop: &Stop<'_>, about: &About<'_>) -> Result<Message, AllocError>
+    // It is the message on this refusal: where it is and a sentence; of a name by the text's tree, of a token by the
+    // kinds that could stand there.
     ensures { IfOk result (λ m. spec.IsMessageOf stop.now about.now (message_is m)) }
 {
     let remark = remark_on(alloc, stop, about)?;
@@ -341,6 +343,8 @@ pub fn write_stop_diagnosis<W: Out>(
     stop: &Stop<'_>,
     about: &About<'_>,
 ) -> Result<(), WriteFault>
+    // Exactly the message is written, with the line of the file that it is about, or that memory for it was refused, or
+    // a beginning and then a failure.
     ensures written { (text : List ℕ) × spec.IsSaid stop.now about.now text
         × Writes (W.Out.state out.old) (W.Out.state out.new) text result }
 {

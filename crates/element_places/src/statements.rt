@@ -80,6 +80,8 @@ fn add_block(all: &mut Vec<u32>, at: u32, word: &[u8], body: &[Stmt]) -> Result<
 /// in which it comes to them: a subscript before its element, operands from left to right, and the element that is assigned last. No two
 /// statements begin at one offset. The error is that memory was refused.
 pub fn elements_at(alloc: Global, tree: &Tree, at: u32, word: &[u8]) -> Result<Vec<u32>, AllocError>
+    // They are the offsets at which the statement that begins there names elements of the array, in the order in which
+    // it comes to them.
     ensures { IfOk result (λ found. found.items ≡ spec.elements_at tree.now at word.now) }
 {
     let mut found = Vec::new(alloc);

@@ -74,6 +74,7 @@ fn explanation_of(subject: Subject) -> &'static [u8]
 /// Writes what there is to say of a subject: of a refusal or a fault what it is, something that has it, and the same mended; of a
 /// command what it is for, an example, and its options. The error is that the writer failed (E17).
 pub fn write_explanation<W: Out>(out: &mut W, subject: Subject) -> Result<(), WriteFault>
+    // Exactly the text of the subject is written, or a beginning of it and then a failure.
     ensures written { Writes (W.Out.state out.old) (W.Out.state out.new) (explanation subject) result }
 {
     out.write_all(explanation_of(subject))

@@ -198,7 +198,10 @@ fn word_of(subject: Subject) -> &'static str
 /// The subject that a word names, in small letters or capitals: the number of a refusal, `E1` to `E19`, `P1` or `P2`, the name of a
 /// fault, as `read-conflict`, a command, as `run`, or `language` or `options`. The empty word names everything. `None`: it names none.
 pub fn subject_of(word: &str) -> Option<Subject>
+    // A subject that is told has that word, in small letters or capitals: a refusal's number, a fault's or command's
+    // name, `language`, `options`, or the empty word for everything.
     ensures named { IfSome result (λ subject. Names word.now subject) }
+    // None is told only where the word names no subject.
     ensures none { result ≡ None → NamesNothing word.now }
 {
     'subjects: for i in 0..SUBJECTS.len() {

@@ -12,6 +12,7 @@ use std::alloc::{AllocError, Global};
 /// their line.
 pub fn push_line(alloc: Global, text: &mut String, facts: &Value) -> Result<(), AllocError>
     requires readable { IsReadable (view facts.now) }
+    // The facts stand behind the text as one line of compact JSON, and the reader's definition gives them back.
     ensures json { OnOk result (Adds (view facts.now ∷ []) (string_bytes text.old) (string_bytes text.new)) }
 {
     let json = facts.to_string(alloc)?;
@@ -22,6 +23,8 @@ pub fn push_line(alloc: Global, text: &mut String, facts: &Value) -> Result<(), 
 /// Facts as JSON, on a line.
 pub fn line_of(alloc: Global, facts: &Value) -> Result<String, AllocError>
     requires readable { IsReadable (view facts.now) }
+    // Facts without a float, nested no deeper than a reader takes, are one line of compact JSON, and the reader's
+    // definition gives them back.
     ensures json { IfOk result (λ text. IsJson (view facts.now ∷ []) (string_bytes text)) }
 {
     let mut text = String::new(alloc);

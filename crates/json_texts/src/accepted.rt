@@ -21,6 +21,7 @@ fn put_accepted(object: &mut Object, program: &Program) -> Result<(), AllocError
 
 /// That a program is accepted, on a line: `{"accepted":true,"cells":16,"procs":8,"rule":"erew"}`.
 pub fn json_accepted(alloc: Global, program: &Program) -> Result<String, AllocError>
+    // The line is exactly the facts of an accepted program, and read as JSON it is these facts again.
     ensures json { IfOk result (λ text. IsJson (spec.accepted_facts program.now ∷ []) (string_bytes text)) }
 {
     let mut object = Object::new(alloc);

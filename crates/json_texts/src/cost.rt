@@ -152,6 +152,7 @@ pub fn json_cost(
     schedule: Option<u32>,
     lines: bool,
 ) -> Result<String, AllocError>
+    // The line is exactly the facts of the costs and of the outcome, and read as JSON it is these facts again.
     ensures json { IfOk result
         (λ text. IsJson (spec.cost_facts layout.now (verdict_of outcome.now) cost.now schedule lines ∷ []) (string_bytes text)) }
 {

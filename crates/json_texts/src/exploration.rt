@@ -138,6 +138,8 @@ pub fn json_exploration(
     layout: &Layout,
     findings: &Findings,
 ) -> Result<String, AllocError>
+    // The line is exactly the facts of what is found on every input of a scope, and read as JSON it is these facts
+    // again.
     ensures json { IfOk result (λ text. IsJson (spec.exploration_facts layout.now (found_is findings.now) ∷ []) (string_bytes text)) }
 {
     let facts = exploration_value(alloc, layout, findings)?;

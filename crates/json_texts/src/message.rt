@@ -314,6 +314,8 @@ pub fn json_refusal(
     stop: &Stop<'_>,
     message: &Message,
 ) -> Result<String, AllocError>
+    // The line is exactly the facts of the refusal, of its message and of the places in the file, and read as JSON it
+    // is these again.
     ensures json { IfOk result (λ text. IsJson
         (spec.refusal_facts name.now source.now stop.now (message_is message.now) ∷ []) (string_bytes text)) }
 {

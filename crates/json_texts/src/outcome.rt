@@ -92,6 +92,8 @@ pub fn json_outcome(
     outcome: &Outcome,
     choice: Choice<'_>,
 ) -> Result<String, AllocError>
+    // The line is exactly the facts of the outcome and of the chosen declarations, and read as JSON it is these facts
+    // again.
     ensures json { IfOk result
         (λ text. IsJson (spec.chosen_facts choice.entry layout.now (verdict_of outcome.now) ∷ []) (string_bytes text)) }
 {

@@ -314,6 +314,8 @@ pub fn json_pair(
     cells: Option<u32>,
     comparison: &Comparison,
 ) -> Result<String, AllocError>
+    // The lines are exactly the facts of two programs on the same inputs, and read as JSON each line is these facts
+    // again.
     ensures json { IfOk result (λ text.
         IsJson (spec.pair_facts first.now second.now cells (found_is comparison.now)) (string_bytes text)) }
 {

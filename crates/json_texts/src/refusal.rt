@@ -202,6 +202,7 @@ pub(crate) fn put_stop(
 /// Why a call stops, on a line: `{"column":7,"line":4,"name":"UnknownName","offset":57,"refused":"E6"}`. The text is the one that was
 /// refused; where the refusal has no place in a text it makes no difference.
 pub fn json_stop(alloc: Global, source: &[u8], stop: &Stop<'_>) -> Result<String, AllocError>
+    // The line is exactly the facts of the refusal by itself, and read as JSON it is these facts again.
     ensures json { IfOk result (λ text. IsJson (spec.stop_facts source.now stop.now ∷ []) (string_bytes text)) }
 {
     let mut object = Object::new(alloc);

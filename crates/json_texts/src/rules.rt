@@ -94,6 +94,7 @@ fn comparison_value(alloc: Global, comparison: &UnderRules) -> Result<Value, All
 
 /// How a program comes out under each rule, on a line: `{"rules":[{"end":"same","outcome":"ended","rule":"erew"}, ..]}`.
 pub fn json_comparison(alloc: Global, comparison: &UnderRules) -> Result<String, AllocError>
+    // The line is exactly the facts of the program under each rule, and read as JSON it is these facts again.
     ensures json { IfOk result (λ text. IsJson (spec.comparison_facts comparison.now ∷ []) (string_bytes text)) }
 {
     let facts = comparison_value(alloc, comparison)?;

@@ -333,6 +333,8 @@ pub fn json_steps(
     first: usize,
     last: usize,
 ) -> Result<String, AllocError>
+    // The lines are exactly the facts of these entries and of the outcome, and read as JSON each line is these facts
+    // again.
     ensures json { IfOk result (λ text. IsJson
         (spec.steps_facts layout.now tree.now source.now (verdict_of outcome.now) (map entry_is entries.now) first last) (string_bytes text)) }
 {

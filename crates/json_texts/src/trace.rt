@@ -96,6 +96,8 @@ pub fn json_trace(
     cost: Option<u128>,
     outcome: &Outcome,
 ) -> Result<String, AllocError>
+    // The lines are exactly the facts of the run's exchanges, its outcome and their cost, and read as JSON each line is
+    // these facts again.
     ensures json { IfOk result
         (λ text. IsJson (spec.trace_facts lines.now cost counts.now (verdict_of outcome.now)) (string_bytes text)) }
 {

@@ -86,9 +86,14 @@ pub fn stream_page<W: Out, V: Watch>(
     watch: &mut V,
     out: &mut W,
 ) -> Result<Outcome, StreamFailure>
+    // The outcome is that of the program on the input within the bound.
     ensures outcome { IfOk result (λ o. IsOutcome program.now input.now bound (verdict_of o)) }
+    // An input that is run has no more values than the program has cells.
     ensures fits { OnOk result (length input.now ≤ total_size program.now.layout) }
+    // The input is refused as too long exactly where it has more values than the program has cells.
     ensures too_long { (result ≡ Err StreamFailure.InputTooLong) ↔ (total_size program.now.layout < length input.now) }
+    // Exactly a page of just this run's facts is written, with the state behind what is left out; a beginning where the
+    // writer failed, nothing where memory was refused.
     ensures written { HasStreamedPage (IsPageOfRun file.now text.now program.now input.now bound first last)
         (W.Out.state out.old) (W.Out.state out.new) result }
 {

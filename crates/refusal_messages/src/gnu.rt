@@ -254,6 +254,8 @@ pub fn write_gnu<W: Out>(
     message: &Message,
     code: &[u8],
 ) -> Result<(), WriteFault>
+    // Exactly the message's lines for editors are written, `FILE:LINE:COLUMN: error: .. [E6]` and notes behind it, or a
+    // beginning of them and then a failure.
     ensures written { Writes (W.Out.state out.old) (W.Out.state out.new)
         (spec.gnu_text name.now bytes.now (message_is message.now) code.now) result }
 {

@@ -106,6 +106,8 @@ pub fn write_message<W: Out>(
     bytes: &[u8],
     message: &Message,
 ) -> Result<(), WriteFault>
+    // Exactly the message is written, with its sentences and its places in the file, or a beginning of it and then a
+    // failure.
     ensures written { Writes (W.Out.state out.old) (W.Out.state out.new)
         (spec.message_text name.now bytes.now (spec.message_is message.now)) result }
 {

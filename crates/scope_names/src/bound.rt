@@ -98,6 +98,7 @@ fn seek_in_block<'a>(word: &[u8], body: &'a [Stmt], found: Option<Known<'a>>) ->
 
 /// The index of a pardo, or one of its locals, that is spelled so, wherever that pardo stands in a program: of several that of the last.
 pub fn bound_in<'a>(tree: &'a Tree, word: &[u8]) -> Option<Known<'a>>
+    // It is the index or the local of this spelling, of the last pardo that has one, wherever the pardo stands.
     ensures { option_map known_is result ≡ spec.bound_in tree.now word.now }
 {
     seek_in_block(word, tree.body(), None)

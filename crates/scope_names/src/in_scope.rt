@@ -181,6 +181,7 @@ fn reach_block<'a>(
 /// The names that are in scope at an offset of a program's text, in the order of their declaration: the declared names that stand before
 /// it, and where it stands in a pardo's locals or body, that pardo's index and those of its locals that stand before it.
 pub fn names_at<'a>(alloc: Global, tree: &'a Tree, at: u32) -> Result<Vec<Known<'a>>, AllocError>
+    // They are the names in scope at this offset, each with its line and as what it is declared.
     ensures { IfOk result (λ names. map spec.known_is names.items ≡ spec.names_at tree.now at) }
 {
     let mut declared = Vec::new(alloc);

@@ -60,6 +60,7 @@ fn find_in_block<'a>(at: u32, body: &'a [Stmt], found: &'a [Name]) -> &'a [Name]
 /// The locals of the pardo in which a statement stands that begins at this offset of a program's text, in the order of their declaration:
 /// those of the last pardo that begins there or before.
 pub fn locals_at<'a>(tree: &'a Tree, at: u32) -> &'a [Name]
+    // They are the locals of the pardo in which the statement at this offset stands.
     ensures { result.now ≡ spec.locals_at tree.now at }
 {
     find_in_block(at, tree.body(), &[])
@@ -68,6 +69,7 @@ pub fn locals_at<'a>(tree: &'a Tree, at: u32) -> &'a [Name]
 /// The name of the local of that number, counted from 0, of the pardo in which a statement stands that begins at this offset of a
 /// program's text. It is empty where there is no such local.
 pub fn local_name<'a>(tree: &'a Tree, at: u32, number: usize) -> &'a [u8]
+    // It is the name of the local of this number of the pardo in which the statement at this offset stands.
     ensures { result.now ≡ spec.local_name tree.now at number }
 {
     match locals_at(tree, at).get(number) {
@@ -79,6 +81,7 @@ pub fn local_name<'a>(tree: &'a Tree, at: u32, number: usize) -> &'a [u8]
 /// The name of the uniform variable of that number in the order of declarations, counted from 0. It is empty where there is no such
 /// variable.
 pub fn variable_name<'a>(tree: &'a Tree, number: usize) -> &'a [u8]
+    // It is the name of the uniform variable of this number.
     ensures { result.now ≡ spec.variable_name tree.now number }
 {
     let mut left = number;

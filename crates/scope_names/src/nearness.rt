@@ -18,6 +18,7 @@ fn is_same(a: &[u8], b: &[u8]) -> bool
 
 /// The first of some names that is spelled so.
 pub fn find<'a>(names: &[Known<'a>], word: &[u8]) -> Option<Known<'a>>
+    // It is the first of the names that is spelled so, and none where none is.
     ensures { option_map spec.known_is result ≡ near.named (map spec.known_is names.now) word.now }
 {
     for k in names {
@@ -82,6 +83,8 @@ pub fn nearest<'a>(
     names: &[Known<'a>],
     word: &[u8],
 ) -> Result<Option<Known<'a>>, AllocError>
+    // It is the name that is near to the word by its Levenshtein distance, and nearest of all, the first of equally
+    // near ones.
     ensures { IfOk result (λ k. option_map spec.known_is k ≡ near.nearest (map spec.known_is names.now) word.now) }
 {
     let mut best = None;

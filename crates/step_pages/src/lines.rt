@@ -167,6 +167,8 @@ impl KeptLines {
     /// Which lines stand in their page: all, if they have room, and else the last ones, that of the outcome among them, and as many of
     /// the first.
     pub fn kept(&self) -> Kept
+        // All lines are kept where they have room, else the longest end within half the room, or the last line alone,
+        // and the longest front beside it.
         ensures cut { (text : List ℕ) → Holds self.now text → IsCut text result.front (self.now.before + result.back) }
         ensures front_within { result.front ≤ length self.now.first.items }
         ensures back_within { result.back ≤ length self.now.last.items }

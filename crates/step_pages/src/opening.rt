@@ -153,6 +153,8 @@ pub fn opening_line(
     input: &[i64],
     statements: u64,
 ) -> Result<String, AllocError>
+    // The line is exactly the opening facts: file's name, text, rule, declarations, pardos with locals, input and
+    // number of statements; read as JSON it is them again.
     ensures json { IfOk result
         (λ line. IsJson (spec.opening_facts file.now text.now tree.now input.now statements ∷ []) (string_bytes line)) }
 {

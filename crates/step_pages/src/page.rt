@@ -63,6 +63,8 @@ pub fn write_page<W: Out>(
 ) -> Result<(), WriteFault>
     requires front_within { kept.front ≤ length lines.now.first.items }
     requires back_within { kept.back ≤ length lines.now.last.items }
+    // Exactly the defined page of the kept lines is written, with the state between them if it has at most 256,000
+    // bytes there, or a beginning and then a failure.
     ensures written { (text : List ℕ) → Holds lines.now text → Writes (W.Out.state out.old) (W.Out.state out.new)
         (spec.page text state.now kept.front (lines.now.before + kept.back)) result }
 {

@@ -27,6 +27,8 @@ fn write_letter<W: Out>(out: &mut W, byte: u8) -> Result<(), WriteFault>
 /// Writes bytes as a text of SVG: `&`, `<` and `>` as SVG has them, a tab as a blank, and any other byte that is no printed letter of ASCII
 /// as a question mark. The error is that the writer failed (E17).
 pub fn write_letters<W: Out>(out: &mut W, bytes: &[u8]) -> Result<(), WriteFault>
+    // Exactly the bytes' text of SVG is written, or a beginning and then a failure: `&`, `<` and `>` escaped, a tab as
+    // a blank, other unprintable bytes as `?`.
     ensures written { Writes (W.Out.state out.old) (W.Out.state out.new) (spec.letters bytes.now) result }
 {
     for byte in bytes {

@@ -251,6 +251,8 @@ fn hint_behind(
 /// the program has ended before. Nothing is said of a text that isn't made of tokens. The error is that memory was refused.
 pub fn hint_at(alloc: Global, text: &[u8], at: u32, found: &[Choice]) -> Result<Hint, AllocError>
     requires fits { length text.now ≤ longest }
+    // It is the defined hint; without another, a token is missing exactly if with it the program goes on over the one
+    // there, farther than with any other kind.
     ensures { IfOk result (spec.IsHint text.now at found.now) }
 {
     match tokenize(alloc, text) {

@@ -50,6 +50,7 @@ fn of_symbol(byte: u8) -> &'static [u8]
 /// What is said of a byte that begins no token, with the byte before it and the one behind it, or 0 where there is none: the word of the
 /// language for what other languages write so.
 pub fn stray_sentence(before: u8, byte: u8, next: u8) -> &'static [u8]
+    // It is exactly the sentence for a byte that begins no token, between these two bytes.
     ensures { result.now ≡ spec.stray_sentence before byte next }
 {
     if byte.is_ascii_digit() {

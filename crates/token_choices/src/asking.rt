@@ -85,7 +85,10 @@ fn choices_of(alloc: Global, tokens: &mut Vec<Token>) -> Result<Vec<Choice>, All
 /// stands that is no token; `LexError::OutOfMemory` that memory was refused. The parser is asked some forty times.
 pub fn choices_behind(alloc: Global, text: &[u8]) -> Result<Vec<Choice>, LexError>
     requires fits { length text.now ≤ longest }
+    // The kinds are exactly those of which a token could stand behind the text: with it the tokens begin some program
+    // within the limits of nesting.
     ensures found { IfOk result (λ found. spec.AreChoicesBehind text.now found.items) }
+    // A refusal for what is no token stands at the first such place.
     ensures refused { spec.IsRefusedFor text.now result }
 {
     let (mut tokens, _) = tokenize(alloc, text)?;

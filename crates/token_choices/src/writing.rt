@@ -67,6 +67,7 @@ fn write_listed<W: Out>(out: &mut W, choices: &[Choice]) -> Result<(), WriteFaul
 /// Writes kinds of tokens as a sentence goes on with them: `a name, a number or "("`, and of none `nothing more`. The error is that the
 /// writer failed (E17).
 pub fn write_choices<W: Out>(out: &mut W, choices: &[Choice]) -> Result<(), WriteFault>
+    // Exactly the text of these kinds is written, or a beginning of it and then a failure.
     ensures written { Writes (W.Out.state out.old) (W.Out.state out.new) (spec.choices_text choices.now) result }
 {
     if choices.is_empty() {
