@@ -275,9 +275,11 @@ pub fn find<'a, R: Threads + Wait + Sync, S: Sources, V: Watch + Gate + Sync>(
     sources: &mut S,
     watch: &mut V,
 ) -> Result<Found<'a>, Halted<'a>>
-    // It is of all that the files hold which the request names, within its bound, on its workers, by its map and with its reserve; where it
-    // is to be over in some seconds, within a bound that is at most that one, and that is named.
+    // What is found is of just what the named files hold, by the request's words: its sizes, input, rule, bound,
+    // workers, map, reserve, scope or second program.
     ensures found { IfOk result (Finds (S.Sources.holds sources.old) request.entry) }
+    // Nothing is found only where a word gives no size, a file can't be read, expanded or accepted, for just that, or
+    // this run is refused.
     ensures refused { IfErr result (Refuses (S.Sources.holds sources.old) request.entry) }
 {
     match request {

@@ -165,6 +165,8 @@ pub fn answer_in_json<
     out: &mut O,
     err: &mut E,
 ) -> Status
+    // Standard output has the lines of JSON whose facts tell what is found, or a beginning of them; standard error just
+    // a refusal's line, or that time was over.
     ensures leaves { LeavesJson (S.Sources.holds sources.old) (map string_bytes words.now) asked.entry
         (O.Out.state out.old) (O.Out.state out.new) (E.Out.state err.old) (E.Out.state err.new) result }
 {

@@ -10,6 +10,7 @@ const EXPLAIN_WORD: &str = "--explain";
 
 /// Whether one of the words asks that what is refused, and a fault, be explained.
 pub fn asks_to_explain(words: &[String]) -> bool
+    // Words ask for explanations exactly where one of them is `--explain`.
     ensures { result ≡ spec.asks_to_explain (map string_bytes words.now) }
 {
     for word in words {

@@ -26,6 +26,7 @@ fn asks_for(words: &[String], name: &str, both: &str) -> bool
 /// Whether the words ask for JSON: `json` stands right behind `--format` somewhere, or one of them is `--format=json`. So it is whatever
 /// else stands among them, also where the parser of command lines refuses them.
 pub fn asks_for_json(words: &[String]) -> bool
+    // Words ask for JSON exactly where `json` stands right behind `--format`, or one of them is `--format=json`.
     ensures { result ≡ spec.asks_for_json (map string_bytes words.now) }
 {
     asks_for(words, "json", "--format=json")

@@ -13,6 +13,9 @@ use std::alloc::Global;
 pub trait Reader {
     /// What the words ask for, or why they ask for nothing: P1, in the reader's words or by the word that is wrong, or E16.
     fn read<'a>(&self, alloc: Global, words: &'a [String]) -> Result<Request<'a>, Stop<'a>>
+        // The word for the version alone asks for it.
         ensures version { AsksForVersion (map string_bytes words.now) → result ≡ Ok Request.Version }
+        // Words are refused in their parser's words, by the word that is wrong, or for want of memory, and for nothing
+        // else.
         ensures refused { IfErr result IsOfWords };
 }

@@ -15,6 +15,7 @@ fn is_version_word(word: &str) -> bool
 
 /// Whether the words ask for the version, and for nothing else.
 pub fn asks_for_version(words: &[String]) -> bool
+    // Words ask for the version alone exactly where the one word is `--version` or `-V`.
     ensures { (result ≡ true) ↔ AsksForVersion (map string_bytes words.now) }
 {
     match words {

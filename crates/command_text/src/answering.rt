@@ -170,6 +170,8 @@ pub fn answer<'a, R: Threads + Wait + Sync, S: Sources, V: Watch + Gate + Sync, 
     out: &mut O,
     err: &mut E,
 ) -> Status
+    // Standard output has the one text that tells what is found, or a beginning of it; standard error just a refusal,
+    // an explanation or that time was over.
     ensures leaves { Leaves (S.Sources.holds sources.old) on (map string_bytes words.now) asked.entry
         (O.Out.state out.old) (O.Out.state out.new) (E.Out.state err.old) (E.Out.state err.new) result }
 {

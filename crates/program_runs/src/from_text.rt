@@ -51,16 +51,21 @@ pub fn run_program<R: Threads + Wait + Sync, G: Gate + Sync>(
     reserve: Option<Reserve>,
     gate: &G,
 ) -> Result<(Outcome, Counts), Refusal>
-    // The verdict is the outcome of the program itself, whichever rule it is under.
+    // The outcome is the program's by its meaning, whichever rule it is under.
     ensures meaning { IfOk result (λ found. IsMeaningOf program.now input.now options.bound (verdict_of found.0)) }
-    // The exchanges are those of its code, as many at most as its bound says where it doesn't fault.
+    // The exchanges are those of the program's code, as many at most as its bound where it doesn't fault, and within
+    // the reserve.
     ensures run { IfOk result (λ found. IsProgramRunWith program.now input.now options reserve (verdict_of found.0) found.1) }
+    // E13, E12 and E11 are answered only where they hold, in this order, and E18 only where the run comes past the
+    // reserve.
     ensures stopped { IfErr result (IsProgramRefusedWith program.now input.now options reserve) }
-    // So it is for each text that the program is of.
+    // The outcome is that of each text that the program is of.
     ensures outcome { IfOk result (λ found. (text : List ℕ) → IsProgramOf text program.now →
         IsRunOf text input.now options.bound program.now.layout (verdict_of found.0)) }
+    // The exchanges are those of each text that the program is of, and within the reserve.
     ensures exchanges { IfOk result (λ found. (text : List ℕ) → IsProgramOf text program.now →
         IsRunByWorkersWith text input.now options reserve (verdict_of found.0) found.1) }
+    // Each refusal is that of each text that the program is of, as its run would be refused.
     ensures refused { (text : List ℕ) → IsProgramOf text program.now → IsRunRefusedWith text input.now options reserve result }
 {
     have_64_bits(input);
@@ -79,16 +84,22 @@ pub fn outcome_of_program<R: Threads + Wait + Sync, G: Gate + Sync>(
     reserve: Option<Reserve>,
     gate: &G,
 ) -> Result<Outcome, Refusal>
+    // The outcome is the program's by its meaning, whichever rule it is under.
     ensures meaning { IfOk result (λ outcome. IsMeaningOf program.now input.now options.bound (verdict_of outcome)) }
-    // Its code was run so, and has exchanges, of which there are as many at most as the program's bound says where it doesn't fault.
+    // There are exchanges of the program's code up to it, as many at most as its bound where it doesn't fault, and
+    // within the reserve.
     ensures run { IfOk result (λ outcome. (exchanges : List Exchange)
         × IsProgramRunWith program.now input.now options reserve (verdict_of outcome) exchanges) }
+    // E13, E12 and E11 are answered only where they hold, in this order, and E18 only where the run comes past the
+    // reserve.
     ensures stopped { IfErr result (IsProgramRefusedWith program.now input.now options reserve) }
-    // So it is for each text that the program is of.
+    // The outcome is that of each text that the program is of.
     ensures outcome { IfOk result (λ outcome. (text : List ℕ) → IsProgramOf text program.now →
         IsRunOf text input.now options.bound program.now.layout (verdict_of outcome)) }
+    // Each text that the program is of has such exchanges, within the reserve.
     ensures exchanges { IfOk result (λ outcome. (text : List ℕ) → IsProgramOf text program.now →
         (exchanges : List Exchange) × IsRunByWorkersWith text input.now options reserve (verdict_of outcome) exchanges) }
+    // Each refusal is that of each text that the program is of, as its run would be refused.
     ensures refused { (text : List ℕ) → IsProgramOf text program.now → IsRunRefusedWith text input.now options reserve result }
 {
     have_64_bits(input);
@@ -136,10 +147,13 @@ pub fn run_text<R: Threads + Wait + Sync, G: Gate + Sync>(
     options: Options,
     gate: &G,
 ) -> Result<Report, Refusal>
-    // The outcome is that of the text's program on the input, within the bound.
+    // The text is that of an accepted program, the input fits, and the verdict is the program's outcome on it within
+    // the bound.
     ensures outcome { IfOk result (λ r. IsRunOf text.now input.now options.bound r.layout (verdict_of r.outcome)) }
-    // The exchanges are those of the program's code up to there, as many at most as its bound says where it doesn't fault.
+    // The exchanges are those of the text's code on so many workers with that map, as many at most as the program's
+    // bound where it doesn't fault.
     ensures exchanges { IfOk result (λ r. IsRunByWorkers text.now input.now options (verdict_of r.outcome) r.counts) }
+    // Each of E1 to E10, E13, E12 and E11 is answered only where it holds and nothing before it in this order does.
     ensures refused { IsRunRefused text.now input.now options result }
 {
     run_text_with(rt, alloc, text, input, options, None, gate)
@@ -158,9 +172,14 @@ pub fn run_text_reserved<R: Threads + Wait + Sync, G: Gate + Sync>(
     reserve: Reserve,
     gate: &G,
 ) -> Result<Report, Refusal>
+    // The text is that of an accepted program, the input fits, and the verdict is the program's outcome on it within
+    // the bound.
     ensures outcome { IfOk result (λ r. IsRunOf text.now input.now options.bound r.layout (verdict_of r.outcome)) }
-    // The exchanges are those of the program's code, which doesn't come past the reserve.
+    // The exchanges are those of the text's code on so many workers with that map, and it doesn't come past the
+    // reserve.
     ensures exchanges { IfOk result (λ r. IsRunByWorkersWith text.now input.now options (Some reserve) (verdict_of r.outcome) r.counts) }
+    // Each refusal is as without a reserve, or E18 where nothing else speaks against the run and it comes past the
+    // reserve.
     ensures refused { IsRunRefusedWith text.now input.now options (Some reserve) result }
 {
     let reserve = Some(reserve);

@@ -7,5 +7,7 @@ ghost use Rattle.program_runs.specs.Headline.{CompiledTextsMeanTheirPrograms};
 /// no other. That `run_workers` comes to the outcome of the machine's definition, whatever the map, is its own contract; so what it
 /// answers for such code is the program's outcome.
 pub fn compiled_texts_mean_their_programs()
+    // A verdict is the outcome of a text's code on the workers of any lawful map, for every input that fits and every
+    // bound, exactly when it is its program's.
     ensures { CompiledTextsMeanTheirPrograms }
 {}

@@ -123,7 +123,11 @@ pub fn run_code<R: Threads + Wait + Sync, G: Gate + Sync>(
     reserve: Option<Reserve>,
     gate: &G,
 ) -> Result<(Outcome, Counts), Refusal>
+    // The outcome and the exchanges are those of the machine of so many workers with that map, with the least power of
+    // two of places, within the reserve.
     ensures run { IfOk result (λ found. IsCodeRunWith code.now input.now options reserve (verdict_of found.0) found.1) }
+    // E13, E12 and E11 are answered only where they hold, in this order, E16 where none does, and E18 where only the
+    // reserve is passed.
     ensures refused { IfErr result (IsCodeRefusedWith code.now input.now options reserve) }
 {
     let (outcome, counts) = run_by_map(rt, alloc, code, input, options, reserve, true, gate)?;
@@ -191,11 +195,15 @@ pub fn outcome_of_code<R: Threads + Wait + Sync, G: Gate + Sync>(
     reserve: Option<Reserve>,
     gate: &G,
 ) -> Result<Outcome, Refusal>
+    // The outcome is that of the machine of so many workers with that map, which has exchanges up to it, within the
+    // reserve.
     ensures run { IfOk result (λ outcome. (exchanges : List Exchange)
         × IsCodeRunWith code.now input.now options reserve (verdict_of outcome) exchanges) }
-    // That is a run of the code whose registers are those that an instruction names.
+    // What is run is the code with just the registers that an instruction names.
     ensures packed { IfOk result (λ outcome. (packed : SuperstepCode) × IsPacked code.now packed × ((exchanges : List Exchange)
         × IsCodeRunWith packed input.now options reserve (verdict_of outcome) exchanges)) }
+    // E13, E12 and E11 are answered only where they hold, in this order, E16 where none does, and E18 where only the
+    // reserve is passed.
     ensures refused { IfErr result (IsCodeRefusedWith code.now input.now options reserve) }
 {
     match pack(alloc, code) {

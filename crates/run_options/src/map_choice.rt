@@ -18,7 +18,9 @@ pub enum MapChoice {
 /// The map that a word names: `identity`, or `affine:A,B` with two numbers, the factor and the shift. `None`: it names none. Whether there
 /// is such a map for a run's cells is another question.
 pub fn read_map(word: &str) -> Option<MapChoice>
+    // The map is the one that the word names: `identity`, or `affine:` and two such numbers.
     ensures named { IfSome result (Names word.now) }
+    // Each word that names a map is read as that.
     ensures found { (choice : Choice) → Names word.now choice → result ≡ Some choice }
 {
     if word == "identity" {

@@ -6,6 +6,7 @@ ghost use Rattle.run_options.specs.Numbers.{number_of};
 /// The number that a word is: one or more decimal digits, of a value below 2^32. Leading zeros may stand there; a sign may not. `None`:
 /// it is no such word.
 pub fn read_number(word: &str) -> Option<u32>
+    // A word is a number exactly where it is one or more digits with a value of 32 bits, and it is that number.
     ensures { result ≡ number_of word.now }
 {
     if word.is_empty() {

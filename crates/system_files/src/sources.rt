@@ -40,9 +40,14 @@ pub trait Sources {
 
     /// The bytes of a file, or a beginning of it where it has more than `most`, which has more than `most` too.
     fn read(&mut self, alloc: Global, name: &str, most: u32) -> Result<Vec<u8>, SourceFault>
+        // The bytes are all that the file of that name holds where they are no more than `most`, and else a beginning
+        // of it.
         ensures bytes { IfOk result (λ bytes. IsReadFrom (holds self.old name.now) most bytes.items) }
+        // A file is told as missing only where there may be none that can be read.
         ensures missing { result ≡ Err Missing → holds self.old name.now None }
+        // A file is told as a directory only where there may be none that can be read.
         ensures directory { result ≡ Err Directory → holds self.old name.now None }
+        // A file is told as unreadable only where there may be none that can be read.
         ensures unreadable { result ≡ Err Unreadable → holds self.old name.now None }
         ensures same { IsSame (holds self.new) (holds self.old) };
 

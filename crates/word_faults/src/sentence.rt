@@ -168,6 +168,7 @@ pub fn write_word_fault<W: Out>(
     wrong: Option<Given>,
     word: &str,
 ) -> Result<(), WriteFault>
+    // Exactly what is said of the word is written, or a beginning of it and then a failure.
     ensures written { Writes (W.Out.state out.old) (W.Out.state out.new) (spec.word_fault wrong word.now) result }
 {
     match wrong {

@@ -88,6 +88,8 @@ fn wrong_at(costs: bool, before: Option<Given>, word: &str, told: &str) -> Optio
 /// or behind the `=` in one word with it; of names that are to be shown or drawn it may be one of them. The first word is the command:
 /// `cost` takes other numbers of workers than those that run a program.
 pub fn wrong_option(words: &[String], told: &str) -> Option<Given>
+    // It is the first option of the call whose value the word is and that doesn't take it, and none where there is no
+    // such option.
     ensures { spec.IsWrong (map string_bytes words.now) told.now result }
 {
     let costs = tells_costs(words);

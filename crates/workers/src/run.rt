@@ -198,6 +198,8 @@ pub fn run_workers<R: Threads + Wait + Sync, M: AddressMap + Sync, G: Gate + Syn
 ) -> Result<(Outcome, Counts), RunRefusal>
     ensures refused { IfErr result (λ refusal. IsRefusal verified.now (M.shape map.now) workers input.now refusal) }
     ensures accepted { IfOk result (λ found. IsAccepted verified.now (M.shape map.now) workers input.now) }
+    // The outcome is that of the verified code by the machine's definition, on so many workers with this map, on the
+    // input and within the bound.
     ensures outcome { IfOk result (λ found. IsBspOutcome verified.now (M.shape map.now) input.now bound (verdict_of found.0)) }
     ensures counts { IfOk result (λ found. AreBspExchanges verified.now (M.shape map.now) input.now bound (verdict_of found.0) found.1) }
 {
