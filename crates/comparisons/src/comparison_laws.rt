@@ -26,7 +26,7 @@ pub fn every_input_is_counted()
 
 /// No input is told exactly where the programs come to the same on all of them. The first that is told is the first on which they don't.
 pub fn the_first_input_is_told()
-    // No input is told exactly where the programs come to the same on all of them.
+    // Where any input may be told, none is exactly where the programs come to the same on all of them.
     ensures none { (p q : Checked) (c : rust.Compared) (n most : ℕ) (inputs : List (List ℤ)) → 0 < most →
         ((found p q c n most inputs).told ≡ []) ↔ ((found p q c n most inputs).same ≡ length inputs) }
     // The first input that is told is the first on which they differ, with what differs there first.

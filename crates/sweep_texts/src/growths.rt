@@ -62,9 +62,9 @@ fn growth_of(alloc: Global, measure: Measure, rows: &[SizeRow]) -> Result<Growth
 /// How time and work grow with the size, where each of the runs ended; else nothing is told of either. What is told holds at the sizes of
 /// the rows, and is claimed of no others. The error is that memory was refused.
 pub fn growths_of(alloc: Global, rows: &[SizeRow]) -> Result<Growths, AllocError>
-    // Where every run ended, a growth that holds of the times at these sizes is told; else nothing.
+    // Where every run ended, what is told of the times at these sizes is so; else nothing is told.
     ensures time { IfOk result (λ growths. spec.IsToldOf growths.time (spec.table Time rows.now)) }
-    // Where every run ended, a growth that holds of the work at these sizes is told; else nothing.
+    // Where every run ended, what is told of the work at these sizes is so; else nothing is told.
     ensures work { IfOk result (λ growths. spec.IsToldOf growths.work (spec.table Work rows.now)) }
 {
     let time = growth_of(alloc, Measure::Time, rows)?;
