@@ -42,8 +42,12 @@ impl Affine {
     /// 1,048,576, or the multiplier is even.
     #[tactic(auto, using(crate::proofs::Faults::fault_more))]
     pub fn new(cells: u32, modules: u32, multiplier: u32, shift: u32) -> Result<Affine, MapFault>
+        // A map is made only of 1 to 32 modules, 2^e cells for e up to 20, and an odd multiplier, and places cells by
+        // multiplier and shift.
         ensures ok { IfOk result (λ m. IsWorkers modules × IsCells cells × IsOdd multiplier
             × Spreads (⟦<Affine as AddressMap>⟧.shape m) cells modules (affine cells multiplier shift)) }
+        // First a number of modules outside 1 to 32 is told, then a number of cells that is no power of two up to 2^20,
+        // or an even multiplier.
         ensures err { IfErr result (IsFault (IsCells cells × IsOdd multiplier) modules) }
     {
         let spread = Spread::new(cells, modules)?;

@@ -19,8 +19,11 @@ impl Identity {
     /// For that many cells and modules. `BadWorkers`: the modules are not 1 to 32. `BadMap`: the cells are no power of two from 1
     /// to 1,048,576.
     pub fn new(cells: u32, modules: u32) -> Result<Identity, MapFault>
+        // A map is made only of 1 to 32 modules and 2^e cells for e up to 20, and deals the cells to the modules in
+        // turn.
         ensures ok { IfOk result (λ m. IsWorkers modules × IsCells cells
             × Spreads (⟦<Identity as AddressMap>⟧.shape m) cells modules same) }
+        // First a number of modules outside 1 to 32 is told, then a number of cells that is no power of two up to 2^20.
         ensures err { IfErr result (IsFault (IsCells cells) modules) }
     {
         let spread = Spread::new(cells, modules)?;

@@ -29,5 +29,7 @@ pub trait AddressMap {
     fn cell(&self, module: u32, offset: u32) -> Option<u32>
         ensures { result ≡ cell_at (shape self.now) «module» offset };
 
+    // Each cell has one place, a module and an offset within that module's size, and each such place is that of one
+    // cell.
     ghost lawful: { (m : Self) → IsLawful (shape m) };
 }

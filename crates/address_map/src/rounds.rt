@@ -39,8 +39,12 @@ impl Rounds {
     /// shift is not from 1 to 31.
     #[tactic(auto, using(crate::proofs::Faults::fault_more, crate::proofs::RoundSteps::made_starts, crate::proofs::RoundSteps::made_goes))]
     pub fn new(cells: u32, modules: u32, rounds: &[(u32, u32)]) -> Result<Rounds, MapFault>
+        // A map is made only of 1 to 32 modules, 2^e cells for e up to 20, and at most eight rounds, each an odd
+        // multiplier and a shift.
         ensures ok { IfOk result (λ m. IsWorkers modules × IsCells cells × AreRounds rounds.now
             × Spreads (⟦<Rounds as AddressMap>⟧.shape m) cells modules (permutation.rounds cells rounds.now)) }
+        // First modules outside 1 to 32 are told, then bad cells, more than eight rounds, an even multiplier, or a
+        // shift outside 1 to 31.
         ensures err { IfErr result (IsFault (IsCells cells × AreRounds rounds.now) modules) }
     {
         let spread = Spread::new(cells, modules)?;

@@ -7,5 +7,7 @@ ghost use Rattle.bsp_verify.specs.Paths.{PathsAreSound};
 /// with another number of masks, or in the midst of another exchange. Between two marks the places
 /// rise.
 pub fn paths_are_sound()
+    // On control paths through well-formed code nothing named is missing, each instruction may stand there, at most 64
+    // masks and eight reads are held, and places rise between marks.
     ensures { PathsAreSound }
 {}

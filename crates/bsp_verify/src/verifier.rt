@@ -81,9 +81,14 @@ fn first_fault(alloc: Global, code: &Code) -> Option<VerifyFault>
 ///
 /// It takes one pass over the code, and a few bytes for each place.
 pub fn verify(alloc: Global, code: Code) -> Result<Verified, (VerifyFault, Code)>
+    // The verified code is the code that was given.
     ensures kept { IfOk result (λ verified. verified ≡ code) }
+    // Code that is accepted is well formed: its places can be given states such that every instruction is met.
     ensures accepted { IfOk result (λ verified. IsWellFormed code) }
+    // A refusal gives the code back.
     ensures given_back { IfErr result (λ e. e.1 ≡ code) }
+    // A refusal tells the least instruction that can't be met together with those before it, and the first reason
+    // against it; refused memory says nothing of the code.
     ensures refused { IfErr result (λ e. IsRefusal code e.0) }
 {
     match first_fault(alloc, &code) {

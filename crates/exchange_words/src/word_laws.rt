@@ -7,5 +7,7 @@ ghost use Rattle.exchange_words.specs.Laws.{AccessesBoundWords};
 /// uniform read, and three for each active processor of a private write and for a uniform write, or four where the rule is sum.
 /// This holds for every code, well formed or not, and whatever the verdict.
 pub fn accesses_bound_words()
+    // For every code and map, p workers send up to a verdict at most 2 words per active reader, 2p per uniform read,
+    // and 3 per writer, 4 under sum.
     ensures bound { AccessesBoundWords }
 {}

@@ -7,16 +7,22 @@ ghost use Rattle.flat_machine.specs.OneList.{ExchangesAreOne, ExchangesAreUnique
 /// workers and no messages: for every code, well formed or not, every input and every bound. So
 /// neither the outcome nor the kinds of the exchanges depend on the number of workers or on the map.
 pub fn workers_are_flat()
-    // Exchange by exchange.
+    // After any number of exchanges the workers' run has an outcome exactly if that on one memory has, and then the
+    // same, for every code and map.
     ensures outcomes { OutcomesAreSame }
+    // After any number of exchanges those of the workers are for what those of the run on one memory are for, for every
+    // code and map.
     ensures purposes { PurposesAreSame }
-    // Instruction by instruction.
+    // For every code and lawful map, 1 to 32 workers, a verdict is their outcome exactly if it is that of the run on
+    // one memory, instruction by instruction.
     ensures flat { WorkersAreFlat }
 {}
 
 /// The flat machine's run has the same outcomes exchange by exchange and instruction by instruction, for
 /// every code.
 pub fn runs_agree()
+    // On one memory a verdict is the outcome exchange by exchange exactly if it is the outcome instruction by
+    // instruction, for every code.
     ensures { RunsAgree }
 {}
 

@@ -7,10 +7,16 @@ ghost use Rattle.machine_limits.specs.Within.{MessagesAreReadBack, MessagesAreSh
 /// registers and cells and what was printed have values of 64 bits; and so have the output and the memory
 /// of its outcome. So it is of the run on one memory, whichever exchanges decide.
 pub fn values_fit()
+    // From an input of 64-bit values, all registers, cells and printed numbers have 64 bits at every moment of a run of
+    // any code by any map.
     ensures moments { ValuesFit }
+    // From an input of 64-bit values, the output and the memory of the outcome have values of 64 bits, for every code
+    // and map.
     ensures outcomes { OutcomesFit }
-    // On one memory, with the indices of the range's processors; and what writers leave in a cell.
+    // On one memory all registers, cells, indices and printed numbers have 64 bits after any number of instructions,
+    // whichever exchanges decide, for every code.
     ensures flat { FlatValuesFit }
+    // What writers leave in a cell that has a value of 64 bits has 64 bits, whatever is held for it.
     ensures written { WrittenValuesFit }
 {}
 
@@ -19,7 +25,12 @@ pub fn values_fit()
 /// indices have 64 bits, or a sum 128. So it is read back from its words. It has at most 11 of them for
 /// each processor that a worker can have, under `sum` 12.
 pub fn messages_fit()
+    // Every message of a run of verified code can be sent, also where memory is refused to workers.
     ensures sent { MessagesCanBeSent }
+    // Every message of a run of verified code is read back from its header and its words, also where memory is refused
+    // to workers.
     ensures read { MessagesAreReadBack }
+    // A message of verified code on p workers has besides its header at most 11 * ceil(procs / p) words, under the rule
+    // sum 12 * ceil(procs / p).
     ensures short { MessagesAreShort }
 {}

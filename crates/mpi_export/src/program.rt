@@ -11,6 +11,8 @@ use text_out::{Out, WriteFault};
 ///
 /// `WriteFault` (E17) says that the writer failed. What it took is a beginning of the program.
 pub fn write_program<W: Out>(code: &Code, out: &mut W) -> Result<(), WriteFault>
+    // What is written is a runtime, the same for all code, and the words of this code in tables, or a beginning of that
+    // where the writer fails.
     ensures written { Writes (W.Out.state out.old) (W.Out.state out.new) (c_text code.now) result }
 {
     let mut printer = Printer { out, failed: false };

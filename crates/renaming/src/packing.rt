@@ -60,7 +60,11 @@ fn packed(alloc: Global, code: &Code) -> Result<Code, AllocError>
 /// other private ones, and behind them the uniform ones that they name and that have no number yet. Its runs are those of the code. It takes
 /// a copy of the code and 256 KiB, and the pass of the verifier. The error comes where memory was refused.
 pub fn pack(alloc: Global, code: &Verified) -> Result<Verified, AllocError>
+    // The answer is the code, its registers numbered anew, one to one, with a private register for each that an
+    // instruction names and no other.
     ensures packed { IfOk result (IsPacked code.now) }
+    // The answer has the same outcomes by as many exchanges, on every map and within every bound, and its workers have
+    // printed as much before each.
     ensures alike { IfOk result (RunsAlike code.now) }
 {
     let left = packed(alloc, code.code())?;

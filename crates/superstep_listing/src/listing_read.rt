@@ -64,14 +64,15 @@ fn code_of(alloc: Global, text: &[u8]) -> Result<Code, ReadError>
 /// with its offset, and with the text's length where lines are missing.
 /// `ListingFault::OutOfMemory` (E16) says that memory was refused.
 pub fn read_listing(alloc: Global, text: &[u8]) -> Result<Code, ListingFault>
-    // The text is the listing of the code.
+    // The text is the one spelling of the answered code, which keeps the limits; so no code has two listings.
     ensures found { IfOk result (λ code. spec.IsListing text.now code) }
-    // Whatever code the text is the listing of, that code is the answer, unless memory was
-    // refused: no text is the listing of two codes, and no listing is refused.
+    // Any code of which the text is the listing is the answer, unless memory was refused; so no text is the listing of
+    // two.
     ensures only { (code : SuperstepCode) → spec.IsListing text.now code → spec.IsAnswer code result }
-    // A text that is too long is told so, memory or not, and no other is.
+    // The text is refused as too long exactly if it has more than 8,388,608 bytes, whether or not there is memory.
     ensures too_long { (result ≡ Err TextTooLong) ↔ (spec.longest < length text.now) }
-    // A refusal is right, and stands where it should.
+    // A bad listing is told at the first line with which no listing begins. Refused memory is told only of a text that
+    // isn't too long.
     ensures refused { spec.IsFaultOf text.now result }
 {
     if text.len() > LONGEST {

@@ -15,6 +15,7 @@ use text_out::{Out, WriteFault};
 ///
 /// `WriteFault` (E17) says that the writer failed. What it took is a beginning of the listing.
 pub fn write_listing<W: Out>(code: &Code, out: &mut W) -> Result<(), WriteFault>
+    // The spelling of the code is written, all of it, or a beginning where the writer fails.
     ensures written { Writes (W.Out.state out.old) (W.Out.state out.new) (spelling code.now) result }
 {
     let mut printer = Printer { out, failed: false };
@@ -26,6 +27,7 @@ pub fn write_listing<W: Out>(code: &Code, out: &mut W) -> Result<(), WriteFault>
 /// What `write_listing` writes, if it is short enough, is the listing of that code. So
 /// `read_listing` finds that code, unless memory is refused.
 pub fn writing_reads_back(code: &Code)
+    // The spelling of code, if it has at most 8,388,608 bytes, is a listing of that code.
     ensures reads_back { length (spelling code.now) ≤ longest → IsListing (spelling code.now) code.now }
 {
     let _instructions = code.instructions();

@@ -149,6 +149,7 @@ fn key_of(words: [u64; 4]) -> Key
 impl MessageHeader {
     /// Its four words. Those of a header that says nothing are 0.
     pub fn to_words(self) -> [u64; 4]
+        // The four words are those that the definition gives the header.
         ensures { result ≡ spec.header_words self }
     {
         let line = u64::from(line_of(self.key));
@@ -163,6 +164,7 @@ impl MessageHeader {
 
     /// The header that any four words are.
     pub fn from_words(words: [u64; 4]) -> MessageHeader
+        // Any four words are a header, the one that the definition reads in them.
         ensures { result ≡ spec.read_header words }
     {
         let bits = words[3];

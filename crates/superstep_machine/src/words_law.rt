@@ -8,22 +8,31 @@ ghost use Rattle.superstep_machine.specs.WordLaws.{EntriesOfWords, AskersOfWords
 
 /// The words of a message and its header give it back, at the module that it is for.
 pub fn words_read_back()
+    // A message that fits in words is given back, at the module that it is for, by its header and its words.
     ensures back { WordsReadBack }
 {}
 
 /// The messages of a worker are read back: always those of a vote and a close, and those of a send
 /// and a reply where its values fit in words.
 pub fn machine_words_read_back()
+    // A message of a send, by a worker whose values fit in words, is given back by its header and its words.
     ensures sent { SentIsReadBack }
+    // A message of a reply, by a worker whose values fit in words, is given back by its header and its words.
     ensures replied { RepliedIsReadBack }
+    // Every message of a vote is given back by its header and its words.
     ensures voted { VotedIsReadBack }
+    // Every message of a close is given back by its header and its words.
     ensures closing { ClosingIsReadBack }
 {}
 
 /// What the machine's definition makes of messages that are read from any headers and words, is what
 /// these words say: for the writers of a cell, and for those who ask for it.
 pub fn words_are_what_came()
+    // Of messages read from any headers and words, the writers of a cell come to what the words for the module say, the
+    // rest passed over.
     ensures entries { EntriesOfWords }
+    // Of messages read from any headers and words, whether none, one or more ask for a cell is what the words for the
+    // module say.
     ensures askers { AskersOfWords }
 {}
 
