@@ -7,8 +7,8 @@ ghost use Rattle.communication.specs.Law.{CostsTellCommunication, WorkBoundsComm
 /// shared writes inside pardo and u and v outside, as the run's costs count them; 4 in the place of each 3 where the
 /// rule is sum. That number is the one that `work_time::cost_of` tells for so many workers.
 pub fn work_bounds_communication()
-    // A faultless run of compiled code by p workers sends at most 2r+kw+2pu+kv words: r reads and w writes inside
-    // pardo, u and v outside, k words a write.
+    // Unless it faults, code on p workers sends at most 2r+kw+2pu+kv words for r reads and w writes inside pardo, u and
+    // v outside; k is 3, under sum 4.
     ensures words { WorkBoundsCommunication }
     // That number is the one that the program's costs tell for so many workers.
     ensures told { CostsTellCommunication }

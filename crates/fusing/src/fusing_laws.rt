@@ -13,13 +13,17 @@ ghost use Rattle.fusing.specs.Worked.{dividing, dividing_fused, writing, writing
 /// Well-formed code has exactly one fused code. Whether something is held at a place has one answer:
 /// each place is a successor of a lower one, which has left its state there.
 pub fn one_code_is_fused()
+    // Any two fused codes of one code are equal.
     ensures one { HasOneFusedCode }
+    // Well-formed code has a fused code.
     ensures any { HasAFusedCode }
 {}
 
 /// That code has the outcomes of the code on the workers of every map, and no other, and its
 /// exchanges but for the empty ones where it doesn't fault.
 pub fn fused_code_is_right()
+    // Fused code is well formed, with the code's header, no empty send, and its outcomes on every map; unless it
+    // faults, its other exchanges and words too.
     ensures right { FusedCodeFuses }
 {}
 

@@ -68,6 +68,8 @@ fn verified(alloc: Global, code: Code) -> Result<Verified, AllocError>
 /// no write is held. It is well formed. It fails for want of memory alone: each register, position
 /// and target of a jump has a number in a listing.
 pub fn lower(alloc: Global, program: &Program) -> Result<Verified, AllocError>
+    // The code is the one defined for the program, instruction for instruction, with its rule, processors and
+    // declarations.
     ensures form { IfOk result (λ code. code ≡ form_of true program.now) }
 {
     program.bounded();

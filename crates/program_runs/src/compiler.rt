@@ -17,7 +17,10 @@ use std::alloc::{AllocError, Global};
 /// the program's bound. E16 where memory was refused.
 #[tactic(auto, using(crate::proofs::Meant::means_program))]
 pub fn compile_program(alloc: Global, program: &Program) -> Result<Verified, AllocError>
+    // The answer is the program's one code: its plain form, fused.
     ensures code { IfOk result (λ code. IsCodeOf program.now code) }
+    // On every lawful map the code has the program's outcomes and, unless it faults, supersteps within the program's
+    // bound and words within those of its accesses.
     ensures meaning { IfOk result (λ code. IsFusedForm program.now code) }
 {
     program.bounded();
@@ -33,7 +36,11 @@ pub fn compile_program(alloc: Global, program: &Program) -> Result<Verified, All
 /// and nowhere else. It is refused for E1 to E10, and for E16 where memory was refused; so each
 /// text of an accepted program is compiled.
 pub fn compile(alloc: Global, text: &[u8]) -> Result<Verified, Refusal>
+    // The answer is the code of the text's accepted program, with the program's outcomes by every map, its supersteps
+    // and its words within the program's bounds.
     ensures code { IfOk result (IsCompiledFrom text.now) }
+    // Each refusal of a text says what is wrong with it; refused memory, only that it is neither too long nor has a
+    // byte of 128 or more.
     ensures refused { IsNoProgram text.now result }
 {
     let program = read_program(alloc, text)?;

@@ -14,13 +14,23 @@ ghost use Rattle.statement_evaluation.specs.LeastFaults.{LeastFaultIsNoted, Toge
 /// and inside pardo, and for the bounds of a `for` and of a pardo. So are the parts of a set of
 /// processors at a test and at an assignment.
 pub fn attempts_are_whole()
+    // An attempt at an expression, behind whatever came before, is its whole evaluation, which goes on after a fault
+    // with 0, cut off at the first thing noted.
     ensures expressions { ExpressionsAreWhole }
+    // An attempt at a print, a test, or a value for a variable or local is its whole evaluation, cut off at the first
+    // thing noted.
     ensures values { ValuesAreWhole }
+    // An attempt at an assignment outside pardo is its whole evaluation, cut off at the first thing noted.
     ensures assignments { AssignmentsAreWhole }
+    // An attempt at an assignment inside pardo is its whole evaluation, cut off at the first thing noted.
     ensures inner_assignments { InnerAssignmentsAreWhole }
+    // An attempt at the bounds of a `for` is their whole evaluation, cut off at the first thing noted.
     ensures bounds { BoundsAreWhole }
+    // An attempt at the bounds of a pardo is their whole evaluation, cut off at the first thing noted.
     ensures ranges { RangesAreWhole }
+    // At a test inside pardo each processor's part is its whole evaluation, cut off at the first thing noted.
     ensures test_parts { TestPartsAreCut }
+    // At an assignment inside pardo each processor's part is its whole evaluation, cut off at the first thing noted.
     ensures assignment_parts { AssignmentPartsAreCut }
 {}
 
@@ -30,13 +40,23 @@ pub fn attempts_are_whole()
 /// of faults is the machine's order of keys, since no two faults of a statement differ in their
 /// kind alone.
 pub fn least_fault_is_noted()
+    // Under each rule the least fault of a statement, on processors with different indices, is the least key noted
+    // where all of them go on.
     ensures least { LeastFaultIsNoted }
+    // On processors with different indices a statement's parts come out, or the fault of the least key noted where all
+    // of them go on.
     ensures together { TogetherIsNoted }
+    // Where one processor alone evaluates an expression, its value comes out, or the fault of the first note.
     ensures values_alone { AloneIsNoted ℤ }
+    // Where one processor alone prints, tests or assigns, the effect comes out, or the fault of the first note.
     ensures effects_alone { AloneIsNoted Effect }
+    // Of a `for` the bounds come out, or the fault of the first note.
     ensures bounds_alone { AloneIsNoted (ℤ × ℤ) }
+    // Of a pardo the range comes out, or the fault of the first note.
     ensures ranges_alone { AloneIsNoted (ℤ × ℕ) }
+    // Faults that differ in more than their kind are in the order of the machine's keys.
     ensures order { AreToldInOneOrder }
+    // No two faults of a statement, on processors with different indices, differ in their kind alone.
     ensures kinds { NoneDifferInKindAlone }
 {}
 
@@ -45,11 +65,20 @@ pub fn least_fault_is_noted()
 /// cell has what the rule gives for its writers, and none is lost. What the machine combines for a
 /// cell has the rule's value as its verdict, and a single writer leaves its value.
 pub fn effects_are_values()
+    // Where no processor notes a fault of its own, each one's part gives its whole value.
     ensures parts { PartsAreWhole }
+    // Where no processor notes a fault of its own, a test leaves the members whose values are true, or false.
     ensures tests { TestsAreValues }
+    // Where no processor notes a fault of its own, each gets its value in the local that is assigned.
     ensures locals { LocalsAreValues }
+    // Where no processor notes a fault of its own, each cell gets what the rule gives for its writers, or keeps its
+    // value without any.
     ensures cells { CellsAreSettled }
+    // A statement leaves as many cells as there were.
     ensures length { NoCellIsLost }
+    // The machine's verdict on a cell's writers with different indices, combined two by two, is the rule's value on
+    // them.
     ensures entries { EntriesAreTheRule }
+    // A single writer leaves its value, if that has 64 bits, under every rule.
     ensures one_writer { OneWriterIsTheRule }
 {}

@@ -29,6 +29,9 @@ pub fn time_keeps_to_the_bound()
 /// many words a write, are at most 2 r + k w + 2 p u + k v, for r reads and w writes inside pardo and u reads and
 /// v writes outside, which together are those that the run's costs count.
 pub fn work_bounds_communication()
+    // Unless a run faults, its accesses on p workers take at most 2r+kw+2pu+kv words, r reads and w writes inside
+    // pardo, u and v outside, k a write.
     ensures accesses { AccessesAreCounted }
+    // The reads and writes inside and outside pardo are together those that the run's costs count.
     ensures all { InsideAndOutsideAreAll }
 {}
