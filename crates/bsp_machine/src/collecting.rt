@@ -61,14 +61,21 @@ pub fn collect<M: AddressMap>(
     requires run { HaveRun code.now (M.shape map.now) workers.items }
     requires over { IsFirstOver workers.items }
     requires room { IsRoom code.now (M.shape map.now) room }
+    // The refusal is the one of the mark by which worker 0 has stopped.
     ensures refused { IfErr result (λ refusal. (x : Counted) → slice_get workers.items 0 ≡ Some x → refusal ≡ spec_refusal_by x.local.way) }
+    // With a reserve the refusal is that the run came past it, and without one that memory was refused.
     ensures given { (reserve : Option Given) → AreGiven reserve workers.items → IfErr result (λ refusal. refusal ≡ refusal_for reserve) }
+    // A refusal is answered only where the workers have stopped.
     ensures stopped { IfErr result (λ refusal. IsFirstStopped workers.items) }
+    // An outcome is answered only where the workers haven't stopped.
     ensures unstopped { IfOk result (λ found. IsFirstUnstopped workers.items) }
+    // The outcome of workers whose run is over is that of the machine's definition.
     ensures outcome { IfOk result (λ found. (bound : ℕ) (input : List ℤ) → AreRunning code.now (M.shape map.now) bound input workers.items →
         IsBspOutcome code.now (M.shape map.now) input bound (verdict_of found.0)) }
+    // The exchanges that are answered are those of the machine's definition; where none are, there are such.
     ensures counts { IfOk result (λ found. (bound : ℕ) (input : List ℤ) → AreRunning code.now (M.shape map.now) bound input workers.items →
         AreExchanges code.now (M.shape map.now) input bound (verdict_of found.0) found.1) }
+    // Exchanges are answered where all workers kept them.
     ensures kept { AreKept true workers.items → IfOk result (λ found. IsSome found.1) }
 {
     let refusal = refusal_by(workers[0].local.way);

@@ -107,14 +107,19 @@ impl CountedWorker {
     ) -> Result<CountedWorker, RunRefusal>
         requires formed { IsWellFormed code.now }
         requires worker { IsWorkers workers → worker < workers }
+        // The run is refused for the first of E13, E12 and E11 that holds, in this order, and for want of memory only
+        // where none does.
         ensures refused { IfErr result (IsRefusal code.now (M.shape map.now) workers input.now) }
+        // There is an answer only where none of E13, E12 and E11 holds.
         ensures accepted { IfOk result (λ x. IsAccepted code.now (M.shape map.now) workers input.now) }
+        // It is that worker before the first instruction, within every bound, with nothing counted.
         ensures fresh { IfOk result (IsFresh code.now (M.shape map.now) input.now worker) }
         ensures unreserved { IfOk result (λ x. x.reserve ≡ None) }
         ensures kept { IfOk result (λ x. is_kept x.counts ≡ kept) }
-        // It shows the opening state within any bound, and has counted nothing; so it can be set to work at a seat.
+        // It shows the opening state within every bound, and has counted nothing.
         ensures opens { IfOk result (λ x. (bound : ℕ) → IsBetween code.now (M.shape map.now) bound
             (λ n. opening (setting code.now (M.shape map.now) bound n) input.now worker) (λ n. []) worker x) }
+        // It hasn't stopped.
         ensures runs { IfOk result (λ x. spec_is_stopped x.local.way ≡ false) }
     {
         let local = Local::new(alloc, code, map, workers, worker, input)?;
@@ -245,15 +250,20 @@ impl CountedWorker {
         requires going { MayGoOn code.now (M.shape map.now) bound self.old.local }
         requires workers { length (W.filled row.old) ≡ (M.shape map.now).parts }
         requires room { most_words code.now (M.shape map.now) ≤ W.room row.old }
+        // If it hasn't stopped it stands at an exchange, and has room to count it.
         ensures ready { IsReady code.now (M.shape map.now) bound self.new }
+        // It stands where the states that it showed come to, with their messages, all marked if it has stopped; with a
+        // reserve it stops exactly past that.
         ensures at { (states : ℕ → State) (told : ℕ → List Share) (w : ℕ) →
             IsBetween code.now (M.shape map.now) bound states told w self.old →
             IsStanding code.now (M.shape map.now) bound states told w self.new (W.filled row.new) }
-        // Without a reserve it stops only where the counts or the output had to grow.
+        // Without a reserve it stops only where it had no room to count the exchange, or for all items printed up to
+        // there.
         ensures full { self.old.reserve ≡ None → spec_is_stopped self.new.local.way ≡ true →
             (states : ℕ → State) (told : ℕ → List Share) (w n : ℕ) →
             IsBetween code.now (M.shape map.now) bound states told w self.old → most_instructions code.now bound < n →
             IsFull code.now (M.shape map.now) bound (states n) w n self.old }
+        // No more instructions and exchanges are left than before.
         ensures fewer { spec_is_stopped self.new.local.way ≡ false →
             left_at code.now bound self.new.local ≤ left code.now bound self.old.local }
         ensures reserve { self.new.reserve ≡ self.old.reserve }
@@ -285,17 +295,21 @@ impl CountedWorker {
         requires ready { IsReady code.now (M.shape map.now) bound self.old }
         requires column { length (C.came column.now) ≡ (M.shape map.now).parts }
         requires room { C.room column.now ≤ most_words code.now (M.shape map.now) }
+        // It has stopped exactly where it had before, or a header has a mark.
         ensures stopped { spec_is_stopped self.new.local.way ≡ (spec_is_stopped self.old.local.way || is_marked (mark_heard (C.came column.now))) }
+        // The mark by which it has stopped is its own, or else the worst that came.
         ensures mark { (mark : MarkOfHeader) → self.new.local.way ≡ way_is_one_of.Stopped mark →
             (self.old.local.way ≡ way_is_one_of.Stopped mark)
             ⊎ ((spec_is_stopped self.old.local.way ≡ false) × (mark_heard (C.came column.now) ≡ mark)) }
         ensures reserve { self.new.reserve ≡ self.old.reserve }
         ensures kept_rows { is_kept self.new.counts ≡ is_kept self.old.counts }
+        // It shows the states that the messages lead to, as they are read for it, and has counted the exchange.
         ensures behind { (states : ℕ → State) (told : ℕ → List Share) (w : ℕ) (row : List WrittenMessage) →
             IsStanding code.now (M.shape map.now) bound states told w self.old row →
             IsBetween code.now (M.shape map.now) bound
             (λ n. state_behind code.now (M.shape map.now) bound w self.old (C.came column.now) (states n) n)
             (λ n. told n ++ share_at self.old row (C.came column.now) ∷ []) w self.new }
+        // Where the run isn't over, fewer instructions and exchanges are left.
         ensures left { spec_is_over (way_is self.new.local.way) ≡ false →
             left code.now bound self.new.local < left_at code.now bound self.old.local }
     {

@@ -97,9 +97,14 @@ pub fn run_plain<M: AddressMap>(
     input: &[i64],
     bound: u32,
 ) -> Result<(Outcome, Counts), RunRefusal>
+    // The run is refused for the first of E13, E12 and E11 that holds, in this order, and for want of memory only where
+    // none does.
     ensures refused { IfErr result (λ refusal. IsRefusal verified.now (M.shape map.now) workers input.now refusal) }
+    // There is an answer only where none of E13, E12 and E11 holds.
     ensures accepted { IfOk result (λ found. IsAccepted verified.now (M.shape map.now) workers input.now) }
+    // The outcome is that of the machine's definition, for the workers and the map of the run.
     ensures outcome { IfOk result (λ found. IsBspOutcome verified.now (M.shape map.now) input.now bound (verdict_of found.0)) }
+    // The exchanges are those of the machine's definition, with the words that each worker sent and received.
     ensures counts { IfOk result (λ found. AreBspExchanges verified.now (M.shape map.now) input.now bound (verdict_of found.0) found.1) }
 {
     run_code(alloc, verified.code(), map, workers, input, bound)

@@ -58,6 +58,7 @@ pub fn answer_asks<M: AddressMap>(
     requires part { part < (M.shape map.now).parts }
     requires cells { length cells.now ≡ (M.shape map.now).width part }
     requires room { length words.now ≤ length out.old }
+    // Of any ask words, the answer has the values of the cells that they ask of the module, in order.
     ensures words { take result out.new ≡ answers (M.shape map.now) part cells.now words.now }
     ensures count { result ≡ length (answers (M.shape map.now) part cells.now words.now) }
     ensures rest { drop result out.new ≡ drop result out.old }

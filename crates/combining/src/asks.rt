@@ -124,7 +124,9 @@ impl Asks {
         requires room { length self.old.held < self.old.room }
         requires ordinal { ordinal < 8 }
         requires cell { cell < 2 ^ 20 }
+        // The ask is held behind the rest, or is marked where it was made before.
         ensures held { self.new.held ≡ ask ordinal cell self.old.held }
+        // The answer is the place at which the ask is held.
         ensures place { result ≡ place_held ordinal cell self.old.held }
         ensures room { self.new.room ≡ self.old.room }
     {
@@ -145,6 +147,7 @@ impl Asks {
         requires room { length self.old.held + length cells.now ≤ self.old.room }
         requires ordinal { ordinal < 8 }
         requires below { AreBelow (2 ^ 20) cells.now }
+        // The asks for as many cells of the column as are told are held as if each were made by itself.
         ensures held { self.new.held ≡ asked_after (by_read ordinal (take result cells.now)) self.old.held }
         ensures few { result ≤ length cells.now }
         ensures most { length self.new.held ≤ length self.old.held + result }
@@ -168,6 +171,7 @@ impl Asks {
         requires ordinal { ordinal < 8 }
         requires below { AreBelow (2 ^ 20) cells.now }
         requires values { length cells.now ≤ length values.old }
+        // Each cell of the column gets the value that came for it by a read of that number.
         ensures each { HaveCome (λ cell. value_for ordinal cell self.now.held) cells.now values.new }
         ensures count { length values.new ≡ length values.old }
     {
@@ -186,6 +190,7 @@ impl Asks {
     pub fn pack<M: AddressMap>(&self, map: &M, part: u32, out: &mut [u64]) -> usize
         requires cells { AllByRecursion (IsAskBelow (M.shape map.now).count) self.now.held }
         requires long { length (ask_words (asks_for (M.shape map.now).part part self.now.held)) ≤ length out.old }
+        // The words are the definition's words of the asks that are held for the module.
         ensures words { take result out.new ≡ ask_words (asks_for (M.shape map.now).part part self.now.held) }
         ensures count { result ≡ length (ask_words (asks_for (M.shape map.now).part part self.now.held)) }
         ensures rest { drop result out.new ≡ drop result out.old }
@@ -210,8 +215,10 @@ impl Asks {
         requires modules { length columns.old ≡ (M.shape map.now).parts }
         requires room { HasRoomFor (M.shape map.now).parts (λ j. ask_words (asks_for (M.shape map.now).part j self.now.held))
             (each (λ v. v.items) columns.old) (each vec_capacity columns.old) }
+        // The column of each module gets, behind what it holds, the words that `pack` writes for that module.
         ensures words { HasGot (M.shape map.now).parts (λ j. ask_words (asks_for (M.shape map.now).part j self.now.held))
             (each (λ v. v.items) columns.old) (each (λ v. v.items) columns.new) }
+        // Each column keeps the room that it has.
         ensures rooms { each vec_capacity columns.new ≡ each vec_capacity columns.old }
     {
         let keys = self.index.keys();
@@ -231,6 +238,7 @@ impl Asks {
     /// Keeps the words of a module's reply at the asks for it, in the order of the asks and as far as the words reach.
     pub fn take_reply<M: AddressMap>(&mut self, map: &M, part: u32, words: &[u64])
         requires cells { AllByRecursion (IsAskBelow (M.shape map.now).count) self.old.held }
+        // The asks for the module get the words of its reply, in order and as far as they reach, and no ask moves.
         ensures held { self.new.held ≡ replied (M.shape map.now).part part words.now self.old.held }
         ensures room { self.new.room ≡ self.old.room }
     {
@@ -241,6 +249,7 @@ impl Asks {
     pub fn take_replies<M: AddressMap>(&mut self, map: &M, replies: &[&[u64]])
         requires cells { AllByRecursion (IsAskBelow (M.shape map.now).count) self.old.held }
         requires modules { length replies.now ≡ (M.shape map.now).parts }
+        // The asks get what they get from the replies of all modules, taken one after the other.
         ensures held { self.new.held ≡ all_replied (M.shape map.now).part 0 (each (λ x. x.now) replies.now) self.old.held }
         ensures room { self.new.room ≡ self.old.room }
     {
@@ -256,6 +265,7 @@ impl Asks {
     pub fn value(&self, ordinal: u32, cell: u32) -> i64
         requires ordinal { ordinal < 8 }
         requires cell { cell < 2 ^ 20 }
+        // The answer is the value that came for the read and the cell, or 0.
         ensures value { result ≡ value_for ordinal cell self.now.held }
     {
         self.asked.value(self.index.find(ask_key(ordinal, cell)))
@@ -265,6 +275,7 @@ impl Asks {
     #[inline(always)]
     pub fn value_at(&self, place: usize) -> i64
         requires { place < length self.now.held }
+        // The answer is the value that came for the ask that is held at the place.
         ensures value { result ≡ value_held self.now.held place }
     {
         self.asked.value(place)
@@ -272,6 +283,7 @@ impl Asks {
 
     /// Holds nothing any more.
     pub fn clear(&mut self)
+        // Nothing is held any more.
         ensures none { self.new.held ≡ [] }
         ensures room { self.new.room ≡ self.old.room }
     {

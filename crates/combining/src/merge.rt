@@ -193,6 +193,8 @@ pub fn merge_at_module<R: WriteRule, M: AddressMap>(
 ) -> Option<(u32, Kind)>
     requires part { part < (M.shape map.now).parts }
     requires size { length cells.old ≡ (M.shape map.now).width part }
+    // Of any words, each cell gets what the rule gives for its puts; those in conflict keep their values, and the least
+    // is told.
     ensures merged { IsMerged (M.shape map.now) (R.WriteRule.rule rule.now) part (each (λ x. x.now) columns.now) cells.old cells.new
         result }
 {

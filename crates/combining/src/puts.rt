@@ -70,6 +70,7 @@ impl Puts {
     #[inline(always)]
     pub fn add<R: WriteRule>(&mut self, rule: &R, cell: u32, processor: i64, value: i64)
         requires { length self.old.held < self.old.room }
+        // The write is joined to what is held for its cell, or is held behind the rest.
         ensures held { self.new.held ≡ put (R.WriteRule.rule rule.now) (record { processor = processor; cell = cell; value = value })
             self.old.held }
         ensures room { self.new.room ≡ self.old.room }
@@ -93,6 +94,7 @@ impl Puts {
     ) -> usize
         requires row { (j : ℕ) → j < count → W.has writes.now j }
         requires room { length self.old.held + count ≤ self.old.room }
+        // The writes of as many processors of the row as are told are held as if each were added by itself.
         ensures held { self.new.held ≡ held_after (R.WriteRule.rule rule.now)
             (first_writes (W.number writes.now) (W.written writes.now) result) self.old.held }
         ensures few { result ≤ count }
@@ -117,6 +119,7 @@ impl Puts {
         requires cells { AllByRecursion (IsPutBelow (M.shape map.now).count) self.now.held }
         requires fit { AllByRecursion (FitsPut (R.WriteRule.rule rule.now)) self.now.held }
         requires long { length (packed_puts (R.WriteRule.rule rule.now) (M.shape map.now).part part self.now.held) ≤ length out.old }
+        // The words are the definition's words of the puts that are held for the module.
         ensures words { take result out.new ≡ packed_puts (R.WriteRule.rule rule.now) (M.shape map.now).part part self.now.held }
         ensures count { result ≡ length (packed_puts (R.WriteRule.rule rule.now) (M.shape map.now).part part self.now.held) }
         ensures rest { drop result out.new ≡ drop result out.old }
@@ -141,8 +144,10 @@ impl Puts {
         requires modules { length columns.old ≡ (M.shape map.now).parts }
         requires room { HasRoomFor (M.shape map.now).parts (λ j. packed_puts (R.WriteRule.rule rule.now) (M.shape map.now).part j
             self.now.held) (each (λ v. v.items) columns.old) (each vec_capacity columns.old) }
+        // The column of each module gets, behind what it holds, the words that `pack` writes for that module.
         ensures words { HasGot (M.shape map.now).parts (λ j. packed_puts (R.WriteRule.rule rule.now) (M.shape map.now).part j self.now.held)
             (each (λ v. v.items) columns.old) (each (λ v. v.items) columns.new) }
+        // Each column keeps the room that it has.
         ensures rooms { each vec_capacity columns.new ≡ each vec_capacity columns.old }
     {
         let keys = self.index.keys();
@@ -161,6 +166,7 @@ impl Puts {
 
     /// Holds nothing any more.
     pub fn clear(&mut self)
+        // Nothing is held any more.
         ensures none { self.new.held ≡ [] }
         ensures room { self.new.room ≡ self.old.room }
     {

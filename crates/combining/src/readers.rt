@@ -179,7 +179,10 @@ pub fn read_conflict<M: AddressMap>(
 ) -> Option<u32>
     requires part { part < (M.shape map.now).parts }
     requires size { length cells.old ≡ (M.shape map.now).width part }
+    // Of any words, the least cell of the module for which two or more processors ask by the read is told, or that
+    // there is none.
     ensures least { IsLeastShared (M.shape map.now) part (each (λ x. x.now) columns.now) k result }
+    // The values of the cells stay.
     ensures same { cells.new ≡ cells.old }
 {
     if ascend_words_all(columns) {

@@ -33,6 +33,7 @@ impl Counts {
     /// From the counts of each worker, in order of workers.
     pub fn of_columns(columns: Vec<Vec<Count>>) -> Counts
         requires { AreColumns (columns_of columns.items) }
+        // What is told are the exchanges that all workers counted, in order.
         ensures told { result ≡ exchanges_told (columns_of columns.items) }
     {
         Counts { columns }
@@ -40,6 +41,7 @@ impl Counts {
 
     /// How many exchanges there are.
     pub fn len(&self) -> usize
+        // The answer is how many exchanges there are.
         ensures { result ≡ length self.now }
     {
         self.columns[0].len()
@@ -48,7 +50,9 @@ impl Counts {
     /// How many workers counted them.
     pub fn workers(&self) -> usize
         ensures some { 0 < result }
+        // Each exchange has the words that so many workers sent.
         ensures sent { (k : ℕ) → 1 ≤ k → k ≤ length self.now → length (exchange_at self.now k).sent ≡ result }
+        // Each exchange has the words that so many workers received.
         ensures received { (k : ℕ) → 1 ≤ k → k ≤ length self.now → length (exchange_at self.now k).received ≡ result }
     {
         self.columns.len()
@@ -70,7 +74,9 @@ impl Counts {
     pub fn exchange(&self, k: usize) -> (Purpose, u64)
         requires first { 1 ≤ k }
         requires last { k ≤ length self.now }
+        // What the exchange was for is told.
         ensures purpose { purpose_is result.0 ≡ (exchange_at self.now k).purpose }
+        // The h that is told is the most words that one worker sent or received in the exchange.
         ensures relation { result.1 ≡ relation_of (exchange_at self.now k) }
     {
         let workers = self.workers();
@@ -89,6 +95,7 @@ impl Counts {
         requires first { 1 ≤ k }
         requires last { k ≤ length self.now }
         requires worker { w < length (exchange_at self.now k).sent }
+        // The answer is how many words the worker sent in the exchange.
         ensures { result ≡ slice_index_or (exchange_at self.now k).sent w 0 }
     {
         self.count(k, w).sent
@@ -99,6 +106,7 @@ impl Counts {
         requires first { 1 ≤ k }
         requires last { k ≤ length self.now }
         requires worker { w < length (exchange_at self.now k).sent }
+        // The answer is how many words the worker received in the exchange.
         ensures { result ≡ slice_index_or (exchange_at self.now k).received w 0 }
     {
         self.count(k, w).received

@@ -127,7 +127,10 @@ pub fn flat_lines(
     input: &[i64],
     bound: u32,
 ) -> Result<Vec<u32>, AllocError>
+    // The lines are those of the exchanges of the code's run on one memory, within (bound + 1) * N instructions, N
+    // those of the code.
     ensures found { IfOk result (λ all. all.items ≡ spec_lines code.now bound input.now) }
+    // Of well-formed code these are the lines of its workers' exchanges, whatever their number and their map.
     ensures lines { IfOk result (λ all. IsWellFormed code.now → AreLinesOf code.now input.now bound all.items) }
 {
     let run = open(alloc, code, bound, input)?;

@@ -41,6 +41,7 @@ pub(crate) fn tested(operation: Truth, x: i64, y: i64) -> bool
 
 /// The register that an instruction sets, and what it gives, where it reads these registers.
 pub fn computed(instr: Instr, registers: &[i64]) -> Option<(u16, Result<i64, Kind>)>
+    // The register and what it gets, a value or a fault, are those of the machine's definition.
     ensures { result ≡ spec.computed instr (registers_of registers.now) }
 {
     match instr {
@@ -134,6 +135,8 @@ pub fn position_of(instr: Instr) -> u32
 
 /// What is computed on a side: nothing by an instruction of the other one.
 pub fn computed_on(side: Side, instr: Instr, registers: &[i64]) -> Option<(u16, Result<i64, Kind>)>
+    // An instruction of that side computes what the machine's definition computes of its registers, and one of the
+    // other side nothing.
     ensures { result ≡ (if spec.is_of side instr then spec.computed instr (registers_of registers.now) else None) }
 {
     if is_of(side, instr) {

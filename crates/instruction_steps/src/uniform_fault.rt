@@ -81,6 +81,7 @@ fn wrong_uniform(code: &Code, instr: Instr, u: &UniformState) -> Option<Kind>
 
 /// The key that an instruction notes on the uniform part.
 pub fn uniform_key(code: &Code, instr: Instr, u: &UniformState) -> Option<Key>
+    // The key is the one that the machine's definition notes for the instruction on the uniform part, if any.
     ensures { result ≡ spec.uniform_key code.now instr (uniform_of u.now) }
 {
     fault_at(
@@ -103,6 +104,7 @@ pub fn write_to(cell: Option<u32>, value: i64) -> Option<(u32, i64)>
 
 /// The write of the uniform part.
 pub fn uniform_write(code: &Code, instr: Instr, u: &UniformState) -> Option<(u32, i64)>
+    // The cell and the value are those of the uniform part's write by the machine's definition, if any.
     ensures { result ≡ spec.uniform_write code.now instr (uniform_of u.now) }
 {
     match instr {

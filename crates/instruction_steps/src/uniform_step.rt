@@ -205,8 +205,10 @@ pub(crate) fn print(u: &mut UniformState, source: u16) -> Result<(), AllocError>
 pub fn step_uniform(u: &mut UniformState, code: &Code, instr: Instr) -> Result<(), AllocError>
     requires room { HasRoom instr u.old.count }
     requires places { HasPlaces (length u.old.registers.items) instr }
+    // The uniform part is left as the machine's definition of the instruction leaves it.
     ensures after { OnOk result (uniform_of u.new ≡ spec.on_uniform code.now instr (uniform_of u.old)) }
     ensures reserve { OnOk result (KeepsReserve u.old u.new) }
+    // Memory is refused only to an item of output for which there is no room, or to a read where eight are held.
     ensures refused { OnErr result (IsShort instr u.old) }
 {
     match instr {

@@ -31,6 +31,7 @@ fn exchange_cost(counts: &Counts, rates: Rates, k: usize) -> u128
 /// What the exchanges of a run cost together, each its h, the most words that one worker sent or received in it, times the rate of a word,
 /// and the rate of its start; what workers compute between them isn't in it. `None` where that is no number of 128 bits.
 pub fn bsp_cost(counts: &Counts, rates: Rates) -> Option<u128>
+    // The answer is the sum of g times h, and l, over all exchanges, or none where that has more than 128 bits.
     ensures cost { result ≡ spec.in_128_bits (spec.bsp_cost rates.word rates.start counts.now) }
 {
     let mut sum: u128 = 0;

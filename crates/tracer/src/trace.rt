@@ -11,6 +11,8 @@ use text_out::{Out, WriteFault};
 /// these; and behind it ` line 7` where `lines` has one for it, the line of the statement that the exchange serves. `WriteFault` (E17) says
 /// that the writer failed; what it took is a beginning of the trace.
 pub fn write_trace<W: Out>(counts: &Counts, lines: &[u32], out: &mut W) -> Result<(), WriteFault>
+    // The trace is written, a line for each exchange with the statement's line where one is given, or a beginning of it
+    // where the writer fails.
     ensures written { Writes (W.Out.state out.old) (W.Out.state out.new) (trace_text lines.now counts.now) result }
 {
     'exchanges: for i in 0..counts.len() {

@@ -65,6 +65,7 @@ impl Bank {
         ensures registers { IfOk result (λ b. length b.columns.items ≡ registers) }
         ensures most { IfOk result (λ b. b.masks.most ≡ most) }
         ensures masks { IfOk result (λ b. length b.masks.levels.items ≡ masks + 1) }
+        // There are no processors yet, and no masks.
         ensures none { IfOk result (λ b. (b.masks.many ≡ 0) × (b.masks.depth ≡ 0)) }
         ensures worker { IfOk result (λ b. (b.worker ≡ worker) × (b.workers ≡ workers)) }
     {

@@ -25,6 +25,7 @@ impl Bank {
         requires source { source < length self.old.columns.items }
         requires room { self.old.masks.depth + 1 < length self.old.masks.levels.items }
         ensures bank { IsBank self.new }
+        // The mask leaves each processor as the machine's definition does, whatever it asks for.
         ensures after { (code : SuperstepCode) (u : UniformPart) → IsAfter code (instr_is.Mask source) u self.old self.new }
         ensures depth { self.new.masks.depth ≡ self.old.masks.depth + 1 }
         ensures many { self.new.masks.many ≡ self.old.masks.many }
@@ -39,6 +40,7 @@ impl Bank {
         requires bank { IsBank self.old }
         requires masked { 0 < self.old.masks.depth }
         ensures bank { IsBank self.new }
+        // The flip leaves each processor as the machine's definition does, whatever it asks for.
         ensures after { (code : SuperstepCode) (u : UniformPart) → IsAfter code instr_is.Flip u self.old self.new }
         ensures depth { self.new.masks.depth ≡ self.old.masks.depth }
         ensures many { self.new.masks.many ≡ self.old.masks.many }
@@ -52,6 +54,7 @@ impl Bank {
         requires bank { IsBank self.old }
         requires masked { 0 < self.old.masks.depth }
         ensures bank { IsBank self.new }
+        // The unmask leaves each processor as the machine's definition does, whatever it asks for.
         ensures after { (code : SuperstepCode) (u : UniformPart) → IsAfter code instr_is.Unmask u self.old self.new }
         ensures depth { self.new.masks.depth + 1 ≡ self.old.masks.depth }
         ensures many { self.new.masks.many ≡ self.old.masks.many }
@@ -66,6 +69,7 @@ impl Bank {
         requires bank { IsBank self.old }
         requires room { many ≤ self.old.masks.most }
         ensures bank { IsBank self.new }
+        // Each processor is a new one: its registers are 0, and it is under no mask.
         ensures parts { (j : ℕ) → part_at self.new [] [] j ≡ fresh }
         ensures depth { self.new.masks.depth ≡ 0 }
         ensures many { self.new.masks.many ≡ many }
@@ -80,6 +84,7 @@ impl Bank {
         requires bank { IsBank self.old }
         ensures bank { IsBank self.new }
         ensures depth { self.new.masks.depth ≡ 0 }
+        // Behind the range there are no processors.
         ensures many { self.new.masks.many ≡ 0 }
         ensures same { IsSameBank self.old self.new }
     {

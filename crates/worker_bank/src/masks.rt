@@ -46,6 +46,7 @@ impl Masks {
         ensures masks { IfOk result (λ m. IsMasks m) }
         ensures most { IfOk result (λ m. m.most ≡ most) }
         ensures levels { IfOk result (λ m. length m.levels.items ≡ depth + 1) }
+        // There are no processors yet, and no masks.
         ensures none { IfOk result (λ m. (m.many ≡ 0) × (m.depth ≡ 0)) }
     {
         let levels = levels(alloc, most, depth)?;
@@ -64,6 +65,7 @@ impl Masks {
         requires masks { IsMasks self.old }
         requires room { many ≤ self.old.most }
         ensures masks { IsMasks self.new }
+        // No processor is under a mask, so all are active.
         ensures each { (j : ℕ) → masks_of self.new j ≡ [] }
         ensures depth { self.new.depth ≡ 0 }
         ensures levels { length self.new.levels.items ≡ length self.old.levels.items }
@@ -78,6 +80,7 @@ impl Masks {
     /// The active processors, ascending.
     pub fn active(&self) -> &[u32]
         requires { IsMasks self.now }
+        // The list has just the processors that are active under their masks, ascending.
         ensures { result.now ≡ those (λ j. under (masks_of self.now j)) self.now.many }
     {
         self.levels[self.depth].active()
@@ -89,6 +92,7 @@ impl Masks {
         requires room { self.old.depth + 1 < length self.old.levels.items }
         requires column { self.old.many ≤ length column.now }
         ensures masks { IsMasks self.new }
+        // Each processor is under one mask more, which lets it in where it was active and its value isn't 0.
         ensures each { (j : ℕ) → j < self.old.many → masks_of self.new j
             ≡ (under (masks_of self.old j) && is_nonzero (value_of column.now j)) ∷ masks_of self.old j }
         ensures depth { self.new.depth ≡ self.old.depth + 1 }
@@ -106,6 +110,7 @@ impl Masks {
         requires masks { IsMasks self.old }
         requires masked { 0 < self.old.depth }
         ensures masks { IsMasks self.new }
+        // The last mask of each processor is turned, as the machine's definition turns it.
         ensures each { (j : ℕ) → j < self.old.many → masks_of self.new j ≡ flipped (masks_of self.old j) }
         ensures depth { self.new.depth ≡ self.old.depth }
         ensures levels { length self.new.levels.items ≡ length self.old.levels.items }
@@ -120,6 +125,7 @@ impl Masks {
         requires masks { IsMasks self.old }
         requires masked { 0 < self.old.depth }
         ensures masks { IsMasks self.new }
+        // The last mask of each processor is taken off.
         ensures each { (j : ℕ) → masks_of self.new j ≡ unmasked (masks_of self.old j) }
         ensures depth { self.new.depth + 1 ≡ self.old.depth }
         ensures levels { length self.new.levels.items ≡ length self.old.levels.items }

@@ -8,6 +8,7 @@ ghost use Rattle.superstep_machine.specs.Setting.{Setting, workers as workers_of
 /// `workers`-th.
 pub fn how_many(workers: u32, worker: u32, width: u32) -> u32
     requires { worker < workers }
+    // A worker's processors in a range are every p-th from its own number on, as many as are said.
     ensures { (t : Setting) → workers_of t ≡ workers →
         processors t worker width ≡ map (λ j. worker + workers * j) (range_with_len 0 result) }
 {

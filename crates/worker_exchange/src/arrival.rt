@@ -147,9 +147,10 @@ impl Local {
         requires workers { length (W.filled row.old) ≡ (M.shape map.now).parts }
         requires mark { mark ≢ mark_is.Clear }
         ensures filled { IsRow (M.shape map.now).parts (told_mark mark) (W.filled row.new) }
-        // These are the messages of every worker of a run that such a mark stops, and each is read by the one that it is sent to.
+        // The row has the messages of every worker of a run that such a mark stops.
         ensures row { (t : Setting) (w : ℕ) (s : State) → IsRow (M.shape map.now).parts
             (λ j. written t.code.rule (message_of t w (marked self.new.way s) j)) (W.filled row.new) }
+        // Each message is read as such by the worker that it is sent to.
         ensures read { (t : Setting) (w : ℕ) (s : State) (j : ℕ) → j < (M.shape map.now).parts →
             IsWrittenFor t.code.rule t.map j (purpose_is self.new.purpose) (message_of t w (marked self.new.way s) j)
             (message_at (W.filled row.new) j) }
@@ -180,16 +181,17 @@ impl Local {
         requires going { MayGoOn code.now (M.shape map.now) bound self.old }
         requires workers { length (W.filled row.old) ≡ (M.shape map.now).parts }
         requires room { most_words code.now (M.shape map.now) ≤ W.room row.old }
-        // For every state that it shows, it shows where the definition's worker comes to, ..
+        // For every state that it showed, a worker that hasn't stopped shows where the machine's worker stands at its
+        // next exchange.
         ensures shown { is_stopped self.new.way ≡ false → (n : ℕ) (s : State) → most_instructions code.now bound < n →
             IsShown (setting code.now (M.shape map.now) bound n) self.old.steps.bank.worker self.old s →
             IsAtExchange (setting code.now (M.shape map.now) bound n) self.old.steps.bank.worker self.new s }
-        // .. and the row has the messages of that worker, with a mark if this one has stopped.
+        // The row has that worker's messages, header and words, each with a mark if this one has stopped.
         ensures row { (n : ℕ) (s : State) → most_instructions code.now bound < n →
             IsShown (setting code.now (M.shape map.now) bound n) self.old.steps.bank.worker self.old s →
             IsRow (M.shape map.now).parts (λ j. written code.now.rule (message_of (setting code.now (M.shape map.now) bound n)
             self.old.steps.bank.worker (marked self.new.way s) j)) (W.filled row.new) }
-        // Each is read by the one that it is sent to.
+        // Each message is read as such by the worker that it is sent to.
         ensures read { (n : ℕ) (s : State) (j : ℕ) → most_instructions code.now bound < n → j < (M.shape map.now).parts →
             IsShown (setting code.now (M.shape map.now) bound n) self.old.steps.bank.worker self.old s →
             IsWrittenFor code.now.rule (M.shape map.now) j (purpose_is self.new.purpose) (message_of (setting code.now (M.shape map.now) bound n)
@@ -197,8 +199,10 @@ impl Local {
         ensures at { is_stopped self.new.way ≡ false → IsAtStep code.now (M.shape map.now) bound self.new }
         ensures worker { is_stopped self.new.way ≡ false → self.new.steps.bank.worker ≡ self.old.steps.bank.worker }
         ensures fewer { is_stopped self.new.way ≡ false → left_at code.now bound self.new ≤ left code.now bound self.old }
+        // The mark by which it stops is that of refused memory.
         ensures refused { (mark : MarkOfHeader) → self.new.way ≡ way_is_one_of.Stopped mark → mark ≡ mark_is.OutOfMemory }
-        // Where there is room for so many items, a worker that stops printed more, whether that room was taken in advance or not.
+        // Where there is room for so many items, a worker that stops has printed more, whether that room was taken in
+        // advance or not.
         ensures past { is_stopped self.new.way ≡ true → (items : ℕ) → HasReserve items self.old.steps.uniform →
             ComesPast code.now (M.shape map.now) bound self.old items }
         ensures reserve { is_stopped self.new.way ≡ false → KeepsReserve self.old.steps.uniform self.new.steps.uniform }

@@ -28,7 +28,9 @@ fn header_with(key: Option<Key>, puts: u32) -> [u64; 4]
 /// Fills a row with a header and no words, the same for each worker. Answers how many words the messages have together: none.
 pub fn fill_headers<W: Row>(row: &mut W, workers: usize, header: MessageHeader) -> u64
     requires { length (W.filled row.old) ≡ workers }
+    // The message to each worker is that header and no words.
     ensures filled { IsRow workers (λ j. record { header = header_words header; words = [] }) (W.filled row.new) }
+    // The answer is how many words the messages have together.
     ensures words { result ≡ words_in (W.filled row.new) }
     ensures room { W.room row.new ≡ W.room row.old }
     ensures kept { W.kept row.old row.new }
@@ -54,7 +56,9 @@ pub fn fill_sends<W: Row>(
     // Their number has 64 bits.
     requires few { length columns.now < 2 ^ 32 }
     requires short { (j : ℕ) → length (column (words_of columns.now) j) < 2 ^ 32 }
+    // The message to each worker is a header with the key and the number of its puts, and the words for it.
     ensures filled { IsRow (length columns.now) (send_message key (words_of columns.now) counts.now) (W.filled row.new) }
+    // The answer is how many words the messages have together.
     ensures words { result ≡ words_in (W.filled row.new) }
     ensures room { W.room row.new ≡ W.room row.old }
     ensures kept { W.kept row.old row.new }
@@ -87,7 +91,10 @@ pub fn fill_replies<M: AddressMap, W: Row>(
     // Their number has 64 bits.
     requires few { length asked.now < 2 ^ 32 }
     requires short { vec_capacity reply.old < 2 ^ 32 }
+    // The message to each worker is a header with the key, and the values of the cells that it asked the module for, in
+    // order.
     ensures filled { IsRow (length asked.now) (reply_message key (M.shape map.now) part cells.now (words_of asked.now)) (W.filled row.new) }
+    // The answer is how many words the messages have together.
     ensures words { result ≡ words_in (W.filled row.new) }
     ensures reply { vec_capacity reply.new ≡ vec_capacity reply.old }
     ensures room { W.room row.new ≡ W.room row.old }

@@ -213,8 +213,12 @@ impl Local {
     ) -> Result<Local, RunRefusal>
         requires formed { IsWellFormed code.now }
         requires worker { IsWorkers workers → worker < workers }
+        // The run is refused for the first of E13, E12 and E11 that holds, in this order, and for want of memory only
+        // where none does.
         ensures refused { IfErr result (IsRefusal code.now (M.shape map.now) workers input.now) }
+        // There is an answer only where none of E13, E12 and E11 holds.
         ensures accepted { IfOk result (λ x. IsAccepted code.now (M.shape map.now) workers input.now) }
+        // It shows the machine's worker in its opening state, within every bound.
         ensures shown { IfOk result (λ x. (bound n : ℕ) → IsShown (setting code.now (M.shape map.now) bound n) worker x
             (opening (setting code.now (M.shape map.now) bound n) input.now worker)) }
         ensures going { IfOk result (λ x. (bound : ℕ) → MayGoOn code.now (M.shape map.now) bound x) }

@@ -130,27 +130,30 @@ pub fn receive<R: WriteRule, M: AddressMap, C: Column>(
     requires at { spec_is_stopped local.old.way ≡ false → IsAtStep code.now (M.shape map.now) bound local.old }
     requires column { length (C.came column.now) ≡ (M.shape map.now).parts }
     requires room { C.room column.now ≤ most_words code.now (M.shape map.now) }
-    // For each state at whose exchange it stood, it shows the one behind it, by the messages that the column is read as.
+    // For each state at whose exchange it stood, it shows the one behind it, by the messages that the column, whatever
+    // it has, is read as.
     ensures shown { spec_is_stopped local.new.way ≡ false → (n : ℕ) (s : State) → most_instructions code.now bound < n →
         IsAtExchange (setting code.now (M.shape map.now) bound n) local.old.steps.bank.worker local.old s →
         IsShown (setting code.now (M.shape map.now) bound n) local.old.steps.bank.worker local.new
         (after (setting code.now (M.shape map.now) bound n) local.old.steps.bank.worker
         (ready (setting code.now (M.shape map.now) bound n) local.old.steps.bank.worker s)
         (messages_to code.now.rule (M.shape map.now) local.old.steps.bank.worker (purpose_is local.old.purpose) (C.came column.now))) }
+    // Where the run isn't over, the worker may go on.
     ensures going { machine.is_over (way_is local.new.way) ≡ false → (n : ℕ) (s : State) → most_instructions code.now bound < n →
         IsAtExchange (setting code.now (M.shape map.now) bound n) local.old.steps.bank.worker local.old s →
         MayGoOn code.now (M.shape map.now) bound local.new }
     ensures worker { local.new.steps.bank.worker ≡ local.old.steps.bank.worker }
     ensures output { local.new.steps.uniform.output ≡ local.old.steps.uniform.output }
     ensures reserve { KeepsReserve local.old.steps.uniform local.new.steps.uniform }
-    // It has stopped where it had, or where a header has a mark, ..
+    // It has stopped exactly where it had before, or a header has a mark.
     ensures stopped { spec_is_stopped local.new.way ≡ (spec_is_stopped local.old.way || is_marked (mark_heard (C.came column.now))) }
-    // .. by its own mark, or else by the worst that it heard.
+    // The mark by which it has stopped is its own, or else the worst that came.
     ensures mark { (mark : MarkOfHeader) → local.new.way ≡ way_is_one_of.Stopped mark →
         (local.old.way ≡ way_is_one_of.Stopped mark)
         ⊎ ((spec_is_stopped local.old.way ≡ false) × (mark_heard (C.came column.now) ≡ mark)) }
+    // The answer is that the run is over exactly where the worker that it shows has come to its end, or it has stopped.
     ensures over { is_the_end result ≡ machine.is_over (way_is local.new.way) }
-    // Fewer instructions and exchanges may come.
+    // Where the run isn't over, fewer instructions and exchanges are left.
     ensures left { machine.is_over (way_is local.new.way) ≡ false → left code.now bound local.new < left_at code.now bound local.old }
 {
     let heard = hear(column, map.modules() as usize);

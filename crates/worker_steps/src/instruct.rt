@@ -105,7 +105,9 @@ impl WorkerState {
         requires rule { R.WriteRule.rule rule.now ≡ code.now.rule }
         requires work { is_work instr ≡ true }
         requires met { IsMetAt code.now instr self.old }
+        // Whatever worker of the definition it showed, it shows that worker after the instruction.
         ensures done { OnOk result (IsDone code.now instr self.old self.new) }
+        // Memory is refused only to an item of output for which there is no room, or to a read where eight are held.
         ensures refused { OnErr result (IsShort instr self.old.uniform) }
     {
         match instr {

@@ -63,6 +63,7 @@ impl WorkerState {
             code.private_registers ≡ private_registers →
             ((t : Setting) → workers_of t ≡ workers → length (processors t worker code.procs) ≤ most) → IsFitted code x) }
         ensures verified { IfOk result (λ x. (code : SuperstepCode) → IsVerifiedAt code x) }
+        // It shows the machine's worker before the first instruction, whatever cells that one has.
         ensures shows { IfOk result (λ x. (rule : Rule) (cells : List ℤ) → Shows rule x (record no_worker { cells = cells })) }
     {
         let bank = Bank::new(alloc, private_registers, most, 64, worker, workers)?;
