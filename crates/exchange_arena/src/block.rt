@@ -47,9 +47,10 @@ impl<A: Allocator + Clone + Drop> Block<A> {
         requires room { room ≤ MAX_ROOM }
         ensures side { IfOk result (λ made. made.0.side ≡ side) }
         ensures room { IfOk result (λ made. made.0.room ≡ room) }
+        // The pieces are all those of the block, in order of place, each empty and with room for its words.
         ensures pieces { IfOk result (λ made. made.1.items ≡ pieces_of made.0) }
 
-        // The form in which `join` asks for them.
+        // The pieces are all that `join` asks for to take the block back.
         ensures covered { IfOk result (λ made. Covers made.0 made.1.items) }
     {
         let count = side * side;

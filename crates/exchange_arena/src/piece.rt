@@ -88,11 +88,14 @@ impl Piece {
     ///
     /// `false` says that there are more words than the piece has room for.
     pub fn fill(&mut self, header: Header, words: &[u64]) -> bool
+        // The piece is filled exactly if it has room for the words.
         ensures fits { IsTrue result ↔ (length words.now ≤ self.old.room) }
+        // A piece that is filled holds just this header and these words.
         ensures filled { OnTrue result (self.new ≡ filled_piece self.old header words.now) }
+        // A piece that isn't filled stays as it was.
         ensures refused { OnFalse result (self.new ≡ self.old) }
 
-        // Either way it is the same piece: its block, its place and its room stay.
+        // It is the same piece: its block, its place and its room stay.
         ensures same { emptied_piece self.new ≡ emptied_piece self.old }
     {
         if self.room < words.len() {
@@ -121,6 +124,7 @@ impl Piece {
 
     /// Leaves the piece with a zero header and no words.
     pub fn clear(&mut self)
+        // The piece has a zero header and no words, and its block, its place and its room stay.
         ensures emptied { self.new ≡ emptied_piece self.old }
     {
         Piece::write(&mut self.run, &[0; 4], &[]);

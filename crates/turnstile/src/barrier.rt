@@ -104,8 +104,11 @@ impl Turnstile {
         requires own { seat.table ≡ self.now.table }
         requires few { length seat.sent < 2 ^ 63 }
         ensures seat { SameSeat seat result }
+        // Just the row that is handed over is added to what the worker sent.
         ensures sent { result.sent ≡ seat.sent ++ seat.row ∷ [] }
+        // Just the column that is lent is added to what the worker received.
         ensures received { result.received ≡ seat.received ++ result.column ∷ [] }
+        // The column that is lent has a message from each worker.
         ensures whole { length result.column ≡ seat.workers }
     {
         let mut work = seat.into_work();
@@ -116,8 +119,11 @@ impl Turnstile {
     /// Gives up the column, and gives the row of the next phase, with no words and a zero header for each worker.
     pub fn turn<R>(&self, _rt: &R, seat: ColumnSeat) -> RowSeat
         ensures seat { SameSeat result seat }
+        // What the worker sent stays.
         ensures sent { result.sent ≡ seat.sent }
+        // What the worker received stays.
         ensures received { result.received ≡ seat.received }
+        // The new row has for each worker a message with no words and a zero header.
         ensures row { result.row ≡ blank_row seat.workers }
     {
         let mut work = seat.into_work();
@@ -128,8 +134,11 @@ impl Turnstile {
     /// Takes all seats back, in order of the workers, and frees the memory.
     pub fn close(self, seats: Vec<RowSeat>)
         requires seats { AreSeatsOf self seats.items }
+        // All workers made equally many crossings.
         ensures phases { SamePhases seats.items }
+        // In each crossing, what a worker received from another is what that one sent to it.
         ensures exchanged { ReceivedAsSent seats.items }
+        // Each row that was sent and each column that was received has a message for each worker.
         ensures whole { AreWhole seats.items }
     {
         let Turnstile {

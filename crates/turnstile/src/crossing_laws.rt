@@ -5,24 +5,26 @@ ghost use Rattle.turnstile.specs.Interleavings.{HasWholeColumns, StepsKeepTheRul
 /// What the workers have received, in whatever order they make their steps: a Finish or a Look of any worker, one at a
 /// time. The body is empty: this is a law, for proofs.
 pub fn interleaving_law()
-    // The steps are those that seats make at the table: what a seat may give and take by a Finish leaves this table and no other ..
+    // What a seat may give and take at the table by a Finish leaves the table that the Finish of this law leaves.
     ensures finishes { FinishesAreTheTables }
 
-    // .. and so does what it may give and take by a Look.
+    // What a seat may give and take at the table by a Look leaves the table that the Look of this law leaves.
     ensures looks { LooksAreTheTables }
 
-    // The rule of the barrier holds at the start and behind every list of steps ..
+    // The barrier's rule holds at the start and behind every list of steps.
     ensures sound { StepsKeepTheRule }
 
-    // .. and each Finish that leaves the rule is one of these steps, so that the law speaks of all that seats make.
+    // A Finish of a worker that leaves the barrier's rule is one of the steps that are allowed.
     ensures allowed { FinishesByTheRuleAreAllowed }
 
-    // What j has received from i in a phase is what i has sent to j in it.
+    // In every order of the steps, what a worker has received from another in a crossing is what that one has sent to
+    // it.
     ensures sent { ReceivesWhatWasSent }
 
-    // What j has taken from i in a phase is there.
+    // In every order of the steps, where a worker has taken what another gave in a crossing, it has received a message
+    // from it.
     ensures taken { ReceivesFromEach }
 
-    // A column has one entry for each worker, and there is one for each phase.
+    // In every order of the steps, each worker has a column for each of its crossings, with an entry for each worker.
     ensures whole { HasWholeColumns }
 {}

@@ -66,6 +66,8 @@ impl RowSeat {
     /// Whose seat it is.
     pub fn worker(&self) -> usize
         ensures value { result ≡ self.now.worker }
+        // A seat is one of at most 32, with an entry of its row for each worker, and as many columns as rows, each with
+        // all workers' messages.
         ensures seat { IsRowSeat self.now }
     {
         self.work.worker
@@ -89,7 +91,7 @@ impl RowSeat {
         }) }
         ensures refused { OnFalse result (self.new ≡ self.old) }
 
-        // Either way only the row may change.
+        // Nothing but the row may change.
         ensures same { self.new ≡ record self.old { row = self.new.row } }
     {
         self.work.row[to].fill(header, words)
@@ -115,6 +117,8 @@ impl ColumnSeat {
     /// Whose seat it is.
     pub fn worker(&self) -> usize
         ensures value { result ≡ self.now.worker }
+        // A seat is one of at most 32, with an entry of its column for each worker, and as many columns as rows, each
+        // with all workers' messages.
         ensures seat { IsColumnSeat self.now }
     {
         self.work.worker

@@ -17,12 +17,15 @@ pub trait Column {
     /// The words of the header of the message from a worker.
     fn header(&self, from: usize) -> [u64; 4]
         requires { from < length (came self.now) }
+        // The answer is the header of the message that came from the worker.
         ensures { result ≡ (message_at (came self.now) from).header };
 
     /// The words of the message from a worker.
     fn words(&self, from: usize) -> &[u64]
         requires { from < length (came self.now) }
+        // The answer is the words of the message that came from the worker.
         ensures { result.now ≡ (message_at (came self.now) from).words };
 
+    // No message of a column is longer than the column has room for.
     ghost fits: { (c : Self) (i : ℕ) → length (message_at (came c) i).words ≤ room c };
 }

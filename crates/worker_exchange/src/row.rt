@@ -21,8 +21,11 @@ pub trait Row {
     /// has room for: then nothing is changed.
     fn fill(&mut self, to: usize, header: [u64; 4], words: &[u64]) -> bool
         requires { to < length (filled self.old) }
+        // Where it is filled in, the message to the worker is this header and these words, and the others stay.
         ensures filled { OnTrue result (filled self.new ≡ slice_set (filled self.old) to (record { header = header; words = words.now })) }
+        // It is filled in where there is room for the words.
         ensures fits { length words.now ≤ room self.old → IsTrue result }
+        // Where it isn't filled in, the row stays.
         ensures refused { OnFalse result (filled self.new ≡ filled self.old) }
         ensures room { room self.new ≡ room self.old }
         ensures kept { kept self.old self.new };

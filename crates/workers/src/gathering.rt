@@ -35,23 +35,30 @@ pub fn gather<M: AddressMap>(
     requires seats { AreSeatsOf turnstile seats.items }
     requires ended { HaveEndedSome code.now (M.shape map.now) seats.items workers.items }
     requires room { IsRoom code.now (M.shape map.now) room }
+    // With a reserve the refusal is that the run came past it, and without one that memory was refused.
     ensures given { (reserve : Option Given) → HaveReserve reserve workers.items → IfErr result (λ refusal. refusal ≡ refusal_for reserve) }
+    // A refusal is answered only where worker 0 was stopped by a mark.
     ensures stopped { IfErr result (λ refusal. IsFirstStopped workers.items) }
-    // There is an answer only where no worker was stopped by a mark.
+    // An outcome is answered only where no worker was stopped by a mark.
     ensures unstopped { IfOk result (λ found. NoneHasStopped workers.items) }
-    // With a reserve they have stopped exactly where the run comes past it.
+    // Workers with a reserve are refused only where the machine's run comes past it.
     ensures past { IfErr result (λ refusal. (bound : ℕ) (input : List ℤ) (reserve : Given) →
         HaveEnded code.now (M.shape map.now) bound input seats.items workers.items → HaveReserve (Some reserve) workers.items →
         ComesPast code.now (M.shape map.now) bound input reserve) }
+    // Workers with a reserve have an outcome only where the machine's run doesn't come past it.
     ensures within { IfOk result (λ found. (bound : ℕ) (input : List ℤ) (reserve : Given) →
         HaveEnded code.now (M.shape map.now) bound input seats.items workers.items → HaveReserve (Some reserve) workers.items →
         ¬ (ComesPast code.now (M.shape map.now) bound input reserve)) }
+    // The outcome of workers that have all come to the end of one run, however they took turns, is that of the
+    // machine's definition.
     ensures outcome { IfOk result (λ found. (bound : ℕ) (input : List ℤ) →
         HaveEnded code.now (M.shape map.now) bound input seats.items workers.items →
         IsBspOutcome code.now (M.shape map.now) input bound (verdict_of found.0)) }
+    // The exchanges that are answered are those of the machine's definition; where none are, there are such.
     ensures counts { IfOk result (λ found. (bound : ℕ) (input : List ℤ) →
         HaveEnded code.now (M.shape map.now) bound input seats.items workers.items →
         AreExchanges code.now (M.shape map.now) input bound (verdict_of found.0) found.1) }
+    // Exchanges are answered where all workers kept them.
     ensures kept { AreKept true workers.items → IfOk result (λ found. IsSome found.1) }
 {
     turnstile.close(seats);

@@ -63,6 +63,7 @@ impl ColumnHand {
     /// The column of a seat of so many workers. It looks at each message, which is no longer than the room of its piece.
     pub fn of(seat: ColumnSeat, workers: usize) -> ColumnHand
         requires workers { workers ≡ seat.workers }
+        // The messages are those of the seat's column.
         ensures seat { result.seat ≡ seat }
     {
         let _worker = seat.worker();

@@ -72,11 +72,14 @@ pub fn work<R: Wait, W: WriteRule, M: AddressMap, G: Gate>(
     requires fresh { (seat.sent ≡ []) × (seat.received ≡ []) }
     requires somewhere { IsSomewhere code.now (M.shape map.now) bound seat.worker worker }
     requires runs { is_stopped worker.local.way ≡ false }
+    // The seat is the same worker's.
     ensures owner { SameOwner seat result.0 }
+    // The worker's run is over: it has come to its end, or a mark has stopped it.
     ensures over { spec_is_over (way_is result.1.local.way) ≡ true }
     ensures reserve { result.1.reserve ≡ worker.reserve }
     ensures kept { is_kept result.1.counts ≡ is_kept worker.counts }
-    // Whatever states it showed, within any number of instructions that is enough.
+    // From any states that it showed, the seat has a history of its own steps, whose end the worker shows and has
+    // counted, or that a mark ended.
     ensures worked { (states : ℕ → State) (told : ℕ → List Share) →
         IsBetween code.now (M.shape map.now) bound states told seat.worker worker →
         HasWorked code.now (M.shape map.now) bound states told seat.worker result.0 result.1 }

@@ -149,12 +149,18 @@ pub fn run_keeping<R: Threads + Wait + Sync, M: AddressMap + Sync, G: Gate + Syn
     kept: bool,
     gate: &G,
 ) -> Result<(Outcome, Option<Counts>), RunRefusal>
+    // The run is refused for the first of E13, E12 and E11 that holds; else for want of memory, or with a reserve where
+    // it comes past that.
     ensures refused { IfErr result (IsRefusalWith verified.now (M.shape map.now) terms.workers input.now terms.bound terms.reserve) }
+    // There is an answer only where none of E13, E12 and E11 holds.
     ensures accepted { IfOk result (λ found. IsAccepted verified.now (M.shape map.now) terms.workers input.now) }
+    // There is an answer only where the machine's run comes past no reserve that was given.
     ensures within { IfOk result (λ found. StaysWithin verified.now (M.shape map.now) terms.bound input.now terms.reserve) }
+    // The outcome is that of the machine's definition, whatever the threads' schedule.
     ensures outcome { IfOk result (λ found. IsBspOutcome verified.now (M.shape map.now) input.now terms.bound (verdict_of found.0)) }
-    // The run has exchanges, and these are they if they are answered: as they are where they are to be kept.
+    // The exchanges that are answered are those of the machine's definition; where none are, there are such.
     ensures counts { IfOk result (λ found. AreExchanges verified.now (M.shape map.now) input.now terms.bound (verdict_of found.0) found.1) }
+    // Exchanges are answered where they are to be kept.
     ensures kept { kept ≡ true → IfOk result (λ found. IsSome found.1) }
 {
     let code = verified.code();
@@ -171,10 +177,16 @@ pub fn run_on_terms<R: Threads + Wait + Sync, M: AddressMap + Sync, G: Gate + Sy
     terms: Terms,
     gate: &G,
 ) -> Result<(Outcome, Counts), RunRefusal>
+    // The run is refused for the first of E13, E12 and E11 that holds; else for want of memory, or with a reserve where
+    // it comes past that.
     ensures refused { IfErr result (IsRefusalWith verified.now (M.shape map.now) terms.workers input.now terms.bound terms.reserve) }
+    // There is an answer only where none of E13, E12 and E11 holds.
     ensures accepted { IfOk result (λ found. IsAccepted verified.now (M.shape map.now) terms.workers input.now) }
+    // There is an answer only where the machine's run comes past no reserve that was given.
     ensures within { IfOk result (λ found. StaysWithin verified.now (M.shape map.now) terms.bound input.now terms.reserve) }
+    // The outcome is that of the machine's definition, whatever the threads' schedule.
     ensures outcome { IfOk result (λ found. IsBspOutcome verified.now (M.shape map.now) input.now terms.bound (verdict_of found.0)) }
+    // The exchanges are those of the machine's definition, with the words that each worker sent and received.
     ensures counts { IfOk result (λ found. AreBspExchanges verified.now (M.shape map.now) input.now terms.bound (verdict_of found.0) found.1) }
 {
     let (outcome, counts) = run_keeping(rt, alloc, verified, map, input, terms, true, gate)?;
@@ -196,11 +208,15 @@ pub fn run_workers<R: Threads + Wait + Sync, M: AddressMap + Sync, G: Gate + Syn
     bound: u32,
     gate: &G,
 ) -> Result<(Outcome, Counts), RunRefusal>
+    // The run is refused for the first of E13, E12 and E11 that holds, in this order, and with E16 only where none
+    // does.
     ensures refused { IfErr result (λ refusal. IsRefusal verified.now (M.shape map.now) workers input.now refusal) }
+    // There is an answer only where none of E13, E12 and E11 holds.
     ensures accepted { IfOk result (λ found. IsAccepted verified.now (M.shape map.now) workers input.now) }
     // The outcome is that of the verified code by the machine's definition, on so many workers with this map, on the
     // input and within the bound.
     ensures outcome { IfOk result (λ found. IsBspOutcome verified.now (M.shape map.now) input.now bound (verdict_of found.0)) }
+    // The exchanges are those of the machine's definition, with the words that each worker sent and received.
     ensures counts { IfOk result (λ found. AreBspExchanges verified.now (M.shape map.now) input.now bound (verdict_of found.0) found.1) }
 {
     let terms = Terms {
@@ -225,10 +241,17 @@ pub fn run_reserved<R: Threads + Wait + Sync, M: AddressMap + Sync, G: Gate + Sy
     reserve: Reserve,
     gate: &G,
 ) -> Result<(Outcome, Counts), RunRefusal>
+    // The run is refused as without a reserve, or with E18 where nothing else speaks against it and the machine's run
+    // comes past the reserve.
     ensures refused { IfErr result (IsReservedRefusal verified.now (M.shape map.now) workers input.now bound reserve) }
+    // There is an answer only where none of E13, E12 and E11 holds.
     ensures accepted { IfOk result (λ found. IsAccepted verified.now (M.shape map.now) workers input.now) }
+    // There is an answer only where the machine's run doesn't come past the reserve.
     ensures within { IfOk result (λ found. ¬ (ComesPast verified.now (M.shape map.now) bound input.now reserve)) }
+    // The outcome is that of the machine's definition, for every input, bound and lawful map, whatever the threads'
+    // schedule.
     ensures outcome { IfOk result (λ found. IsBspOutcome verified.now (M.shape map.now) input.now bound (verdict_of found.0)) }
+    // The exchanges are those of the machine's definition, with the words that each worker sent and received.
     ensures counts { IfOk result (λ found. AreBspExchanges verified.now (M.shape map.now) input.now bound (verdict_of found.0) found.1) }
 {
     let reserve = Some(reserve);

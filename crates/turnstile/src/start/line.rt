@@ -68,6 +68,7 @@ impl<T> StartLine<T> {
         requires starter { starter.table ≡ self.table }
         requires runners { (k : ℕ) (r : RunnerState T) → slice_get runners.items k ≡ Some r → r.table ≡ self.table }
         requires over { IsOver self.runners starter.said runners.items }
+        // Each runner has heard go with its own item, or stop, as it was said.
         ensures heard { (k : ℕ) (r : RunnerState T) → slice_get runners.items k ≡ Some r
             → Hears starter.said r.at r.heard }
     {
