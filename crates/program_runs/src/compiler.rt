@@ -36,8 +36,8 @@ pub fn compile_program(alloc: Global, program: &Program) -> Result<Verified, All
 /// and nowhere else. It is refused for E1 to E10, and for E16 where memory was refused; so each
 /// text of an accepted program is compiled.
 pub fn compile(alloc: Global, text: &[u8]) -> Result<Verified, Refusal>
-    // The answer is the code of the text's accepted program, with the program's outcomes by every map, its supersteps
-    // and its words within the program's bounds.
+    // The answer is the code of the text's accepted program, with its outcomes by every map and, unless it faults,
+    // supersteps and words within the program's bounds.
     ensures code { IfOk result (IsCompiledFrom text.now) }
     // Each refusal of a text says what is wrong with it; refused memory, only that it is neither too long nor has a
     // byte of 128 or more.
