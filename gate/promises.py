@@ -5,8 +5,8 @@ promises.py           compares docs/PROMISES.md with the comments that stand at 
 promises.py --write   writes there what is made of them
 
 A promise is a `//` comment directly above a clause of what others can call: an `ensures` of a function that
-`lib.rt` or a public module of it exports, or of a method of such a type or trait, or a law of such a trait. It
-is a row: its sentence, its call, and definitions that its clause names. What stands before the first section of
+`lib.rt` or a public module of it exports, or of a method of such a type or trait, or a law of such a trait. What
+is `pub` and not exported is refused. A promise is a row: its sentence, its call, and definitions that its clause names. What stands before the first section of
 crates.txt and from REST on is written by hand.
 """
 import re
@@ -126,6 +126,12 @@ def cited(source, text):
     return sorted(names, key=lambda it: not it[1][0].isupper())[:MOST_NAMES]
 
 
+def is_own(owner, function):
+    """Whether a function is its crate's own, so that what stands at its clauses is no promise."""
+    of_trait = owner and (owner["of_trait"] or owner["head"].endswith("trait"))
+    return function and not of_trait and function["shown"] != "pub "
+
+
 def promises_of(source):
     """The promises that stand in a file."""
     owner = function = None
@@ -138,7 +144,7 @@ def promises_of(source):
             function = begin
         is_law = owner and owner["head"].endswith("trait") and LAW.match(line)
         clause, sentence = is_law or CLAUSE.match(line), comment_above(source.lines, at)
-        if clause and sentence:
+        if clause and sentence and (is_law or not is_own(owner, function)):
             call, shown = call_of(source, owner, None if is_law else function)
             place = f"crates/{source.crate}/src/{source.module.replace('::', '/')}.rt:{at + 1}"
             names = cited(source, clause_text(source.lines, at))
