@@ -20,7 +20,7 @@ from definitions import imports, named, path_of
 PAGE = TOP / "docs/PROMISES.md"
 REST = "## What the promises leave out\n"
 MOST_WORDS = 30
-MOST_NAMES = 6
+MOST_NAMES = 4
 TABLE = "| Promise | Call | Definitions |\n|---|---|---|"
 EXPORT = re.compile(r"^pub use (?:crate::)?(\w+(?:::\w+)*)::(?:(\w+)|\{([^}]*)\});", re.M)
 MODULE = re.compile(r"^pub mod (\w+);", re.M)
@@ -169,25 +169,18 @@ def mistakes(promise):
 
 def call_text(call, promises):
     """A call, with those of its clauses that have a name."""
-    names = [f"`{it.clause}`" for it in promises if it.clause]
-    kind = "law" if promises[0].is_law else "clause"
-    return f"`{call}`, {kind}{'s' * (len(names) > 1)} {', '.join(names)}" if names else f"`{call}`"
+    return " ".join([f"`{call}`", ", ".join(f"`{it.clause}`" for it in promises if it.clause)]).strip()
 
 
-def names_text(crate, names):
-    """Definitions, with their files."""
-    shown = []
-    for file in dict.fromkeys(file for file, _ in names):
-        of, module = file.split(".specs.")
-        words = ", ".join(f"`{name}`" for it, name in names if it == file)
-        shown.append(f"{words} in `{'' if of == crate else of + '/'}specs/{module}.antt`")
-    return "; ".join(shown)
+def names_text(names):
+    """Definitions by their names."""
+    return ", ".join(f"`{name}`" for name in dict.fromkeys(name for _, name in names))
 
 
-def row(crate, promises):
+def row(promises):
     """The row of promises that stand one behind the other and say the same."""
     calls = "; ".join(call_text(call, list(same)) for call, same in groupby(promises, lambda it: it.call))
-    names = names_text(crate, list(dict.fromkeys(name for it in promises for name in it.names))[:MOST_NAMES])
+    names = names_text(list(dict.fromkeys(name for it in promises for name in it.names))[:MOST_NAMES])
     sentence = promises[0].sentence.replace("|", "\\|")
     return f"| {sentence} | {calls} | {names} |".replace("|  |", "| |")
 
@@ -195,7 +188,7 @@ def row(crate, promises):
 def crate_text(crate, promises):
     """The heading and the table of a crate."""
     shown = [it for it in promises if it.shown]
-    rows = [row(crate, list(same)) for _, same in groupby(shown, lambda it: it.sentence)]
+    rows = [row(list(same)) for _, same in groupby(shown, lambda it: it.sentence)]
     return "\n".join([f"### {crate}\n", f"{first_sentence(crate)}\n", TABLE, *rows, ""])
 
 
