@@ -1,5 +1,6 @@
 -- A worker at an exchange, and behind it.
-use Rattle.std.proofs.Common.{◌≡◌, ℕ, ◌+◌, ◌<◌, ◌≤◌, inl, inr, List, length, Bool, true, false, Option, Some, None, refl, sym, ap, subst, ◌∙◌, arith}
+use Rattle.std.proofs.Common.{◌≡◌, ℕ, ◌+◌, ◌<◌, ◌≤◌, inl, inr, List, length, Bool, true, false, Option, Some, None, refl, sym, ap, subst}
+use Rattle.std.proofs.Common.{◌∙◌, arith}
 use Rattle.std.specs.Prelude.{◌||◌, nat_lt, nat_le, vec_capacity}
 use Rattle.std.proofs.lemmas.Bool.Decides.{nat_tests}
 use Rattle.std.proofs.lemmas.Bool.{lt-ltb}
@@ -93,7 +94,8 @@ module _ (code : SuperstepCode) (m : Shape) (bound : ℕ) (states : ℕ → Stat
       go : (b : Bool) → is_stopped y.way ≡ b → is_past r (printed w) (length (told n))
           ≡ (b || is_past r (length y.steps.uniform.output.items) (made_of x.counts) || nat_le (room_of x.counts) (made_of x.counts))
       go true e =
-          let l : r.items < printed w = subst (λ v. r.items < printed v) (between.worker alive) (past e r.items has n (states n) low here) in
+          let l : r.items < printed w = subst (λ v. r.items < printed v) (between.worker alive)
+              (past e r.items has n (states n) low here) in
           ap (λ d. d || nat_le r.exchanges (length (told n))) (lt-ltb r.items (printed w) l)
       go false e =
           let output : printed w ≡ length y.steps.uniform.output.items = ap printed (sym (between.worker alive))

@@ -35,7 +35,8 @@ module _ (y : CountedWorker) (rest : List CountedWorker) (items : Vec ℤ Global
   kept_at kept all (suc w) x e = all (suc w) x e
 
 module _ (x : CountedWorker) (items : Vec ℤ Global) where
-  pub first_left : (xs : List CountedWorker) → slice_get xs 0 ≡ Some x → slice_get (slice_set xs 0 (without x items)) 0 ≡ Some (without x items)
+  pub first_left : (xs : List CountedWorker) → slice_get xs 0 ≡ Some x → slice_get (slice_set xs 0 (without x items)) 0 ≡ Some
+      (without x items)
   first_left [] e = absurd (cc e)
   first_left (y ∷ xs) e = refl
 

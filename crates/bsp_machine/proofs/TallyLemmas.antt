@@ -34,6 +34,7 @@ one_more_told {x} {y} {told} count kept made rows t = record {
 }
 
 -- one worker more before the others
-pub one_more_kept : (kept : Bool) (x : CountedWorker) (xs : List CountedWorker) → is_kept x.counts ≡ kept → AreKept kept xs → AreKept kept (x ∷ xs)
+pub one_more_kept : (kept : Bool) (x : CountedWorker) (xs : List CountedWorker) → is_kept x.counts ≡ kept → AreKept kept xs → AreKept
+    kept (x ∷ xs)
 one_more_kept kept x xs here all zero y e = ap (λ (z : CountedWorker). is_kept z.counts) (some_is y x (sym e)) ∙ here
 one_more_kept kept x xs here all (suc w) y e = all w y e

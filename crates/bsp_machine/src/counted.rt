@@ -1,6 +1,7 @@
 //! A worker that counts its exchanges.
 
-ghost use Rattle.std.specs.Prelude.{◌≡◌, ◌<◌, ◌≤◌, ◌+◌, ◌^◌, ◌||◌, ◌⊎◌, ℕ, List, ℤ, length, true, false, Some, None, vec_capacity, ◌++◌, ◌∷◌, []};
+ghost use Rattle.std.specs.Prelude.{◌≡◌, ◌<◌, ◌≤◌, ◌+◌, ◌^◌, ◌||◌, ◌⊎◌, ℕ, List, ℤ, length, true, false, Some, None, vec_capacity, ◌++◌};
+ghost use Rattle.std.specs.Prelude.{◌∷◌, []};
 ghost use Rattle.std.specs.Prelude.{IfOk, IfErr, OnOk, OnErr, nat_le};
 ghost use Rattle.exchange_counts.specs.Tallies.{is_kept, made_of, room_of, rows_of};
 ghost use Rattle.address_map.specs.Outcome.{IsWorkers};
@@ -296,7 +297,8 @@ impl CountedWorker {
         requires column { length (C.came column.now) ≡ (M.shape map.now).parts }
         requires room { C.room column.now ≤ most_words code.now (M.shape map.now) }
         // It has stopped exactly where it had before, or a header has a mark.
-        ensures stopped { spec_is_stopped self.new.local.way ≡ (spec_is_stopped self.old.local.way || is_marked (mark_heard (C.came column.now))) }
+        ensures stopped { spec_is_stopped self.new.local.way ≡ (spec_is_stopped self.old.local.way || is_marked
+            (mark_heard (C.came column.now))) }
         // The mark by which it has stopped is its own, or else the worst that came.
         ensures mark { (mark : MarkOfHeader) → self.new.local.way ≡ way_is_one_of.Stopped mark →
             (self.old.local.way ≡ way_is_one_of.Stopped mark)

@@ -4,7 +4,8 @@ use Rattle.std.proofs.Common.{⊎_elim, ◌⊎◌, inl, inr}
 use Rattle.std.specs.Prelude.{◌&&◌, nat_lt, slice_get}
 use Rattle.std.proofs.lemmas.Bool.Decides.{nat_tests}
 use Rattle.superstep_instructions.specs.declared.instr.Instr.{Instr}
-use Rattle.superstep_instructions.specs.declared.instr.Instr.TheVariants.{Enter, Leave, Mask, Unmask, Ask, Put, Send, Reply, Jump, JumpIfZero, Halt}
+use Rattle.superstep_instructions.specs.declared.instr.Instr.TheVariants.{Enter, Leave, Mask, Unmask, Ask, Put, Send, Reply, Jump}
+use Rattle.superstep_instructions.specs.declared.instr.Instr.TheVariants.{JumpIfZero, Halt}
 use Rattle.superstep_instructions.specs.Code.{SuperstepCode}
 use Rattle.bsp_verify.specs.declared.state.State.{State}
 use Rattle.bsp_verify.specs.States.{opening, after}

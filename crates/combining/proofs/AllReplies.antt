@@ -17,7 +17,8 @@ none_taken (suc n) (suc k) = none_taken n k
 
 pub all_left : (n k : ℕ) (replies : List (List ℕ)) → left_of_all (zeros n) k replies ≡ replies
 all_left n k [] = refl
-all_left n k (ws ∷ rest) = ap (λ m. drop m ws ∷ left_of_all (zeros n) (k + 1) rest) (none_taken n k) ∙ ap (λ us. ws ∷ us) (all_left n (k + 1) rest)
+all_left n k (ws ∷ rest) = ap (λ m. drop m ws ∷ left_of_all (zeros n) (k + 1) rest) (none_taken n k) ∙ ap (λ us. ws ∷ us)
+    (all_left n (k + 1) rest)
 
 -- a reply without words changes nothing
 pub nothing_replied : (part : ℕ → ℕ) (k : ℕ) (held : List HeldAsk) → replied part k [] held ≡ held
@@ -45,7 +46,8 @@ module _ (part : ℕ → ℕ) (home : ℕ) where
   module _ (taken : List ℕ) (n : ℕ) (is : get_or taken home 0 ≡ n) (q : HeldAsk) (here : part q.ask.cell ≡ home) where
     -- nothing is left for it
     pub none_left : (replies : List (List ℕ)) (k : ℕ) → ((d : ℕ) → home ≡ k + d → d < length replies → length (get_or replies d []) ≤ n) →
-        (rest : List HeldAsk) → all_replied part k (left_of_all taken k replies) (q ∷ rest) ≡ q ∷ all_replied part k (left_of_all taken k replies) rest
+        (rest : List HeldAsk) → all_replied part k (left_of_all taken k replies) (q ∷ rest) ≡ q ∷ all_replied part k
+            (left_of_all taken k replies) rest
     none_left [] k few rest = refl
     none_left (r ∷ replies) k few rest =
         ap (all_replied part (k + 1) (left_of_all taken (k + 1) replies))
@@ -55,10 +57,12 @@ module _ (part : ℕ → ℕ) (home : ℕ) where
         ∙ none_left replies (k + 1) (λ d e l. few (suc d) (omega (arith, e)) (omega (arith, l)))
         (replied part k (drop (get_or taken k 0) r) rest)
 
-    left_same : (v : ℕ) (replies : List (List ℕ)) (k : ℕ) → home < k → left_of_all (set taken home v) k replies ≡ left_of_all taken k replies
+    left_same : (v : ℕ) (replies : List (List ℕ)) (k : ℕ) → home < k → left_of_all (set taken home v) k replies ≡ left_of_all
+        taken k replies
     left_same v [] k l = refl
     left_same v (r ∷ replies) k l =
-        ap (λ m. drop m r ∷ left_of_all (set taken home v) (k + 1) replies) (get_or-set_other taken home k v 0 (λ e. absurd (omega (arith, e, l))))
+        ap (λ m. drop m r ∷ left_of_all (set taken home v) (k + 1) replies)
+            (get_or-set_other taken home k v 0 (λ e. absurd (omega (arith, e, l))))
         ∙ ap (λ us. drop (get_or taken k 0) r ∷ us) (left_same v replies (k + 1) (omega (arith, l)))
 
     -- the next word of its module is for it
@@ -81,11 +85,13 @@ module _ (part : ℕ → ℕ) (home : ℕ) where
         ∙ later (answered q w) here next (k + 1) (omega (arith, same)) (replied part k behind rest)
         ∙ ap (λ us. answered q w ∷ all_replied part (k + 1) us (replied part k behind rest))
         (sym (left_same (n + 1) replies (k + 1) (omega (arith, same))))
-        ∙ ap (λ m. answered q w ∷ all_replied part (k + 1) (left_of_all (set taken home (n + 1)) (k + 1) replies) (replied part k (drop m r) rest))
+        ∙ ap (λ m. answered q w ∷ all_replied part (k + 1) (left_of_all (set taken home (n + 1)) (k + 1) replies)
+            (replied part k (drop m r) rest))
         (sym (ap (λ j. get_or (set taken home (n + 1)) j 0) same ∙ get_or-set_same taken home (n + 1) 0 known))
     one_taken known (r ∷ replies) k (suc d) at l some rest =
         let apart : k ≡ home → ⊥ = λ e. absurd (omega (arith, e, at)) in
-        ap (all_replied part (k + 1) (left_of_all taken (k + 1) replies)) (passes q here k (drop (get_or taken k 0) r) (λ e. absurd (apart e))
+        ap (all_replied part (k + 1) (left_of_all taken (k + 1) replies))
+            (passes q here k (drop (get_or taken k 0) r) (λ e. absurd (apart e))
         rest)
         ∙ one_taken known replies (k + 1) d (omega (arith, at)) (omega (arith, l)) some (replied part k (drop (get_or taken k 0) r) rest)
         ∙ ap (λ m. answered q (get_or (get_or replies d []) n 0)

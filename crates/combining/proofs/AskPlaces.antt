@@ -1,10 +1,12 @@
 -- Where asks stand, and their values.
-use Rattle.std.proofs.Common.{◌≡◌, ℕ, zero, suc, ◌<◌, List, [], ◌∷◌, length, map, pos, get_or, Bool, true, false, refl, sym, ap, ◌∙◌, arith, eqb}
+use Rattle.std.proofs.Common.{◌≡◌, ℕ, zero, suc, ◌<◌, List, [], ◌∷◌, length, map, pos, get_or, Bool, true, false, refl, sym, ap, ◌∙◌, arith}
+use Rattle.std.proofs.Common.{eqb}
 use Rattle.std.specs.Prelude.{if◌then◌else◌}
 use Rattle.combining.specs.Asked.{Asked}
 use Rattle.combining.specs.Places.{place_of}
 use Rattle.combining.specs.Held.{paired}
-use Rattle.combining.specs.Asked.{HeldAsk, value_there, ask_at, ask_key, key_of, marked_twice, ask, answered, replied, value_for, place_held, value_held}
+use Rattle.combining.specs.Asked.{HeldAsk, value_there, ask_at, ask_key, key_of, marked_twice, ask, answered, replied, value_for}
+use Rattle.combining.specs.Asked.{place_held, value_held}
 use Rattle.combining.specs.Asked.{ValueStandsAtItsPlace, RepliesMoveNothing, AsksMoveNothing}
 use Rattle.combining.proofs.Asking.{meant_at}
 

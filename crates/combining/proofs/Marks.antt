@@ -102,9 +102,11 @@ valued_enough f [] xs n l = ap (λ us. valued f us xs) (take_all n [] (omega ari
 valued_enough f (w ∷ ws) [] zero l = refl
 valued_enough f (w ∷ ws) [] (suc n) l = refl
 valued_enough f (w ∷ ws) (x ∷ xs) zero l = absurd (omega arith)
-valued_enough f (w ∷ ws) (x ∷ xs) (suc n) l = ap (λ ys. record { again = x.again; value = f w } ∷ ys) (valued_enough f ws xs n (omega arith))
+valued_enough f (w ∷ ws) (x ∷ xs) (suc n) l = ap (λ ys. record { again = x.again; value = f w } ∷ ys)
+    (valued_enough f ws xs n (omega arith))
 
-pub valued_all : (f : ℕ → ℤ) (ws : List ℕ) (xs : List Asked) (n : ℕ) → n ≡ min (length ws) (length xs) → valued f (take n ws) xs ≡ valued f ws xs
+pub valued_all : (f : ℕ → ℤ) (ws : List ℕ) (xs : List Asked) (n : ℕ) → n ≡ min (length ws) (length xs) → valued f (take n ws) xs ≡
+    valued f ws xs
 valued_all f ws xs n e =
     ⊎_elim
     (λ (few : length ws < length xs). ap (λ us. valued f us xs) (take_all n ws (omega (arith, e, few))))

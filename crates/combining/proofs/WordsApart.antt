@@ -1,5 +1,6 @@
 -- Asks whose words ascend: none is for the cell of another by the same read.
-use Rattle.std.proofs.Common.{◌≡◌, ℕ, ◌+◌, ◌*◌, ◌/◌, ◌%◌, ◌^◌, ◌<◌, ◌≤◌, List, [], ◌∷◌, Bool, true, false, Option, Some, None, refl, ap, ◌∙◌}
+use Rattle.std.proofs.Common.{◌≡◌, ℕ, ◌+◌, ◌*◌, ◌/◌, ◌%◌, ◌^◌, ◌<◌, ◌≤◌, List, [], ◌∷◌, Bool, true, false, Option, Some, None, refl, ap}
+use Rattle.std.proofs.Common.{◌∙◌}
 use Rattle.std.proofs.Common.{eqb, ⊎_elim, arith}
 use Rattle.std.specs.Prelude.{if◌then◌else◌, ◌&&◌, nat_lt}
 use Rattle.std.specs.List.{cons_option}
@@ -65,7 +66,8 @@ module _ (m : Shape) (j k c : ℕ) where
       alone None h = h
       alone (Some b) h = h
 
-      go : (b : Bool) → is_several (total None several (asked_in k c) (cons_option (if b then Some (read_ask w) else None) (asks_in m j ws)))
+      go : (b : Bool) → is_several (total None several (asked_in k c) (cons_option (if b then Some (read_ask w) else None)
+          (asks_in m j ws)))
           ≡ false
       go true = ap (λ x. is_several (several (asked w) x)) none ∙ alone (asked w) (asked_once w l)
       go false = ap is_several none

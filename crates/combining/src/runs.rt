@@ -17,8 +17,8 @@ use crate::words::{cell_of, push_ask, push_put};
 use address_map::AddressMap;
 use write_rules::WriteRule;
 
-/// Keeps the words of a module's reply, of which the first were taken, at the asks from one on, as long as they are for that module. Says up
-/// to which ask, and how many words are taken then.
+/// Keeps the words of a module's reply, of which the first were taken, at the asks from one on, as long as they are for that module. Says
+/// up to which ask, and how many words are taken then.
 pub(crate) fn keep_run<M: AddressMap>(
     map: &M,
     home: u32,
@@ -73,7 +73,8 @@ fn append_ask_run<M: AddressMap>(
     requires long { length asked.now.items ≡ length keys.now }
     requires from { from ≤ length asked.now.items }
     requires room { length list.items
-        + length (ask_words (asks_for (M.shape map.now).part home (drop from (paired ask_at keys.now asked.now.items)))) ≤ vec_capacity list }
+        + length (ask_words (asks_for (M.shape map.now).part home (drop from (paired ask_at keys.now asked.now.items)))) ≤
+            vec_capacity list }
     ensures got { GetsFirst home (λ j. ask_words (asks_for (M.shape map.now).part j (drop from (paired ask_at keys.now asked.now.items))))
         (λ j. ask_words (asks_for (M.shape map.now).part j (drop result.1 (paired ask_at keys.now asked.now.items)))) list.items
         result.0.items }

@@ -9,8 +9,8 @@ use std::alloc::{AllocError, Global};
 use std::marker::Model;
 use std::mem;
 
-/// What is known of asks, in their order. Marks and values stand in lists of their own, and a value is only written once it came: so to hold
-/// an ask is to write one mark, and where there is one module, the words of its reply are copied one behind the other.
+/// What is known of asks, in their order. Marks and values stand in lists of their own, and a value is only written once it came: so to
+/// hold an ask is to write one mark, and where there is one module, the words of its reply are copied one behind the other.
 #[derive(Drop)]
 pub(crate) struct AskStates {
     marks: Vec<bool>,

@@ -16,10 +16,12 @@ use Rattle.command_facts.specs.Listings.{IsOfListing}
 pub read_whole : (holds : Option (List ℕ) → Type 0) (most : ℕ) (bytes : List ℕ) → length bytes ≤ most → IsReadFrom holds most bytes →
     holds (Some bytes)
 read_whole holds most bytes few read =
-    subst (λ (xs : List ℕ). holds (Some xs)) (append-nil bytes) (subst (λ (rest : List ℕ). holds (Some (bytes ++ rest))) (read.2 few) read.1)
+    subst (λ (xs : List ℕ). holds (Some xs)) (append-nil bytes) (subst (λ (rest : List ℕ). holds (Some (bytes ++ rest)))
+        (read.2 few) read.1)
 
 -- code that is refused stands in the file that its text was read from
-pub code_stops : (holds : Option (List ℕ) → Type 0) (name : List ℕ) (most : ℕ) (text : List ℕ) (why : Stop) (a : About) → IsReadFrom holds most text →
+pub code_stops : (holds : Option (List ℕ) → Type 0) (name : List ℕ) (most : ℕ) (text : List ℕ) (why : Stop) (a : About) → IsReadFrom holds
+    most text →
     IsOfCodeIn text why a → IsAtFile holds name most IsOfListing why a
 code_stops holds name most text (stop.Words w) a read h = absurd h
 code_stops holds name most text (stop.Number w) a read h = absurd h

@@ -1,5 +1,6 @@
 -- The inputs of files, and that what holds of them holds as long as names stand for the same files.
-use Rattle.std.proofs.Common.{◌≡◌, ◌∙◌, ◌<◌, ◌+◌, ◌∷◌, ◌++◌, [], ℕ, ℤ, Global, List, Vec, ap, get_or, inl, inr, length, map, subst, sym, take}
+use Rattle.std.proofs.Common.{◌≡◌, ◌∙◌, ◌<◌, ◌+◌, ◌∷◌, ◌++◌, [], ℕ, ℤ, Global, List, Vec, ap, get_or, inl, inr, length, map, subst, sym}
+use Rattle.std.proofs.Common.{take}
 use Rattle.std.proofs.lemmas.List.{map_push, take_more}
 use Rattle.std.proofs.lemmas.List.Elements.{Contains-get_or}
 use Rattle.std.specs.Prelude.{Option, Some}
@@ -38,7 +39,8 @@ module _ (now before : List ℕ → Option (List ℕ) → Type 0) (same : IsSame
   pub input_held : (file : InputFile) (values : List ℤ) → IsInputOfFile now file values → IsInputOfFile before file values
   input_held file values h = (h.0, (same file.name.now (Some h.0)).0 h.1, h.2)
 
-  pub inputs_held : (files : List InputFile) (is : List (List ℤ)) → AllZip (IsInputOfFile now) files is → AllZip (IsInputOfFile before) files is
+  pub inputs_held : (files : List InputFile) (is : List (List ℤ)) → AllZip (IsInputOfFile now) files is → AllZip
+      (IsInputOfFile before) files is
   inputs_held [] [] h = tt
   inputs_held (f ∷ files) (x ∷ is) h = (input_held f x h.0, inputs_held files is h.1)
   inputs_held [] (x ∷ is) h = absurd h

@@ -31,7 +31,8 @@ use Rattle.command_facts.specs.Sweeps.{ComesOut, IsProgramRefused, IsRow, RunsAs
 
 module _ (now before : List ℕ → Option (List ℕ) → Type 0) (same : IsSame now before) where
   -- what the cells hold
-  pub opening_held : (layout : List SharedEntry) (o : Opening) (values : List ℤ) → IsOpening now layout o values → IsOpening before layout o values
+  pub opening_held : (layout : List SharedEntry) (o : Opening) (values : List ℤ) → IsOpening now layout o values → IsOpening before
+      layout o values
   opening_held layout opening.Zeros values h = h
   opening_held layout (opening.Input name) values h = (h.0, (same name.now (Some h.0)).0 h.1, h.2)
   opening_held layout (opening.Memory name) values h = (h.0, (same name.now (Some h.0)).0 h.1, h.2)
@@ -50,7 +51,8 @@ module _ (now before : List ℕ → Option (List ℕ) → Type 0) (same : IsSame
   unread name stop.WriteFailed h = absurd h
   unread name (stop.BadSize at reason) h = absurd h
 
-  pub at_file : (name : List ℕ) (most : ℕ) (Has : Stop → List ℕ → Type 0) (why : Stop) (a : About) → IsAtFile (now name) name most Has why a →
+  pub at_file : (name : List ℕ) (most : ℕ) (Has : Stop → List ℕ → Type 0) (why : Stop) (a : About) → IsAtFile (now name) name most
+      Has why a →
       IsAtFile (before name) name most Has why a
   at_file name most Has why about.Nothing h = h
   at_file name most Has why (about.File u) h = unread name why h
@@ -74,7 +76,8 @@ module _ (now before : List ℕ → Option (List ℕ) → Type 0) (same : IsSame
   at_memory name layout why (about.Line s line) h = absurd h
 
   -- that they can't be had
-  pub opening_stops : (layout : List SharedEntry) (o : Opening) (h : Halted) → StopsAtOpening now layout o h → StopsAtOpening before layout o h
+  pub opening_stops : (layout : List SharedEntry) (o : Opening) (h : Halted) → StopsAtOpening now layout o h → StopsAtOpening before
+      layout o h
   opening_stops layout opening.Zeros h stops = absurd stops
   opening_stops layout (opening.Input name) h stops = at_file name.now longest IsOfInput h.stop h.about stops
   opening_stops layout (opening.Memory name) h stops = at_memory name.now layout h.stop h.about stops
@@ -85,7 +88,8 @@ module _ (now before : List ℕ → Option (List ℕ) → Type 0) (same : IsSame
   loaded_held : (file : ProgramFile) (l : Loaded) → IsLoaded (now file.name.now) file l → IsLoaded (before file.name.now) file l
   loaded_held file l h = (((same file.name.now _).0 h.0.0, h.0.1), h.1)
 
-  expansion_held : (name : List ℕ) (words : List SizeWord) (e : Expansion) → IsExpansionIn (now name) words e → IsExpansionIn (before name) words e
+  expansion_held : (name : List ℕ) (words : List SizeWord) (e : Expansion) → IsExpansionIn (now name) words e → IsExpansionIn
+      (before name) words e
   expansion_held name words e h = (h.0, (same name (Some h.0)).0 h.1, h.2)
 
   pub program_held : (file : ProgramFile) (program : Checked) → IsProgramIn now file program → IsProgramIn before file program
@@ -104,7 +108,8 @@ module _ (now before : List ℕ → Option (List ℕ) → Type 0) (same : IsSame
     is_program = h.is_program;
   }
 
-  at_text : (file : ProgramFile) (why : Stop) (a : About) → IsAtText (now file.name.now) file why a → IsAtText (before file.name.now) file why a
+  at_text : (file : ProgramFile) (why : Stop) (a : About) → IsAtText (now file.name.now) file why a → IsAtText (before file.name.now)
+      file why a
   at_text file why about.Nothing h = h
   at_text file why (about.File u) h = unread file.name.now why h
   at_text file why (about.Text s) h = (read_from file.name.now longest s.bytes.items h.0, h.1, h.2)
@@ -119,7 +124,8 @@ module _ (now before : List ℕ → Option (List ℕ) → Type 0) (same : IsSame
   at_program file why (about.Values values cells) h = absurd h
   at_program file why (about.File u) h = absurd h
 
-  program_stops : (file : ProgramFile) (h : Halted) → StopsAtProgram (now file.name.now) file h → StopsAtProgram (before file.name.now) file h
+  program_stops : (file : ProgramFile) (h : Halted) → StopsAtProgram (now file.name.now) file h → StopsAtProgram
+      (before file.name.now) file h
   program_stops file h (inl stops) = inl (at_text file h.stop h.about stops)
   program_stops file h (inr stops) = inr (at_program file h.stop h.about stops)
 
@@ -136,7 +142,8 @@ module _ (now before : List ℕ → Option (List ℕ) → Type 0) (same : IsSame
     facts = h.facts;
   }
 
-  stops_before : (layout : List SharedEntry) (words : RunWords) (h : Halted) → StopsBefore now layout words h → StopsBefore before layout words h
+  stops_before : (layout : List SharedEntry) (words : RunWords) (h : Halted) → StopsBefore now layout words h → StopsBefore before
+      layout words h
   stops_before layout words h (inl stops) = inl stops
   stops_before layout words h (inr stops) = inr (opening_stops layout words.opening h stops)
 

@@ -9,7 +9,8 @@ use Rattle.program_texts.specs.declared.stop.Stop.TheVariants.{WriteFailed}
 use Rattle.command_facts.specs.Written.{IsReported, Wrote, WroteSome}
 
 -- all of the text, and what the last flush said
-pub wrote : (ends given : Status) (text : List ℕ) (old mid new : OutState) (r : Result Status Stop) → given ≡ ends → mid ≡ with_bytes old text →
+pub wrote : (ends given : Status) (text : List ℕ) (old mid new : OutState) (r : Result Status Stop) → given ≡ ends → mid ≡ with_bytes
+    old text →
     IfOk r (λ s. (s ≡ given) × (new ≡ mid)) → IfErr r (λ stop. (stop ≡ WriteFailed) × (new ≡ with_failure mid)) → Wrote ends text old new r
 wrote ends given text old mid new (Ok s) is written ok failed = (ok.0 ∙ is, ok.1 ∙ written)
 wrote ends given text old mid new (Err why) is written ok failed = (
@@ -38,7 +39,8 @@ reported_in_part old new given text (Ok u) is w part = cc
 reported_in_part old new given text (Err e) is w part = subst (IsReported old new) is (inr w)
 
 -- a text that was written is one of its kind
-pub wrote_some : (ends : Status) (Needs : Type 0) (Is : List ℕ → Type 0) (text : List ℕ) (old new : OutState) (r : Result Status Stop) → Is text →
+pub wrote_some : (ends : Status) (Needs : Type 0) (Is : List ℕ → Type 0) (text : List ℕ) (old new : OutState) (r : Result Status Stop)
+    → Is text →
     Wrote ends text old new r → WroteSome ends Needs Is old new r
 wrote_some ends Needs Is text old new (Ok s) is w = (w.0, (text, is, w.1))
 wrote_some ends Needs Is text old new (Err why) is w = inl (w.0, (text, is, w.1))

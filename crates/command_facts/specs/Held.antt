@@ -142,8 +142,10 @@ IsOfMemoryIn layout text why (about.File u) = ⊥
 abbrev pub IsAtMemory : (Option (List ℕ) → Type 0) → List ℕ → List SharedEntry → Stop → About → Type 0
 IsAtMemory holds name layout why about.Nothing = why ≡ stop.Refused refusal.OutOfMemory
 IsAtMemory holds name layout why (about.File u) = IsNoFile holds name why
-IsAtMemory holds name layout why (about.Text s) = IsReadFrom holds longest s.bytes.items × (s.expansion ≡ None) × IsOfMemory layout why s.bytes.items
-IsAtMemory holds name layout why (about.Values values cells) = (text : List ℕ) × IsReadFrom holds longest text × IsTooMuch layout values cells why text
+IsAtMemory holds name layout why (about.Text s) = IsReadFrom holds longest s.bytes.items × (s.expansion ≡ None) × IsOfMemory layout why
+    s.bytes.items
+IsAtMemory holds name layout why (about.Values values cells) = (text : List ℕ) × IsReadFrom holds longest text × IsTooMuch layout values
+    cells why text
 IsAtMemory holds name layout why (about.Line s line) = ⊥
 
 abbrev pub StopsAtMemory : (Option (List ℕ) → Type 0) → List ℕ → List SharedEntry → Halted → Type 0

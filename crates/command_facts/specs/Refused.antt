@@ -54,7 +54,8 @@ pub record IsProgramIn (holds : List ℕ → Option (List ℕ) → Type 0) (file
   pub is_program : IsProgramOf expansion.text program
 
 -- the program is that of what this text, which is all that its file holds, comes to by the sizes of the words
-pub record IsProgramOfText (holds : List ℕ → Option (List ℕ) → Type 0) (file : ProgramFile) (text : List ℕ) (program : Checked) : Type 0 where
+pub record IsProgramOfText (holds : List ℕ → Option (List ℕ) → Type 0) (file : ProgramFile) (text : List ℕ) (program : Checked) :
+    Type 0 where
   pub held : holds file.name.now (Some text)
   pub expansion : Expansion
   pub is_expansion : IsExpandedBy file.sizes.items text expansion

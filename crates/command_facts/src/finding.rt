@@ -3,7 +3,8 @@
 ghost use Rattle.std.specs.Prelude.{◌≡◌, ◌⊎◌, IfOk, IfErr};
 ghost use Rattle.system_files.specs.Files.{IsSame};
 ghost use Rattle.command_facts.specs.Calls.{Finds, FindsOf, IsCodeOfFile, Refuses, RefusesOf};
-ghost use Rattle.command_facts.specs.Found.{AreNamed, AreThere, IsCodeFound, IsComparisonFound, IsLoaded, IsOpening, IsRunFound, IsStepsFound};
+ghost use Rattle.command_facts.specs.Found.{AreNamed, AreThere, IsCodeFound, IsComparisonFound, IsLoaded, IsOpening, IsRunFound};
+ghost use Rattle.command_facts.specs.Found.{IsStepsFound};
 ghost use Rattle.command_facts.specs.Refused.{
   IsForeignTo,
   IsUnknownIn,
@@ -93,7 +94,8 @@ fn load_given<'a, S: Sources>(
     ensures loaded { IfOk result (λ given. IsLoaded (S.Sources.holds sources.old file.now.name.now) file.now given.0) }
     ensures there { IfOk result (λ given. AreThere given.0.program.layout words.entry) }
     ensures named { IfOk result (λ given. AreNamed given.0.program.tree words.entry) }
-    ensures input { IfOk result (λ given. IsOpening (S.Sources.holds sources.old) given.0.program.layout words.entry.opening given.1.items) }
+    ensures input { IfOk result (λ given. IsOpening (S.Sources.holds sources.old) given.0.program.layout words.entry.opening
+        given.1.items) }
     ensures refused { IfErr result (λ h. StopsAtProgram (S.Sources.holds sources.old file.now.name.now) file.now h
         ⊎ StopsBehindProgram (S.Sources.holds sources.old) file.now words.entry h) }
     ensures same { IsSame (S.Sources.holds sources.new) (S.Sources.holds sources.old) }

@@ -10,7 +10,8 @@ ghost use Rattle.system_files.specs.Files.{IsReadFrom, IsSame};
 ghost use Rattle.program_texts.specs.declared.stop.Stop.TheVariants.{Unreadable};
 ghost use Rattle.diagnoses.specs.declared.about.About.TheVariants.{File};
 ghost use Rattle.command_facts.specs.Found.{IsLoaded};
-ghost use Rattle.command_facts.specs.Held.{IsOfMissing, IsListingIn, IsOfCodeIn, IsTextIn, IsUnread, StopsAtListing, StopsAtProgram, StopsAtText};
+ghost use Rattle.command_facts.specs.Held.{IsOfMissing, IsListingIn, IsOfCodeIn, IsTextIn, IsUnread, StopsAtListing, StopsAtProgram};
+ghost use Rattle.command_facts.specs.Held.{StopsAtText};
 ghost use Rattle.command_facts.specs.Listings.{IsOfListing, line_of_instruction};
 ghost use Rattle.command_facts.specs.Listings.{reason_word as spec_reason_word};
 

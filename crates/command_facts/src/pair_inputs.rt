@@ -19,7 +19,8 @@ pub(crate) fn load_inputs<'a, S: Sources>(
     files: &[InputFile<'a>],
     sources: &mut S,
 ) -> Result<Vec<Vec<i64>>, Halted<'a>>
-    ensures held { IfOk result (λ inputs. AllZip (spec.IsInputOfFile (S.Sources.holds sources.old)) files.now (map values_of inputs.items)) }
+    ensures held { IfOk result (λ inputs. AllZip (spec.IsInputOfFile (S.Sources.holds sources.old)) files.now
+        (map values_of inputs.items)) }
     ensures refused { IfErr result (spec.StopsAtInputs (S.Sources.holds sources.old) files.now) }
 {
     let mut inputs = Vec::new(alloc);

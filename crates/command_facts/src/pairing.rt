@@ -287,7 +287,8 @@ fn compare_on<'a, S: Sources>(
     words: &PairWords<'a>,
     sources: &mut S,
 ) -> Result<Comparison, Halted<'a>>
-    ensures found { IfOk result (spec.IsFoundOn (S.Sources.holds sources.old) first.now second.now compared.now words.now.inputs words.now.bound) }
+    ensures found { IfOk result (spec.IsFoundOn (S.Sources.holds sources.old) first.now second.now compared.now words.now.inputs
+        words.now.bound) }
     ensures refused { IfErr result (spec.IsRefusedPair (S.Sources.holds sources.old) words.now.inputs first.now second.now) }
 {
     let bound = words.bound;

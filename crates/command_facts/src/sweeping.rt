@@ -255,7 +255,8 @@ fn rows_of<R: Threads + Wait + Sync, S: Sources>(
     words: RunWords<'_>,
     sources: &mut S,
 ) -> Result<Vec<SizeRow>, AllocError>
-    ensures rows { IfOk result (λ rows. AllZip (spec.IsRow (S.Sources.holds sources.old) file.now word.now words.entry) sizes.now rows.items) }
+    ensures rows { IfOk result (λ rows. AllZip (spec.IsRow (S.Sources.holds sources.old) file.now word.now words.entry) sizes.now
+        rows.items) }
     ensures same { IsSame (S.Sources.holds sources.new) (S.Sources.holds sources.old) }
 {
     let mut rows = Vec::new(alloc);
@@ -333,7 +334,8 @@ fn checked_rows<'a, R: Threads + Wait + Sync, S: Sources>(
     words: RunWords<'a>,
     sources: &mut S,
 ) -> Result<Vec<SizeRow>, Halted<'a>>
-    ensures rows { IfOk result (λ rows. AllZip (spec.IsRow (S.Sources.holds sources.old) file.now word.now words.entry) sizes.now rows.items) }
+    ensures rows { IfOk result (λ rows. AllZip (spec.IsRow (S.Sources.holds sources.old) file.now word.now words.entry) sizes.now
+        rows.items) }
     ensures refused { IfErr result (spec.HasNoRows (S.Sources.holds sources.old) file.now word.now words.entry sizes.now) }
 {
     let Ok(rows) = rows_of(rt, alloc, file, word, sizes, words, sources) else {

@@ -24,7 +24,8 @@ use Rattle.step_entries.specs.Entries.{Entry}
 use Rattle.command_facts.specs.declared.found.FoundSteps.{FoundSteps}
 use Rattle.command_facts.specs.Found.{IsOutcomeOf, entries_of}
 use Rattle.command_facts.specs.Written.{Wrote}
-use Rattle.command_json.specs.Stepped.{IsCutBehind, IsToldBehind, IsToldBy, all_behind, first_behind, opening_of, BehindLines, InLines, InText, Unbegun}
+use Rattle.command_json.specs.Stepped.{IsCutBehind, IsToldBehind, IsToldBy, all_behind, first_behind, opening_of, BehindLines, InLines}
+use Rattle.command_json.specs.Stepped.{InText, Unbegun}
 
 -- ---- what was streamed, by the values that were handed over
 
@@ -49,7 +50,8 @@ outcome_by s o given same fits is = record {
 }
 
 module _ (s : FoundSteps) (old : OutState) where
-  pub stopped_in_lines : (new : OutState) → StopsInFirst old new (first_behind s []) (entries_of s) → IsCutBehind s [] old new stop.WriteFailed
+  pub stopped_in_lines : (new : OutState) → StopsInFirst old new (first_behind s []) (entries_of s) → IsCutBehind s [] old new
+      stop.WriteFailed
   stopped_in_lines new w = InLines w.first w.rest w.text w.whole w.json w.stopped
 
   pub behind_lines : (new : OutState) → WroteFirstJson old new (first_behind s []) (entries_of s) →
@@ -90,7 +92,8 @@ outcome_as s o layout line same json = subst (λ (l : List SharedEntry). IsJson 
 
 -- ---- behind the line of what the cells hold before the run
 
-module _ (s : FoundSteps) (old mid : OutState) (line : List ℕ) (json : IsJson (opening_of s ∷ []) line) (is : mid ≡ with_bytes old line) where
+module _ (s : FoundSteps) (old mid : OutState) (line : List ℕ) (json : IsJson (opening_of s ∷ []) line)
+    (is : mid ≡ with_bytes old line) where
   cut_behind : (new : OutState) {why : Stop} → IsCutBehind s [] mid new why → IsCutBehind s (opening_of s ∷ []) old new why
   cut_behind new (InLines first rest text whole lines stops) =
       InLines first rest (line ++ text) whole (json_behind (opening_of s ∷ []) (first_behind s [] first) line text json lines)

@@ -80,7 +80,8 @@ fn code_text(alloc: Global, run: &FoundCode<'_>) -> Result<String, AllocError>
 
 // The runs at several sizes.
 fn sweep_text(alloc: Global, swept: &FoundSweep) -> Result<String, AllocError>
-    ensures told { IfOk result (λ text. IsJson (sweep_facts swept.now.sweep.name swept.now.rows.items swept.now.growths) (string_bytes text)) }
+    ensures told { IfOk result (λ text. IsJson (sweep_facts swept.now.sweep.name swept.now.rows.items swept.now.growths)
+        (string_bytes text)) }
 {
     json_sweep(
         alloc,

@@ -10,13 +10,13 @@ use Rattle.command_text.specs.Left.{Leaves}
 use Rattle.command_text.specs.declared.terminal.Terminal.{Terminal}
 use Rattle.command_json.specs.Left.{LeavesJson}
 
--- the streams of a call: what is refused, and a fault, is explained where standard error is a terminal or a word asks for it, and told in the
--- lines that editors read where words ask for these
+-- the streams of a call: what is refused, and a fault, is explained where standard error is a terminal or a word asks for it, and told in
+-- the lines that editors read where words ask for these
 abbrev pub explaining : Terminal → List (List ℕ) → Terminal
 explaining on words = record on { errors = on.errors || asks_to_explain words; gnu = asks_for_gnu words }
 
--- What the words ask for, by their parser, of which no more is known: the version where they ask for that alone, and of a refusal that it is
--- of the words.
+-- What the words ask for, by their parser, of which no more is known: the version where they ask for that alone, and of a refusal that it
+-- is of the words.
 abbrev pub IsAsked : List (List ℕ) → Result Request Stop → Type 0
 IsAsked words asked = (AsksForVersion words → asked ≡ Ok request.Version) × IfErr asked IsOfWords
 
@@ -26,6 +26,7 @@ abbrev pub LeavesIn : Bool → (List ℕ → Option (List ℕ) → Type 0) → T
 LeavesIn true holds on words asked out out_new err err_new ends = LeavesJson holds words asked out out_new err err_new ends
 LeavesIn false holds on words asked out out_new err err_new ends = Leaves holds on words asked out out_new err err_new ends
 
-abbrev pub LeavesAs : (List ℕ → Option (List ℕ) → Type 0) → Terminal → List (List ℕ) → (out out_new err err_new : OutState) → Status → Type 0
+abbrev pub LeavesAs : (List ℕ → Option (List ℕ) → Type 0) → Terminal → List (List ℕ) → (out out_new err err_new : OutState) →
+    Status → Type 0
 LeavesAs holds on words out out_new err err_new ends = (asked : Result Request Stop) × IsAsked words asked
     × LeavesIn (asks_for_json words) holds (explaining on words) words asked out out_new err err_new ends

@@ -16,8 +16,8 @@ use system_files::Sources;
 use text_out::Out;
 use workers::Gate;
 
-// The streams of the call, of which standard error has explanations where it is a terminal or a word asks for them, and the lines of editors
-// where words ask for these.
+// The streams of the call, of which standard error has explanations where it is a terminal or a word asks for them, and the lines of
+// editors where words ask for these.
 fn explaining(terminal: Terminal, words: &[String]) -> Terminal
     ensures { result ≡ spec.explaining terminal (map string_bytes words.now) }
 {

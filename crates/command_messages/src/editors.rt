@@ -36,8 +36,8 @@ fn write_unsaid<W: Out>(out: &mut W, halted: &Halted<'_>) -> Result<(), WriteFau
     out.write_all(b"memory was refused for what there is to say of it\n")
 }
 
-/// Writes why a call of these words stops in the lines that editors read, as `sum.pram:6:3: error: SENTENCE [E6]`, with notes behind it; where
-/// there is nothing to say its line, and the text of the parser of command lines as it is. The error is that the writer failed (E17).
+/// Writes why a call of these words stops in the lines that editors read, as `sum.pram:6:3: error: SENTENCE [E6]`, with notes behind it;
+/// where there is nothing to say its line, and the text of the parser of command lines as it is. The error is that the writer failed (E17).
 pub fn write_for_editors<W: Out>(
     alloc: Global,
     out: &mut W,

@@ -41,8 +41,8 @@ fn word_message(alloc: Global, words: &[String], word: &str) -> Result<Message, 
     Ok(Message::said(alloc, None, sentence))
 }
 
-/// The message of why a call of these words stops: of a word of the command line the option that doesn't take it and what that wants, and of
-/// anything else what there is to say of it by its files. `AllocError`: memory was refused.
+/// The message of why a call of these words stops: of a word of the command line the option that doesn't take it and what that wants, and
+/// of anything else what there is to say of it by its files. `AllocError`: memory was refused.
 pub fn message_for(
     alloc: Global,
     words: &[String],

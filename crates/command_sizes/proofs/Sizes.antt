@@ -1,5 +1,6 @@
 -- The sizes that words give, word by word, and the words of sizes that a text doesn't declare.
-use Rattle.std.proofs.Common.{◌≡◌, ◌∙◌, ◌+◌, ◌<◌, ℕ, List, [], ◌∷◌, ◌++◌, length, take, drop, get_or, ap, arith, length-append, refl, subst, sym}
+use Rattle.std.proofs.Common.{◌≡◌, ◌∙◌, ◌+◌, ◌<◌, ℕ, List, [], ◌∷◌, ◌++◌, length, take, drop, get_or, ap, arith, length-append, refl, subst}
+use Rattle.std.proofs.Common.{sym}
 use Rattle.std.proofs.lemmas.List.{drop_more, take-append-drop, take_more}
 use Rattle.std.proofs.lemmas.List.Quantifiers.{position-Some}
 use Rattle.std.proofs.lemmas.Option.{slice_get_read}
@@ -129,7 +130,9 @@ module _ (given : List Size) (text : List ℕ) (i : ℕ) where
   within is = by_sizes (sizes_of given text) is
 
 -- the word that stands at a place
-pub word_at : (words : List SizeWord) (i : ℕ) (w : SizeWord) (told : List ℕ) → i < length words → w ≡ get_or words i w → told ≡ word_text w →
+pub word_at : (words : List SizeWord) (i : ℕ) (w : SizeWord) (told : List ℕ) → i < length words → w ≡ get_or words i w → told ≡
+    word_text w →
     IsSomeAnd (slice_get words i) (λ x. told ≡ word_text x)
 word_at words i w told inside is says =
-    subst (λ (o : Option SizeWord). IsSomeAnd o (λ x. told ≡ word_text x)) (sym (slice_get_read words (length words) i w refl inside is)) says
+    subst (λ (o : Option SizeWord). IsSomeAnd o (λ x. told ≡ word_text x))
+        (sym (slice_get_read words (length words) i w refl inside is)) says

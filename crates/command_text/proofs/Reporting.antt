@@ -38,7 +38,8 @@ said_else words stop.WriteFailed a said other is = is
 said_else words (stop.BadSize at reason) a said other is = is
 
 -- the stream failed within the line
-pub line_cut_off : {E : Type 0} (explains : Bool) (words : List (List ℕ)) (why : Stop) (a : About) (wrong : Option Given) (old new : OutState)
+pub line_cut_off : {E : Type 0} (explains : Bool) (words : List (List ℕ)) (why : Stop) (a : About) (wrong : Option Given)
+    (old new : OutState)
     (res : Result Unit E) (P : E → Type 0) → IsWrongOf words why wrong → IsErrAnd res P → StopsIn old new (stop_line why a) →
     (text : List ℕ) × IsInWords explains words why a text × Writes old new text res
 line_cut_off false words why a wrong old new res P of is s = (stop_line why a, refl, writes_stopped old new (stop_line why a) res P is s)
@@ -48,7 +49,8 @@ line_cut_off true words why a wrong old new res P of is s =
 
 -- the line, and what is said behind it
 pub with_more : {E : Type 0} (explains : Bool) (words : List (List ℕ)) (why : Stop) (a : About) (said : List ℕ) (old mid new : OutState)
-    (res : Result Unit E) → explains ≡ true → mid ≡ with_bytes old (stop_line why a) → IsSaidBehind words why a said → Writes mid new said res →
+    (res : Result Unit E) → explains ≡ true → mid ≡ with_bytes old (stop_line why a) → IsSaidBehind words why a said → Writes mid new
+        said res →
     (text : List ℕ) × IsInWords explains words why a text × Writes old new text res
 with_more explains words why a said old mid new res on first is second =
     subst (λ b. (text : List ℕ) × IsInWords b words why a text × Writes old new text res) (sym on)

@@ -71,8 +71,9 @@ abbrev pub picture_text : FoundRun → List Entry → List ℕ
 picture_text r entries =
     steps.picture_from r.loaded.program.layout r.loaded.source.bytes.items entries r.words.steps.from r.words.steps.to
 
--- the flow of data between the numbers that are asked for, drawn beside the text that its sizes give, of which statements have their places;
--- which reads of a statement are for subscripts alone is known by the program's tree; of the cells of the declarations that are asked for
+-- the flow of data between the numbers that are asked for, drawn beside the text that its sizes give, of which statements have their
+-- places; which reads of a statement are for subscripts alone is known by the program's tree; of the cells of the declarations that are
+-- asked for
 abbrev pub flow_text : FoundRun → List Entry → List ℕ
 flow_text r entries = flow r.loaded.program.layout (text_in r.loaded.source) (asides_in r.loaded.program.body) r.input.items entries
     (chosen_spans r.loaded.program.layout r.words.shown) r.words.steps.from r.words.steps.to

@@ -96,7 +96,8 @@ keeps_one : (told : ℕ → Difference) (taken limit : ℕ) (b : Bool) → nat_l
 keeps_one told taken limit true e h = absurd (cc h)
 keeps_one told taken limit false e h = grind (arith, nat_tests)
 
-pub keeps : (told : ℕ → Difference) (taken : ℕ) (limit : Option ℕ) → listed (option_map told (exceeded taken limit)) ≡ [] → IsAtMost taken limit
+pub keeps : (told : ℕ → Difference) (taken : ℕ) (limit : Option ℕ) → listed (option_map told (exceeded taken limit)) ≡ [] → IsAtMost
+    taken limit
 keeps told taken None h = tt
 keeps told taken (Some limit) h = keeps_one told taken limit (nat_lt limit taken) refl h
 

@@ -1,5 +1,6 @@
 -- What is said of causes, in pieces.
-use Rattle.std.proofs.Common.{◌≡◌, ◌∙◌, ◌<◌, ◌≤◌, ◌+◌, ◌++◌, ◌∷◌, [], List, ℕ, zero, suc, ℤ, ap, arith, codes, drop, get_or, length, refl, subst, sym}
+use Rattle.std.proofs.Common.{◌≡◌, ◌∙◌, ◌<◌, ◌≤◌, ◌+◌, ◌++◌, ◌∷◌, [], List, ℕ, zero, suc, ℤ, ap, arith, codes, drop, get_or, length, refl}
+use Rattle.std.proofs.Common.{subst, sym}
 use Rattle.std.specs.Prelude.{IfSome, Option, Some, None, slice_get}
 use Rattle.std.proofs.lemmas.List.{drop_more}
 use Rattle.pram_model.specs.Layout.{SharedEntry, subscripts}

@@ -37,7 +37,8 @@ role_by_cut r at ts seen os n role cuts seen_is n_is is =
     is ∙ ap (λ s. role_of s n) seen_is ∙ ap (role_of ts) n_is ∙ sym (ap (λ q. role_at q at) cuts)
 
 -- and in one with something that is no token
-pub role_no_cut : {X : Type 0} (view : X → Cut) (res : Result X LexError) (f : LexError) (bad : ℕ) (r : Result Cut ℕ) (at : ℕ) → res ≡ Err f →
+pub role_no_cut : {X : Type 0} (view : X → Cut) (res : Result X LexError) (f : LexError) (bad : ℕ) (r : Result Cut ℕ) (at : ℕ) →
+    res ≡ Err f →
     f ≡ BadToken bad → Finds view res r → role.Value ≡ role_at r at
 role_no_cut view res f bad r at came is finds =
     let told = subst (λ e. Finds view e r) came finds in

@@ -143,7 +143,8 @@ at_spot text name tree spot.TextEnd c e = cc e
 at_spot text name tree (spot.Offset at) c e =
     let names = names_at tree at in
     is_guess text at names name
-    (remarked (token_at text at) (fits (cut_of text) at (is_inside names)) (bound_in tree (token_at text at)) names (role_at (cut_of text) at) c name e)
+    (remarked (token_at text at) (fits (cut_of text) at (is_inside names)) (bound_in tree (token_at text at)) names
+        (role_at (cut_of text) at) c name e)
 
 pub guessed : (text name : List ℕ) (tree : ProgramTree) (b : Breach) → remark_of text tree b ≡ Nearest name →
     IsGuessAt text tree b.spot name
@@ -152,7 +153,8 @@ guessed text name tree b e = at_spot text name tree b.spot b.cause e
 -- ---- where nothing is said
 
 module _ (word : List ℕ) (test : Known → Bool) (names : List Known) where
-  none_meant : (found : Option Known) → nearest (filter test names) word ≡ found → meant found ≡ Nothing → AllByRecursion (IsFar word test) names
+  none_meant : (found : Option Known) → nearest (filter test names) word ≡ found → meant found ≡ Nothing → AllByRecursion
+      (IsFar word test) names
   none_meant None is e = (all_far word test names None is).1
   none_meant (Some k) is e = absurd (cc e)
 

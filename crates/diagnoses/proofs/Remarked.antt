@@ -22,7 +22,8 @@ pub if_ok : {A E : Type 0} (r : Result A E) (P Q : A → Type 0) → ((a : A) �
 if_ok (Ok a) P Q f h = f a h
 if_ok (Err e) P Q f h = h
 
-pub by_tree : (text : List ℕ) (b : Breach) (tree : ProgramTree) (r : Remark) → IsTextOf text tree → r ≡ remark_of text tree b → IsRemark text b r
+pub by_tree : (text : List ℕ) (b : Breach) (tree : ProgramTree) (r : Remark) → IsTextOf text tree → r ≡ remark_of text tree b →
+    IsRemark text b r
 by_tree text b tree r is said = subst (IsRemark text b) (sym said) (OfTree tree is)
 
 -- of a name that isn't in scope, by the names that are
@@ -34,7 +35,8 @@ of_unknown text tree at c r bound names word c_is word_is bound_is names_is said
     rw c_is (said ∙ rw (found, names_is) refl)
 
 -- where something before the place is no token
-pub no_token : {X : Type 0} (text before : List ℕ) (at bad : ℕ) (e : LexError) (res : Result X LexError) → before ≡ take at text → res ≡ Err e →
+pub no_token : {X : Type 0} (text before : List ℕ) (at bad : ℕ) (e : LexError) (res : Result X LexError) → before ≡ take at text →
+    res ≡ Err e →
     e ≡ BadToken bad → IsRefusedFor before res → IsExpectation text at Nothing
 no_token {X} text before at bad e res front failed is refused =
     let told = subst (IsRefusedFor before) failed refused in

@@ -10,8 +10,8 @@ use Rattle.scope_names.specs.Nearness.{edits, is_near}
 use Rattle.diagnoses.specs.Fitting.{fits, is_inside}
 use Rattle.diagnoses.specs.Places.{token_at}
 
--- One of the names that are in scope at that offset, near enough to the word there, and of a sort that may stand there; and none of those is
--- nearer.
+-- One of the names that are in scope at that offset, near enough to the word there, and of a sort that may stand there; and none of those
+-- is nearer.
 pub record IsGuess (text : List ℕ) (at : ℕ) (names : List Known) (name : List ℕ) : Type 0 where
   pub front : List Known
   pub known : Known

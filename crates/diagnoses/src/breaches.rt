@@ -189,7 +189,8 @@ fn write_named<W: Out>(
     cause: Cause,
     remark: &Remark,
 ) -> Result<(), WriteFault>
-    ensures written { Writes (W.Out.state out.old) (W.Out.state out.new) (spec.named_sentence word.now cause (remark_is remark.now)) result }
+    ensures written { Writes (W.Out.state out.old) (W.Out.state out.new)
+        (spec.named_sentence word.now cause (remark_is remark.now)) result }
 {
     write_quoted(out, word)?;
     write_remarked(out, word, cause, remark)
@@ -201,7 +202,8 @@ fn write_sentence<W: Out>(
     cause: Cause,
     remark: &Remark,
 ) -> Result<(), WriteFault>
-    ensures written { Writes (W.Out.state out.old) (W.Out.state out.new) (spec.breach_sentence word.now cause (remark_is remark.now)) result }
+    ensures written { Writes (W.Out.state out.old) (W.Out.state out.new)
+        (spec.breach_sentence word.now cause (remark_is remark.now)) result }
 {
     match cause {
         Cause::Limit(limit) => out.write_all(limit_sentence(limit)),

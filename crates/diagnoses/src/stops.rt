@@ -285,9 +285,9 @@ fn remark_on(alloc: Global, stop: &Stop<'_>, about: &About<'_>) -> Result<Remark
     }
 }
 
-/// What there is to say of a refusal beside its line: where it is, and a sentence; of a token with which no program goes on (E4) also what could
-/// stand there, and of a name which one was meant. The message says nothing where nothing is known beside the line, as of a text that isn't
-/// at hand. The error is that memory was refused.
+/// What there is to say of a refusal beside its line: where it is, and a sentence; of a token with which no program goes on (E4) also what
+/// could stand there, and of a name which one was meant. The message says nothing where nothing is known beside the line, as of a text that
+/// isn't at hand. The error is that memory was refused.
 pub fn message_of(alloc: Global, stop: &Stop<'_>, about: &About<'_>) -> Result<Message, AllocError>
     // It is the message on this refusal: where it is and a sentence; of a name by the text's tree, of a token by the
     // kinds that could stand there.

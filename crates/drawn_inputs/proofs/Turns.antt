@@ -1,5 +1,6 @@
 -- One word more of a generator.
-use Rattle.std.proofs.Common.{◌≡◌, ◌++◌, ◌∷◌, [], ◌∙◌, ◌+◌, ◌-◌, ◌<◌, ◌≤◌, zero, suc, List, length, length-append, ap, append_assoc, arith, map, refl, subst, sym, take, ℕ, ℤ}
+use Rattle.std.proofs.Common.{◌≡◌, ◌++◌, ◌∷◌, [], ◌∙◌, ◌+◌, ◌-◌, ◌<◌, ◌≤◌, zero, suc, List, length, length-append, ap, append_assoc, arith}
+use Rattle.std.proofs.Common.{map, refl, subst, sym, take, ℕ, ℤ}
 use Rattle.std.proofs.lemmas.List.{append-nil}
 use Rattle.std.proofs.lemmas.List.Elements.{All-push}
 use Rattle.std.specs.List.{All}
@@ -38,7 +39,8 @@ none_left : {S : Type 0} (step : S → ℕ × S) (f : ℕ → ℤ) (found all : 
     found ++ map f (first_words step (count - turn) s) ≡ all → found ≡ all
 none_left step f found all turn count s over before =
     let none : count - turn ≡ 0 = omega arith in
-    sym (append-nil found) ∙ ap (λ l. found ++ map f l) (sym (words_none step s)) ∙ ap (λ n. found ++ map f (first_words step n s)) (sym none)
+    sym (append-nil found) ∙ ap (λ l. found ++ map f l) (sym (words_none step s)) ∙ ap (λ n. found ++ map f (first_words step n s))
+        (sym none)
     ∙ before
 
 -- what holds before each turn of the loop: what is drawn and what is left are all
@@ -52,7 +54,8 @@ pub turn_number : (low high : ℤ) (seed count : ℕ) (found : List ℤ) (turn w
     turn < count → (word, h) ≡ u64_via_u32 pcg32 g → z ≡ number_of low high word → IsDrawnTo low high seed count found turn g →
     IsDrawnTo low high seed count (found ++ z ∷ []) (turn + 1) h
 turn_number low high seed count found turn word z g h ordered small below next is before = record {
-  drawn = one_more (u64_via_u32 pcg32) (number_of low high) found (drawn low high seed count) turn count word z g h below next is before.drawn;
+  drawn = one_more (u64_via_u32 pcg32) (number_of low high) found (drawn low high seed count) turn count word z g h below next is
+      before.drawn;
   counted = omega (arith, length-append found (z ∷ []), before.counted);
   within = All-push (IsWithin low high) found z before.within (subst (IsWithin low high) (sym is) (is_within low high word ordered small));
 }

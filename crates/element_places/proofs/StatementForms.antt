@@ -76,7 +76,8 @@ module _ (w : List ℕ) (at : ℕ) where
       ∙ ap (λ b. here l at (elements w e) ++ (block_elements w at b ++ else_elements w at other)) (sym same)
       ∙ ap (λ o. here l at (elements w e) ++ (block_elements w at given ++ else_elements w at o)) (sym also)
 
-  pub as-For : (it : Stmt) (l : Location) (x : Name) (low high : Expr) (body given : List Stmt) → it ≡ s.For l x low high body → given ≡ body →
+  pub as-For : (it : Stmt) (l : Location) (x : Name) (low high : Expr) (body given : List Stmt) → it ≡ s.For l x low high body →
+      given ≡ body →
       statement_elements w at it ≡ here l at (elements w low ++ elements w high) ++ block_elements w at given
   as-For it l x low high body given is same = ap (statement_elements w at) is ∙ of-For l x low high body
       ∙ ap (λ b. here l at (elements w low ++ elements w high) ++ block_elements w at b) (sym same)

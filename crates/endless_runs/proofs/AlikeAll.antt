@@ -21,7 +21,8 @@ use Rattle.endless_runs.proofs.Alike.{blind_turns, blind_value, moved}
 
 -- ---- what a statement leaves
 
-write_moved : (cell : Option ℕ) (v : ℤ) (m : State) (c : ℕ) (out : List ℤ) → after_write cell v (moved c out m) ≡ moved c out (after_write cell v m)
+write_moved : (cell : Option ℕ) (v : ℤ) (m : State) (c : ℕ) (out : List ℤ) → after_write cell v (moved c out m) ≡ moved c out
+    (after_write cell v m)
 write_moved None v m c out = refl
 write_moved (Some a) v m c out = refl
 
@@ -53,7 +54,8 @@ blind_turns_on T B t b (suc k) vs m c out f r =
     UnlessNone (those true xs) (IsEnd tt m) (Then (Unit {0}) (Unit {0}) (B (those true xs) m) (λ u. TurnsOn k T B (those true xs)))) (t vs)
     (λ xs. blind_unless (those true xs) (λ m. IsEnd tt m) (λ m.
     Then (Unit {0}) (Unit {0}) (B (those true xs) m) (λ u. TurnsOn k T B (those true xs))) (blind_nothing tt)
-    (blind_then (B (those true xs)) (λ u. TurnsOn k T B (those true xs)) (b (those true xs)) (λ u. blind_turns_on T B t b k (those true xs))))
+    (blind_then (B (those true xs)) (λ u. TurnsOn k T B (those true xs)) (b (those true xs))
+        (λ u. blind_turns_on T B t b k (those true xs))))
     m c out f r
 
 mutual

@@ -96,7 +96,8 @@ Rest T B k z m = Either z (Then (Unit {0}) (Unit {0}) (B m) (λ u. Turns k T B))
 
 module _ (T : State → Fates Bool) (B : State → Does) (st : IsSure T) (sb : IsSure B) where
   -- a loop that ends or faults does so behind each turn, and makes fewer turns then
-  after_body : (now to : State) (k : ℕ) (f : Fate (Unit {0})) → B now (Ends tt to) → Then (Unit {0}) (Unit {0}) (B now) (λ u. Turns k T B) f →
+  after_body : (now to : State) (k : ℕ) (f : Fate (Unit {0})) → B now (Ends tt to) → Then (Unit {0}) (Unit {0}) (B now)
+      (λ u. Turns k T B) f →
       Turns k T B to f ⊎ IsReaching f
   after_body now to k f ends (on {a = u} {m = l} p q) = behind (sb now to tt (Ends u l) ends p)
     where

@@ -1,5 +1,6 @@
 -- What is known of a `for`, from what is known of its turns.
-use Rattle.std.proofs.Common.{◌≡◌, ◌≤◌, ◌<ℤ◌, ◌≤ℤ◌, ◌∙◌, ℕ, ℤ, pos, ◌+ℤ◌, ◌++◌, [], ◌∷◌, List, Global, Vec, Result, Ok, Err, ap, arith, refl, slice_set, subst, sym}
+use Rattle.std.proofs.Common.{◌≡◌, ◌≤◌, ◌<ℤ◌, ◌≤ℤ◌, ◌∙◌, ℕ, ℤ, pos, ◌+ℤ◌, ◌++◌, [], ◌∷◌, List, Global, Vec, Result, Ok, Err, ap, arith}
+use Rattle.std.proofs.Common.{refl, slice_set, subst, sym}
 use Rattle.std.proofs.lemmas.Int.{ints}
 use Rattle.pram_model.specs.Layout.{width}
 use Rattle.pram_check.specs.Checked.{Checked}
@@ -10,7 +11,8 @@ use Rattle.pram_names.specs.declared.body.Statement.TheBlock.{hidden-the_row-Sta
 use Rattle.pram_meaning.specs.Attempt.{attempt_bounds}
 use Rattle.pram_meaning.specs.Bounded.{Goes, counted, evaluated, perform_list, perform_row}
 use Rattle.pram_meaning.specs.Meaning.{Begins, Ends, Evaluated, ForTurns, Means, MeansList, Then, on}
-use Rattle.pram_meaning.specs.Moments.{Closed, Moment, behind, bounds_moment, closing, for_moments, for_turns_moments, list_moments, moments}
+use Rattle.pram_meaning.specs.Moments.{Closed, Moment, behind, bounds_moment, closing, for_moments, for_turns_moments, list_moments}
+use Rattle.pram_meaning.specs.Moments.{moments}
 use Rattle.pram_meaning.specs.Moments.{setting_moment}
 use Rattle.pram_meaning.specs.Store.{State, seen, with_uniform}
 use Rattle.pram_meaning.proofs.Agree.{Shows, agree_counted, agree_evaluated}
@@ -35,7 +37,8 @@ ran_bounds w n line e f m new r low is =
     ((agree_evaluated n line (λ m. attempt_bounds (seen w m) e f)).shows m low)
 
 sure_bounds : (w : Checked) (line : ℕ) (e f : Expression) → IsSure (Evaluated line (λ m. attempt_bounds (seen w m) e f))
-sure_bounds w line e f = sure (Evaluated line (λ m. attempt_bounds (seen w m) e f)) (λ n. evaluated n line (λ m. attempt_bounds (seen w m) e f))
+sure_bounds w line e f = sure (Evaluated line (λ m. attempt_bounds (seen w m) e f))
+    (λ n. evaluated n line (λ m. attempt_bounds (seen w m) e f))
     (λ n. agree_evaluated n line (λ m. attempt_bounds (seen w m) e f))
 
 bounds_hold : (w : Checked) (here : Location) (x : ℕ) (e f : Expression) (body : List Statement) (m k : State) (a z : ℤ) →
@@ -183,7 +186,8 @@ module _ (w : Checked) (x : ℕ) (body : List Statement) where
       (set_holds here value last now mid set b is) (
         0,
         λ n low m has. first_within (closing (list_moments w n body set))
-            (behind (perform_list w n body set) (λ u. rest_told here n value last)) m (first_within (list_moments w n body set) (Closed ∷ []) m has),
+            (behind (perform_list w n body set) (λ u. rest_told here n value last)) m
+                (first_within (list_moments w n body set) (Closed ∷ []) m has),
       )
 
   pub for_goes : (first last value end next till : ℤ) (start now mid set new : State) → InFor w x body first last start value end now →
@@ -217,7 +221,8 @@ module _ (w : Checked) (x : ℕ) (body : List Statement) where
   for_stops first last value end start now mid set new (stop.Cycle c) i b is known here =
       let leads = next_turn first last value end start now i here in (
         leads.endless (turn_endless here value last now mid set b is
-            (endless_first (MeansList w body set) (λ u. ForTurns (width (value +ℤ pos 1) last) x (value +ℤ pos 1) (MeansList w body)) known.0)),
+            (endless_first (MeansList w body set) (λ u. ForTurns (width (value +ℤ pos 1) last) x (value +ℤ pos 1) (MeansList w body))
+                known.0)),
         shown_in (of_turns w here first last x body start).told (of_list w body set).told c
             (holds_on (of_turns w here first last x body start).told (Turn here value last now).told (of_list w body set).told leads.told
             (body_holds here value last now mid set b is)) known.1,

@@ -113,7 +113,8 @@ first_holds w s ss m = (0, λ n low. first_within (moments w n s m) (behind (per
 pub rest_holds : (w : Checked) (s : Statement) (ss : List Statement) (m new : State) → Means w s m (Ends tt new) →
     Holds (λ n. list_moments w n (s ∷ ss) m) (λ n. list_moments w n ss new)
 rest_holds w s ss m new p =
-    (new.count, λ n low. behind_goes (moments w n s m) (perform w n s m) (λ u. list_moments w n ss) tt new (statement_goes w n s m new p low))
+    (new.count, λ n low. behind_goes (moments w n s m) (perform w n s m) (λ u. list_moments w n ss) tt new
+        (statement_goes w n s m new p low))
 
 -- ---- a statement of each kind
 
@@ -130,7 +131,8 @@ while_told w n here s e body m is =
 abbrev Branch : Checked → ℕ → (a b : List Statement) → Bool → State → List Moment
 Branch w n a b z m = if z then list_moments w n a m else list_moments w n b m
 
-if_told : (w : Checked) (n : ℕ) (here : Location) (s : Statement) (e : Expression) (a b : Vec Statement Global) (m : State) → s ≡ If here e a b →
+if_told : (w : Checked) (n : ℕ) (here : Location) (s : Statement) (e : Expression) (a b : Vec Statement Global) (m : State) → s ≡ If
+    here e a b →
     moments w n s m ≡ test_moment w n here (Chooses e) e m ++ behind (tested w n here.line e m)
     (λ z m. closing (Branch w n a.items b.items z m))
 if_told w n here s e a b m is =

@@ -20,7 +20,8 @@ use Rattle.endless_runs.specs.Search.{IsKnown, RunPart, of_list, of_loop, of_sta
 use Rattle.endless_runs.specs.declared.stop.Stop.{Stop}
 use Rattle.endless_runs.specs.declared.stop.Stop.TheVariants as stop
 use Rattle.endless_runs.proofs.Cycles.{IsSure, endless_first, endless_then, sure}
-use Rattle.endless_runs.proofs.Told.{Holds, branch_holds, first_holds, holds_on, holds_same, list_of_means, rest_holds, shown_in, while_told}
+use Rattle.endless_runs.proofs.Told.{Holds, branch_holds, first_holds, holds_on, holds_same, list_of_means, rest_holds, shown_in}
+use Rattle.endless_runs.proofs.Told.{while_told}
 
 -- ---- statements and lists of them
 
@@ -69,7 +70,8 @@ block_means w body = λ j m. (sym (items_mean w (hidden-the_row-Statement-0 body
 -- ---- a statement of each kind
 
 pub while_known : (w : Checked) (here : Location) (s : Statement) (e : Expression) (body : Vec Statement Global) (m new : State)
-    (r : Result (Unit {0}) Stop) → s ≡ While here e body → IsKnown (of_loop w here e body.items m) new r → IsKnown (of_statement w s m) new r
+    (r : Result (Unit {0}) Stop) → s ≡ While here e body → IsKnown (of_loop w here e body.items m) new r → IsKnown
+        (of_statement w s m) new r
 while_known w here s e body m new r is known = subst (λ p. IsKnown p new r) (sym same) known
   where
     means : Means w s m ≡ Loop (Tested w here.line e) (MeansList w body.items) m
@@ -140,7 +142,8 @@ InBlock w items i start now = Leads (of_list w items start) (of_list w (drop i i
 pub block_starts : (w : Checked) (items : List Statement) (m : State) → InBlock w items 0 m m
 block_starts w items m = leads_here (of_list w items m)
 
-one_more : (w : Checked) (items : List Statement) (i : ℕ) (s : Statement) (start now : State) → InBlock w items i start now → i < length items →
+one_more : (w : Checked) (items : List Statement) (i : ℕ) (s : Statement) (start now : State) → InBlock w items i start now → i <
+    length items →
     s ≡ get_or items i s → Leads (of_list w items start) (of_list w (s ∷ drop (i + 1) items) now)
 one_more w items i s start now in_block low is =
     subst (λ ss. Leads (of_list w items start) (of_list w ss now)) (drop_more items i s low ∙ ap (λ x. x ∷ drop (i + 1) items) (sym is))

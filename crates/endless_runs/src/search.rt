@@ -216,7 +216,8 @@ impl<'a> Search<'a> {
         high: &Expression,
     ) -> Result<(), Stop>
         requires within { run.old.count ≤ self.now.interpreter.bound }
-        ensures known { IsKnown (of_for self.now.interpreter.program.now location low.now high.now variable body.now.items (state_of run.old))
+        ensures known { IsKnown (of_for self.now.interpreter.program.now location low.now high.now variable body.now.items
+            (state_of run.old))
             (state_of run.new) result }
         ensures grows { OnOk result (run.old.count ≤ run.new.count) }
         ensures within { OnOk result (run.new.count ≤ self.now.interpreter.bound) }
@@ -239,7 +240,8 @@ impl<'a> Search<'a> {
         numbers: &Numbers,
     ) -> Result<(), Stop>
         requires within { run.old.count ≤ self.now.interpreter.bound }
-        ensures known { (here : Location) → IsKnown (of_turns self.now.interpreter.program.now here numbers.now.next numbers.now.last variable
+        ensures known { (here : Location) → IsKnown (of_turns self.now.interpreter.program.now here numbers.now.next
+            numbers.now.last variable
             body.now.items (state_of run.old)) (state_of run.new) result }
         ensures grows { OnOk result (run.old.count ≤ run.new.count) }
         ensures within { OnOk result (run.new.count ≤ self.now.interpreter.bound) }

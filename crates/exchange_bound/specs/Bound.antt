@@ -1,5 +1,6 @@
 -- How many exchanges a program's run takes, at most: the bound on its supersteps.
--- The cost of a run by its supersteps: Valiant, A bridging model for parallel computation (1990). What is counted here is their number alone.
+-- The cost of a run by its supersteps: Valiant, A bridging model for parallel computation (1990). What is counted here is their number
+-- alone.
 use Rattle.std.specs.Prelude.{ℕ, zero, suc, ◌+◌, ◌*◌, List, [], ◌∷◌, Bool, true, false, ◌&&◌, ℤ}
 use Rattle.pram_check.specs.Checked.{Checked}
 use Rattle.exchange_bound.specs.Events.{Event, Runs, Cut, Votes, events_of}

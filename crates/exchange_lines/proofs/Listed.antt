@@ -196,7 +196,8 @@ module _ (t : Plan) where
 
     -- the lines of a run of one exchange more, by its way
     abbrev lines_if : ℕ → State → Way → List ℕ
-    lines_if x s way = if is_over way then [] else (ready_by t s way).state.flat.uniform.line ∷ flat_lines_from t x (after t.code (ready_by t s way))
+    lines_if x s way = if is_over way then [] else (ready_by t s way).state.flat.uniform.line ∷ flat_lines_from t x
+        (after t.code (ready_by t s way))
 
     returns : (x : ℕ) (s : State) → ((ended : Bool) → s.way ≡ Ending ended → ⊥) → run t x s ≡ Some (Some v) →
         Returns s (flat_lines_from t x s)
@@ -223,7 +224,8 @@ to_instructions t x input v h = returns t v x (opening input) (λ ended e. cc) h
 -- ---- the law
 
 -- the lines of the workers of a map are those of any number of instructions that comes to a verdict
-lines_are_one : (code : SuperstepCode) (map : Shape) → IsMapFor code map → (input : List ℤ) (bound enough most : ℕ) (verdict other : Verdict) →
+lines_are_one : (code : SuperstepCode) (map : Shape) → IsMapFor code map → (input : List ℤ) (bound enough most : ℕ)
+    (verdict other : Verdict) →
     workers.outcome_by (workers.setting code map bound enough) most input ≡ Some (Some verdict) → (n : ℕ) →
     outcome_within code bound everywhere n input ≡ Some other →
     lines_by (workers.setting code map bound enough) most input ≡ lines_within code bound n (opening input)

@@ -9,7 +9,8 @@ use Rattle.pram_values.proofs.Totals.{total_same, total_map}
 use Rattle.superstep_machine.specs.Parts.{Read, PrivatePart}
 use Rattle.superstep_machine.specs.Words.{CellAsk}
 use Rattle.superstep_machine.specs.Worker.{Worker, HeldWrite}
-use Rattle.superstep_machine.specs.Sending.{firsts, cell_at, present, cells_asked, asked_twice, asks_from, asks_held, put_of, entry_held, puts_held}
+use Rattle.superstep_machine.specs.Sending.{firsts, cell_at, present, cells_asked, asked_twice, asks_from, asks_held, put_of, entry_held}
+use Rattle.superstep_machine.specs.Sending.{puts_held}
 use Rattle.exchange_words.specs.Accesses.{of_write}
 use Rattle.exchange_words.proofs.Sums.{added, added_both}
 

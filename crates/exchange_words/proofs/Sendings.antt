@@ -15,7 +15,8 @@ use Rattle.superstep_machine.specs.Words.{CellPut, CellAsk, Message, put_words, 
 use Rattle.superstep_machine.specs.Worker.{Worker}
 use Rattle.superstep_machine.specs.Sending.{puts_held, asks_held, sent, own_sent, after_send}
 use Rattle.superstep_machine.specs.Answering.{replied, own_answered, value_came, after_reply}
-use Rattle.superstep_machine.specs.Run.{Purpose, Sends, Replies, Votes, Closes, Ready, message_for, after_exchange, after, after_with, mark_of}
+use Rattle.superstep_machine.specs.Run.{Purpose, Sends, Replies, Votes, Closes, Ready, message_for, after_exchange, after, after_with}
+use Rattle.superstep_machine.specs.Run.{mark_of}
 use Rattle.flat_machine.specs.Flat.{Flat}
 use Rattle.flat_machine.proofs.Relation.{Splits}
 use Rattle.exchange_words.specs.Accesses.{of_write}
@@ -77,7 +78,8 @@ module _ (t : Setting) where
       let a : claims Sends x ≡ added (λ j. of_write rule * puts j + (asks j + 0)) all =
       total_same 0 (λ a b. a + b) (λ j. length (words rule (sent t x j))) (λ j. of_write rule * puts j + (asks j + 0))
       (λ j. of_message rule (sent t x j)) all in
-      let b : added (λ j. of_write rule * puts j + (asks j + 0)) all ≡ added (λ j. of_write rule * puts j) all + added (λ j. asks j + 0) all =
+      let b : added (λ j. of_write rule * puts j + (asks j + 0)) all ≡ added (λ j. of_write rule * puts j) all + added
+          (λ j. asks j + 0) all =
       added_both (λ j. of_write rule * puts j) (λ j. asks j + 0) all in
       let c : added (λ j. of_write rule * puts j) all ≡ of_write rule * added puts all = added_times (of_write rule) puts all in
       let d : added (λ j. asks j + 0) all ≤ added asks all =

@@ -9,7 +9,8 @@ use Rattle.superstep_machine.specs.Words.{words}
 use Rattle.superstep_machine.specs.Worker.{Worker}
 use Rattle.superstep_machine.specs.Machine.{phase, column}
 use Rattle.superstep_machine.specs.Stretch.{ToSend, ToReply, ToVote, ToClose, Arrival, Nowhere, At}
-use Rattle.superstep_machine.specs.Run.{Purpose, State, Way, On, Ending, Past, Refused, Lost, ready, ready_at, ready_by, ready_with, mark_now}
+use Rattle.superstep_machine.specs.Run.{Purpose, State, Way, On, Ending, Past, Refused, Lost, ready, ready_at, ready_by, ready_with}
+use Rattle.superstep_machine.specs.Run.{mark_now}
 use Rattle.superstep_machine.specs.Run.{message_for, message_of, message_with, is_over, bsp, opening, stretch}
 use Rattle.superstep_machine.specs.Trace.{exchange_of, exchanges_from, exchanges_by, words_between, sum_over}
 use Rattle.flat_machine.specs.ByExchanges as flat_run
@@ -73,9 +74,11 @@ module _ (t : Setting) (room : IsMapFor t.code t.map) where
             (omega arith) in
             subst (λ m. m ≤ most)
             (sym (total_within 0 (λ a b. a + b)
-            (λ w. owed t.code.rule (ready_at (record (ws w) { place = s.place }) (stretch t w (record (ws w) { place = s.place }))).state.worker)
+            (λ w. owed t.code.rule (ready_at (record (ws w) { place = s.place })
+                (stretch t w (record (ws w) { place = s.place }))).state.worker)
             (λ w. owed t.code.rule (came (ws w).worker (stretch t w (record (ws w) { place = s.place })))) (workers t) 0
-            (λ w l. ap (owed t.code.rule) (ready_came (record (ws w) { place = s.place }) (stretch t w (record (ws w) { place = s.place }))))))
+            (λ w l. ap (owed t.code.rule) (ready_came (record (ws w) { place = s.place })
+                (stretch t w (record (ws w) { place = s.place }))))))
             reached
         go (Ending ended) = omega arith
         go (Past key ended) = omega arith
@@ -124,7 +127,8 @@ module _ (t : Setting) (room : IsMapFor t.code t.map) where
       go : (b : Bool) → words_sent (exchanges_from t n (phase (bsp t) (workers t) ws))
           ≤ owed_by (phase (bsp t) (workers t) ws) + words_from (plan t) (workers t) n (flat_run.next (plan t) s) →
           words_sent (if b then [] else exchange_of t ws ∷ exchanges_from t n (phase (bsp t) (workers t) ws))
-          ≤ owed_by ws + (if b then 0 else words_if (plan t) (workers t) s s.way + words_from (plan t) (workers t) n (flat_run.next (plan t) s))
+          ≤ owed_by ws + (if b then 0 else words_if (plan t) (workers t) s s.way + words_from (plan t) (workers t) n
+              (flat_run.next (plan t) s))
       go true h = omega arith
       go false h = let e = exchange_within s ws a in omega (arith, h, e)
 

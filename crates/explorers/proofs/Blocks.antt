@@ -1,5 +1,6 @@
 -- What is found block by block.
-use Rattle.std.proofs.Common.{◌≡◌, ℕ, ◌+◌, ◌*◌, ◌≤◌, ℤ, List, [], ◌∷◌, ◌++◌, zero, suc, length, take, drop, get_or, refl, ap, sym, ◌∙◌, arith}
+use Rattle.std.proofs.Common.{◌≡◌, ℕ, ◌+◌, ◌*◌, ◌≤◌, ℤ, List, [], ◌∷◌, ◌++◌, zero, suc, length, take, drop, get_or, refl, ap, sym, ◌∙◌}
+use Rattle.std.proofs.Common.{arith}
 use Rattle.std.proofs.lemmas.List.{take_all, length-take, length-drop}
 use Rattle.std.proofs.Math.Seq.{take-nil}
 use Rattle.pram_check.specs.Checked.{Checked}
@@ -26,7 +27,8 @@ at_next (z ∷ xs) x d ys = at_next xs x d ys
 pub one_more : (p : Checked) (n : ℕ) (inputs : List (List ℤ)) (k j size : ℕ) (f g h : Found) → f ≡ found p n (take (k * size) inputs) →
     g ≡ found p n (take size (drop (k * size) inputs)) → h ≡ merged f g → j ≡ k + 1 → h ≡ found p n (take (j * size) inputs)
 one_more p n inputs k j size f g h fs gs is next =
-    let behind : j * size ≡ k * size + size = ap (λ (i : ℕ). i * size) next ∙ (let e : (k + 1) * size ≡ k * size + size = grind arith in e) in
+    let behind : j * size ≡ k * size + size = ap (λ (i : ℕ). i * size) next ∙ (let e : (k + 1) * size ≡ k * size + size = grind
+        arith in e) in
     is ∙ ap (λ (f : Found). merged f g) fs ∙ ap (merged (found p n (take (k * size) inputs))) gs
     ∙ sym (blocks_are_merged p n (take (k * size) inputs) (take size (drop (k * size) inputs)))
     ∙ ap (found p n) (take_more (k * size) size (j * size) inputs behind)

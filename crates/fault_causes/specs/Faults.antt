@@ -18,8 +18,8 @@ use Rattle.write_rules.specs.Rule.{shares_reads, written}
 use Rattle.step_entries.specs.Causes.{Before, Between, Beyond, Cause, Meeting, Wide, Writing}
 use Rattle.fault_causes.specs.Causes.{cause_alone, cause_on, value_or_cause}
 
--- In a program this cause comes to a fault of this kind: the operation does on its operands, the declaration has no such cell, the pardo has
--- more indices than there may be processors, the rule lets no two read a cell, or has this against the writes.
+-- In a program this cause comes to a fault of this kind: the operation does on its operands, the declaration has no such cell, the pardo
+-- has more indices than there may be processors, the rule lets no two read a cell, or has this against the writes.
 abbrev pub HasFault : Checked → Kind → Cause → Type 0
 HasFault p k (Between x o y) = operate o x y ≡ Err k
 HasFault p k (Before o x) = operate_before o x ≡ Err k

@@ -5,7 +5,8 @@ use Rattle.pram_values.specs.Truth.{is_nonzero}
 use Rattle.write_rules.specs.Rule.{shares_reads}
 use Rattle.superstep_instructions.specs.declared.instr.Side.TheVariants.{Uniform, Private}
 use Rattle.superstep_instructions.specs.declared.instr.Instr.{Instr}
-use Rattle.superstep_instructions.specs.declared.instr.Instr.TheVariants.{Mark, Enter, Leave, Mask, Flip, Unmask, Ask, Send, Reply, Vote, Jump}
+use Rattle.superstep_instructions.specs.declared.instr.Instr.TheVariants.{Mark, Enter, Leave, Mask, Flip, Unmask, Ask, Send, Reply, Vote}
+use Rattle.superstep_instructions.specs.declared.instr.Instr.TheVariants.{Jump}
 use Rattle.superstep_instructions.specs.declared.instr.Instr.TheVariants.{JumpIfZero, Halt}
 use Rattle.superstep_instructions.specs.Code.{SuperstepCode}
 use Rattle.superstep_machine.specs.Keys.{least}

@@ -119,8 +119,8 @@ fn follow_to_end(
 }
 
 /// The line of each exchange of any code's run on an input, for at most `bound` statements and at most (bound + 1) * N instructions,
-/// N those of the code: that of the statement that began last before it. Of well-formed code these are the lines of the exchanges of its workers,
-/// whatever their number and their map, up to the verdict.
+/// N those of the code: that of the statement that began last before it. Of well-formed code these are the lines of the exchanges of its
+/// workers, whatever their number and their map, up to the verdict.
 pub fn flat_lines(
     alloc: Global,
     code: &Code,

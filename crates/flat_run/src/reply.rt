@@ -33,7 +33,8 @@ fn answer(
 // The same of a register that has a place.
 fn answer_in_place(memory: &[i64], registers: &mut [i64], destination: u16, cell: Option<u32>)
     requires room { 2 ^ 16 ≤ length registers.old }
-    ensures value { registers_of registers.new ≡ spec.answer (λ c. registers_of memory.now c) destination cell (registers_of registers.old) }
+    ensures value { registers_of registers.new ≡ spec.answer (λ c. registers_of memory.now c) destination cell
+        (registers_of registers.old) }
     ensures count { length registers.new ≡ length registers.old }
 {
     if let Some(cell) = cell {

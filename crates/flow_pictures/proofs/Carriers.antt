@@ -1,5 +1,6 @@
 -- What a box and a line of a column say of processors.
-use Rattle.std.proofs.Common.{◌≡◌, ◌∙◌, ℕ, ℤ, Bool, true, false, not, ◌&&◌, List, Option, None, Some, ap, arith, get_or, nat_eq, refl, subst}
+use Rattle.std.proofs.Common.{◌≡◌, ◌∙◌, ℕ, ℤ, Bool, true, false, not, ◌&&◌, List, Option, None, Some, ap, arith, get_or, nat_eq, refl}
+use Rattle.std.proofs.Common.{subst}
 use Rattle.std.proofs.lemmas.Bool.Decides.{nat_tests}
 use Rattle.std.proofs.lemmas.List.Folds.{Any-from_list_any, list_any_at}
 use Rattle.std.specs.List.{Contains, filter}
@@ -43,8 +44,10 @@ carries_is acts a from to one read is =
     (ap (λ b. carries_one b from (Some to)) one.2
     ∙ ap (λ w. w && has_read a.reads from) (one_writes a to is) ∙ has_read_is a.reads from read)
 
-pub arrow_is : (rows : List ℕ) (column : ℕ) (aside : List Bool) (acts : List Act) (a : Act) (from to : ℕ) → Contains acts a → Contains a.reads from →
-    a.write ≡ Some to → Contains rows from → Contains rows to → Contains (arrows rows column aside acts) (arrow_by column aside acts to from)
+pub arrow_is : (rows : List ℕ) (column : ℕ) (aside : List Bool) (acts : List Act) (a : Act) (from to : ℕ) → Contains acts a → Contains
+    a.reads from →
+    a.write ≡ Some to → Contains rows from → Contains rows to → Contains (arrows rows column aside acts)
+        (arrow_by column aside acts to from)
 arrow_is rows column aside acts a from to one read is row_from row_to =
     spread (arrows_to rows column aside acts) (filter (writes acts) rows) to (arrow_by column aside acts to from)
     (kept (writes acts) rows to row_to (writes_is acts a to one is))
@@ -85,7 +88,8 @@ carried aside acts column from to h =
       dashed = refl;
     }
 
-pub line_is_of : (rows : List ℕ) (column : ℕ) (aside : List Bool) (acts : List Act) (l : Arrow) → Contains (arrows rows column aside acts) l →
+pub line_is_of : (rows : List ℕ) (column : ℕ) (aside : List Bool) (acts : List Act) (l : Arrow) → Contains
+    (arrows rows column aside acts) l →
     IsOf aside acts column l
 line_is_of rows column aside acts l one =
     let to = of_spread (arrows_to rows column aside acts) (filter (writes acts) rows) l one in

@@ -1,5 +1,6 @@
 -- Rows and columns, one behind the other.
-use Rattle.std.proofs.Common.{◌≡◌, ◌∙◌, ℕ, ℤ, ◌+◌, ◌<◌, ◌≤◌, List, [], ◌∷◌, ◌++◌, ap, append-nil, append_assoc, arith, drop, get_or, length, map, refl, sym}
+use Rattle.std.proofs.Common.{◌≡◌, ◌∙◌, ℕ, ℤ, ◌+◌, ◌<◌, ◌≤◌, List, [], ◌∷◌, ◌++◌, ap, append-nil, append_assoc, arith, drop, get_or, length}
+use Rattle.std.proofs.Common.{map, refl, sym}
 use Rattle.std.proofs.lemmas.List.{drop_all}
 use Rattle.pram_model.specs.Layout.{SharedEntry}
 use Rattle.text_out.specs.Out.{OutState, with_bytes}
@@ -20,7 +21,8 @@ pub row_heads_at : (layout : List SharedEntry) (wide : ℕ) (value : ℕ → ℤ
     row_head layout wide (y_at row) c (value c) ++ row_heads layout wide value (row + 1) (drop (i + 1) rows)
 row_heads_at layout wide value rows i row c h is = at_item (row_heads layout wide value row) rows i c h is
 
-pub record InRowHeads (old new : OutState) (all : List ℕ) (layout : List SharedEntry) (wide : ℕ) (value : ℕ → ℤ) (rows : List ℕ) (i row : ℕ) :
+pub record InRowHeads (old new : OutState) (all : List ℕ) (layout : List SharedEntry) (wide : ℕ) (value : ℕ → ℤ) (rows : List ℕ)
+    (i row : ℕ) :
     Type 0 where
   pub progress : Progress old new all (row_heads layout wide value row (drop i rows))
   pub numbered : row ≡ i
@@ -37,7 +39,8 @@ row_head_written old now new all layout wide value rows i row c s h is w =
 
 -- ---- columns
 
-pub columns_at : (layout : List SharedEntry) (text rows : List ℕ) (cs : List column.Column.Column) (i before : ℕ) (c : column.Column.Column) →
+pub columns_at : (layout : List SharedEntry) (text rows : List ℕ) (cs : List column.Column.Column) (i before : ℕ)
+    (c : column.Column.Column) →
     i < length cs → c ≡ get_or cs i c → columns layout text rows (before + 1) (map column_is (drop i cs)) ≡
     column_text layout text rows (before + 1) (column_is c) ++ columns layout text rows ((before + 1) + 1) (map column_is (drop (i + 1) cs))
 columns_at layout text rows cs i before c h is =

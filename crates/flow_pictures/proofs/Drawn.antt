@@ -5,7 +5,8 @@ use Rattle.std.proofs.lemmas.List.{length-append, length-take, take-append-drop,
 use Rattle.std.proofs.lemmas.List.Elements.{Contains-append_cases, Contains-append_left, Contains-append_right, filter-append}
 use Rattle.std.specs.List.{Contains, enumerate_from, filter, list_any}
 use Rattle.step_entries.specs.Entries.{Entry}
-use Rattle.flow_pictures.specs.Choice.{acts_in, drawn, faulted, is_access, is_asked, is_fault, is_faulted, is_ran, is_touching, number_before}
+use Rattle.flow_pictures.specs.Choice.{acts_in, drawn, faulted, is_access, is_asked, is_fault, is_faulted, is_ran, is_touching}
+use Rattle.flow_pictures.specs.Choice.{number_before}
 use Rattle.flow_pictures.specs.Choice.{ran, touching}
 use Rattle.flow_pictures.specs.Drawing.{column_of, written_by}
 use Rattle.flow_pictures.specs.Values.{value_of}

@@ -1,5 +1,6 @@
 -- The least of some cells, one by one.
-use Rattle.std.proofs.Common.{◌≡◌, ◌∙◌, ℕ, ◌+◌, ◌<◌, ◌≤◌, Bool, true, false, List, [], ◌∷◌, ◌++◌, Option, None, ap, drop, get_or, length, map, refl, sym}
+use Rattle.std.proofs.Common.{◌≡◌, ◌∙◌, ℕ, ◌+◌, ◌<◌, ◌≤◌, Bool, true, false, List, [], ◌∷◌, ◌++◌, Option, None, ap, drop, get_or, length}
+use Rattle.std.proofs.Common.{map, refl, sym}
 use Rattle.std.proofs.lemmas.List.{drop_all}
 use Rattle.std.proofs.lemmas.List.Sums.{fold-append}
 use Rattle.std.specs.List.{filter, flat_map, fold}
@@ -20,23 +21,27 @@ pub record InReads (only : List CellSpan) (x : ℕ) (start : Option ℕ) (cs : L
 pub reads_start : (only : List CellSpan) (x : ℕ) (start : Option ℕ) (cs : List ℕ) → InReads only x start cs 0 start
 reads_start only x start cs = record { same = refl }
 
-pub reads_go : (only : List CellSpan) (x : ℕ) (start : Option ℕ) (cs : List ℕ) (i c : ℕ) (now new : Option ℕ) → InReads only x start cs i now → i < length cs →
+pub reads_go : (only : List CellSpan) (x : ℕ) (start : Option ℕ) (cs : List ℕ) (i c : ℕ) (now new : Option ℕ) → InReads only x start cs i
+    now → i < length cs →
     c ≡ get_or cs i c → new ≡ nearer_if only x now c → InReads only x start cs (i + 1) new
 reads_go only x start cs i c now new b h is e = record {
   same = b.same ∙ at_item (fold (nearer_if only x) now) cs i c h is ∙ ap (λ o. fold (nearer_if only x) o (drop (i + 1) cs)) (sym e);
 }
 
-pub reads_end : (only : List CellSpan) (x : ℕ) (start : Option ℕ) (cs : List ℕ) (i : ℕ) (now : Option ℕ) → InReads only x start cs i now → length cs ≤ i →
+pub reads_end : (only : List CellSpan) (x : ℕ) (start : Option ℕ) (cs : List ℕ) (i : ℕ) (now : Option ℕ) → InReads only x start cs i now →
+    length cs ≤ i →
     now ≡ fold (nearer_if only x) start cs
 reads_end only x start cs i now b h = sym (b.same ∙ ap (fold (nearer_if only x) now) (drop_all i cs h))
 
 -- the cells of two lists
-joined : (only : List CellSpan) (x : ℕ) (start now new : Option ℕ) (front back : List ℕ) → now ≡ fold (nearer_if only x) start front → new ≡ fold (nearer_if only x) now back →
+joined : (only : List CellSpan) (x : ℕ) (start now new : Option ℕ) (front back : List ℕ) → now ≡ fold (nearer_if only x) start front → new ≡
+    fold (nearer_if only x) now back →
     new ≡ fold (nearer_if only x) start (front ++ back)
 joined only x start now new front back f b =
     b ∙ ap (λ o. fold (nearer_if only x) o back) f ∙ sym (fold-append (nearer_if only x) start front back)
 
-pub act_is_taken : (only : List CellSpan) (x : ℕ) (start now new : Option ℕ) (reads : List ℕ) (write : Option ℕ) → now ≡ fold (nearer_if only x) start reads →
+pub act_is_taken : (only : List CellSpan) (x : ℕ) (start now new : Option ℕ) (reads : List ℕ) (write : Option ℕ) → now ≡ fold
+    (nearer_if only x) start reads →
     new ≡ fold (nearer_if only x) now (optional write) → new ≡ fold (nearer_if only x) start (reads ++ optional write)
 act_is_taken only x start now new reads write f b = joined only x start now new reads (optional write) f b
 
@@ -56,7 +61,8 @@ acts_go only x start acts i a now new b h is e = record {
       ∙ ap (λ o. fold (nearer_if only x) o (flat_map act_cells (map act_is (drop (i + 1) acts)))) (sym e);
 }
 
-pub acts_end : (only : List CellSpan) (x : ℕ) (start : Option ℕ) (acts : List act.Act.Act) (i : ℕ) (now : Option ℕ) → InActs only x start acts i now →
+pub acts_end : (only : List CellSpan) (x : ℕ) (start : Option ℕ) (acts : List act.Act.Act) (i : ℕ) (now : Option ℕ) → InActs only x start
+    acts i now →
     length acts ≤ i → now ≡ fold (nearer_if only x) start (flat_map act_cells (map act_is acts))
 acts_end only x start acts i now b h =
     sym (b.same ∙ ap (λ xs. fold (nearer_if only x) now (flat_map act_cells (map act_is xs))) (drop_all i acts h))
@@ -65,7 +71,8 @@ pub entry_is_taken : (only : List CellSpan) (x : ℕ) (start now new : Option �
     now ≡ fold (nearer_if only x) start (flat_map act_cells acts) → new ≡ fold (nearer_if only x) now (fault_cells e) →
     new ≡ fold (nearer_if only x) start (entry_cells e)
 entry_is_taken only x start now new acts e same f b =
-    joined only x start now new (flat_map act_cells (acts_in e)) (fault_cells e) (f ∙ ap (λ l. fold (nearer_if only x) start (flat_map act_cells l)) same) b
+    joined only x start now new (flat_map act_cells (acts_in e)) (fault_cells e)
+        (f ∙ ap (λ l. fold (nearer_if only x) start (flat_map act_cells l)) same) b
 
 -- the least of those that are chosen
 chosen_by : (only : List CellSpan) (x : ℕ) (now : Option ℕ) (c : ℕ) (cs : List ℕ) (b : Bool) → is_chosen only c ≡ b →
@@ -95,7 +102,8 @@ pub entries_go : (only : List CellSpan) (x : ℕ) (cs : List column.Column.Colum
     InColumns only x cs (i + 1) new
 entries_go only x cs i c now new s h is n = record {
   same = s.same ∙ at_item (λ xs. fold (nearer_if only x) now (flat_map entry_cells (entries_of (map column_is xs)))) cs i c h is
-      ∙ fold-append (nearer_if only x) now (entry_cells (entry_is c.entry)) (flat_map entry_cells (entries_of (map column_is (drop (i + 1) cs))))
+      ∙ fold-append (nearer_if only x) now (entry_cells (entry_is c.entry))
+          (flat_map entry_cells (entries_of (map column_is (drop (i + 1) cs))))
       ∙ ap (λ o. fold (nearer_if only x) o (flat_map entry_cells (entries_of (map column_is (drop (i + 1) cs))))) (sym n);
 }
 

@@ -1,5 +1,6 @@
 -- Boxes and lines of all columns, and where their texts stand in a picture.
-use Rattle.std.proofs.Common.{◌≡◌, ◌∙◌, ◌⊎◌, inl, inr, ℕ, ℤ, zero, suc, ◌+◌, ◌<◌, List, [], ◌∷◌, ◌++◌, ap, append_assoc, arith, get_or, length, refl}
+use Rattle.std.proofs.Common.{◌≡◌, ◌∙◌, ◌⊎◌, inl, inr, ℕ, ℤ, zero, suc, ◌+◌, ◌<◌, List, [], ◌∷◌, ◌++◌, ap, append_assoc, arith, get_or}
+use Rattle.std.proofs.Common.{length, refl}
 use Rattle.std.proofs.Common.{Bool, true, false, not, ◌||◌, Option, Some, cond, map, subst, sym, take}
 use Rattle.std.proofs.lemmas.List.Elements.{Contains-append_cases, Contains-append_left, Contains-append_right}
 use Rattle.std.proofs.lemmas.Simd.{map-map}
@@ -47,7 +48,8 @@ item_stands t (y ∷ ys) (suc k) x within is = stands_behind (t y) (item_stands 
 
 -- ---- columns, by the values behind their statements
 
-written_at : (value : ℕ → ℤ) (acts : List Act) (cell : ℕ) → writes acts cell ≡ true → value_in acts (written_by value acts) cell ≡ value cell
+written_at : (value : ℕ → ℤ) (acts : List Act) (cell : ℕ) → writes acts cell ≡ true → value_in acts (written_by value acts) cell ≡
+    value cell
 written_at value [] cell is = absurd (grind (arith, is))
 written_at value (a ∷ acts) cell is = by (is_written a.write (Some cell)) refl (written_at value acts cell)
   where
@@ -105,7 +107,8 @@ node_among opening es rows j (q ∷ ps) (suc i) p n within is one =
     (node_among opening es rows (j + 1) ps i p n (omega (arith, within)) is
     (subst (λ k. Contains (nodes rows k (value_behind opening es p.0) (acts_in p.1)) n) same one))
 
-node_in_column : (layout : List SharedEntry) (text : List ℕ) (aside : Entry → List Bool) (opening : List ℤ) (es : List Entry) (rows : List ℕ) (j : ℕ)
+node_in_column : (layout : List SharedEntry) (text : List ℕ) (aside : Entry → List Bool) (opening : List ℤ) (es : List Entry)
+    (rows : List ℕ) (j : ℕ)
     (p : ℕ × Entry) (n : Node) → Contains (nodes rows j (value_behind opening es p.0) (acts_in p.1)) n →
     StandsIn (node_text rows n) (column_text layout text rows j (column_of aside opening es p))
 node_in_column layout text aside opening es rows j p n one =
@@ -117,7 +120,8 @@ node_in_column layout text aside opening es rows j p n one =
     (stands_before (flat_map (reading_text rows) (readings rows j (acts_in p.1)))
     (item_stands (node_text rows) ns here.0 n here.1 here.2))))
 
-node_in_columns : (layout : List SharedEntry) (text : List ℕ) (aside : Entry → List Bool) (opening : List ℤ) (es : List Entry) (rows : List ℕ) (j : ℕ)
+node_in_columns : (layout : List SharedEntry) (text : List ℕ) (aside : Entry → List Bool) (opening : List ℤ) (es : List Entry)
+    (rows : List ℕ) (j : ℕ)
     (ps : List (ℕ × Entry)) (n : Node) → Contains (nodes_from opening es rows j ps) n →
     StandsIn (node_text rows n) (columns layout text rows j (map (column_of aside opening es) ps))
 node_in_columns layout text aside opening es rows j [] n one = absurd (omega (arith, one.1))
@@ -136,18 +140,22 @@ node_in_columns layout text aside opening es rows j (p ∷ ps) n one =
 -- ---- lines
 
 pub arrow_among : (aside : Entry → List Bool) (rows : List ℕ) (j : ℕ) (ps : List (ℕ × Entry)) (i : ℕ) (p : ℕ × Entry) (l : Arrow) →
-    i < length ps → get_or ps i p ≡ p → Contains (arrows rows (j + i) (aside p.1) (acts_in p.1)) l → Contains (arrows_from aside rows j ps) l
+    i < length ps → get_or ps i p ≡ p → Contains (arrows rows (j + i) (aside p.1) (acts_in p.1)) l → Contains
+        (arrows_from aside rows j ps) l
 arrow_among aside rows j [] i p l within is one = absurd (omega (arith, within))
 arrow_among aside rows j (q ∷ ps) zero p l within is one =
     let same : j + 0 ≡ j = omega arith in
     Contains-append_left (arrows rows j (aside q.1) (acts_in q.1)) (arrows_from aside rows (j + 1) ps) l
-    (subst (λ r. Contains (arrows rows j (aside r.1) (acts_in r.1)) l) (sym is) (subst (λ k. Contains (arrows rows k (aside p.1) (acts_in p.1)) l) same one))
+    (subst (λ r. Contains (arrows rows j (aside r.1) (acts_in r.1)) l) (sym is)
+        (subst (λ k. Contains (arrows rows k (aside p.1) (acts_in p.1)) l) same one))
 arrow_among aside rows j (q ∷ ps) (suc i) p l within is one =
     let same : j + suc i ≡ (j + 1) + i = omega arith in
     Contains-append_right (arrows rows j (aside q.1) (acts_in q.1)) (arrows_from aside rows (j + 1) ps) l
-    (arrow_among aside rows (j + 1) ps i p l (omega (arith, within)) is (subst (λ k. Contains (arrows rows k (aside p.1) (acts_in p.1)) l) same one))
+    (arrow_among aside rows (j + 1) ps i p l (omega (arith, within)) is (subst (λ k. Contains (arrows rows k (aside p.1) (acts_in p.1)) l)
+        same one))
 
-carried_later : (aside : Entry → List Bool) (j : ℕ) (q : ℕ × Entry) (ps : List (ℕ × Entry)) (l : Arrow) → IsCarried aside (j + 1) ps l → IsCarried aside j (q ∷ ps) l
+carried_later : (aside : Entry → List Bool) (j : ℕ) (q : ℕ × Entry) (ps : List (ℕ × Entry)) (l : Arrow) → IsCarried aside (j + 1) ps l →
+    IsCarried aside j (q ∷ ps) l
 carried_later aside j q ps l c =
     let column = c.column in
     let within = c.within in
@@ -164,7 +172,8 @@ carried_later aside j q ps l c =
       dashed = c.dashed;
     }
 
-pub line_is_carried : (aside : Entry → List Bool) (rows : List ℕ) (j : ℕ) (ps : List (ℕ × Entry)) (l : Arrow) → Contains (arrows_from aside rows j ps) l → IsCarried aside j ps l
+pub line_is_carried : (aside : Entry → List Bool) (rows : List ℕ) (j : ℕ) (ps : List (ℕ × Entry)) (l : Arrow) → Contains
+    (arrows_from aside rows j ps) l → IsCarried aside j ps l
 line_is_carried aside rows j [] l one = absurd (omega (arith, one.1))
 line_is_carried aside rows j (p ∷ ps) l one =
     by (Contains-append_cases (arrows rows j (aside p.1) (acts_in p.1)) (arrows_from aside rows (j + 1) ps) l one)
@@ -188,7 +197,8 @@ line_is_carried aside rows j (p ∷ ps) l one =
           }
       by (inr there) others = carried_later aside j p ps l (others there)
 
-arrow_in_column : (layout : List SharedEntry) (text : List ℕ) (aside : Entry → List Bool) (opening : List ℤ) (es : List Entry) (rows : List ℕ) (j : ℕ)
+arrow_in_column : (layout : List SharedEntry) (text : List ℕ) (aside : Entry → List Bool) (opening : List ℤ) (es : List Entry)
+    (rows : List ℕ) (j : ℕ)
     (p : ℕ × Entry) (l : Arrow) → Contains (arrows rows j (aside p.1) (acts_in p.1)) l →
     StandsIn (arrow_text rows l) (column_text layout text rows j (column_of aside opening es p))
 arrow_in_column layout text aside opening es rows j p l one =
@@ -198,7 +208,8 @@ arrow_in_column layout text aside opening es rows j p l one =
     ++ flat_map (reading_text rows) (readings rows j (acts_in p.1)))
     (item_stands (arrow_text rows) (arrows rows j (aside p.1) (acts_in p.1)) one.0 l one.1 one.2)))
 
-arrow_in_columns : (layout : List SharedEntry) (text : List ℕ) (aside : Entry → List Bool) (opening : List ℤ) (es : List Entry) (rows : List ℕ) (j : ℕ)
+arrow_in_columns : (layout : List SharedEntry) (text : List ℕ) (aside : Entry → List Bool) (opening : List ℤ) (es : List Entry)
+    (rows : List ℕ) (j : ℕ)
     (ps : List (ℕ × Entry)) (l : Arrow) → Contains (arrows_from aside rows j ps) l →
     StandsIn (arrow_text rows l) (columns layout text rows j (map (column_of aside opening es) ps))
 arrow_in_columns layout text aside opening es rows j [] l one = absurd (omega (arith, one.1))

@@ -1,5 +1,6 @@
 -- One entry more of those that a picture has taken.
-use Rattle.std.proofs.Common.{◌≡◌, ◌∙◌, ◌⊎◌, inl, inr, ℕ, suc, ◌+◌, ◌-◌, ◌<◌, ◌≤◌, Bool, true, false, not, ◌&&◌, ◌||◌, List, [], ◌∷◌, ◌++◌, ℤ}
+use Rattle.std.proofs.Common.{◌≡◌, ◌∙◌, ◌⊎◌, inl, inr, ℕ, suc, ◌+◌, ◌-◌, ◌<◌, ◌≤◌, Bool, true, false, not, ◌&&◌, ◌||◌, List, [], ◌∷◌, ◌++◌}
+use Rattle.std.proofs.Common.{ℤ}
 use Rattle.std.proofs.Common.{Option, None, Some, ap, arith, length, map, min, nat_eq, nat_le, nat_lt, refl, subst, sym, take}
 use Rattle.std.proofs.lemmas.Bool.{cases_lt}
 use Rattle.std.proofs.lemmas.Bool.Decides.{nat_tests}
@@ -37,7 +38,8 @@ same_column n m e a b v w number aside written =
 
 -- with one more, of at most 64
 module _ (kept : List Column) (whole : List Column) (is : kept ≡ take 64 whole) (c d : Column) where
-  room_left : (nat_lt (length kept) 64 ≡ true → c ≡ d) → (if nat_lt (length kept) 64 then kept ++ c ∷ [] else kept) ≡ take 64 (whole ++ d ∷ [])
+  room_left : (nat_lt (length kept) 64 ≡ true → c ≡ d) → (if nat_lt (length kept) 64 then kept ++ c ∷ [] else kept) ≡ take 64
+      (whole ++ d ∷ [])
   room_left same = by (cases_lt (length whole) 64)
     where
       by : (length whole < 64) ⊎ (64 ≤ length whole) →
@@ -112,7 +114,8 @@ module _ (aside : Entry → List Bool) (opening : List ℤ) (from to : ℕ) (es 
       map (column_of aside opening whole) (filter p (enumerate_from 1 whole))
   kept_same p is = kept_still p ∙ ap (map (column_of aside opening whole)) (sym (passed p es e is))
 
-  kept_more : (p : ℕ × Entry → Bool) → p (number, e) ≡ true → map (column_of aside opening es) (filter p (enumerate_from 1 es)) ++ next ∷ [] ≡
+  kept_more : (p : ℕ × Entry → Bool) → p (number, e) ≡ true → map (column_of aside opening es) (filter p (enumerate_from 1 es)) ++
+      next ∷ [] ≡
       map (column_of aside opening whole) (filter p (enumerate_from 1 whole))
   kept_more p is =
       ap (λ cs. cs ++ next ∷ []) (kept_still p)

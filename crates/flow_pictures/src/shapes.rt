@@ -19,7 +19,8 @@ pub(crate) struct Area {
 
 /// Writes a rectangle, and how it is drawn.
 pub(crate) fn write_rectangle<W: Out>(out: &mut W, area: Area, how: &[u8]) -> Result<(), WriteFault>
-    ensures written { Writes (W.Out.state out.old) (W.Out.state out.new) (spec.rectangle area.left area.top area.wide area.tall how.now) result }
+    ensures written { Writes (W.Out.state out.old) (W.Out.state out.new) (spec.rectangle area.left area.top area.wide area.tall
+        how.now) result }
 {
     let mut left = Buffer::new();
     let mut top = Buffer::new();

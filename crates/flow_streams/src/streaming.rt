@@ -15,10 +15,10 @@ use step_streams::StreamFailure;
 use text_out::Out;
 use write_rules::Outcome;
 
-/// Runs a program on an input, for at most `bound` statements, and writes the picture of what passes through shared memory in the statements
-/// whose numbers, counted from 1, go from one to another; `text` is what was read as the program. Where `only` has the cells of some
-/// declarations, no others have a row. The picture is written when the run is over; beside the run it takes the memory of the run's cells,
-/// twice, and of the statements that are drawn, however many there are. The watch is told how far the run is, and the outcome
+/// Runs a program on an input, for at most `bound` statements, and writes the picture of what passes through shared memory in the
+/// statements whose numbers, counted from 1, go from one to another; `text` is what was read as the program. Where `only` has the cells of
+/// some declarations, no others have a row. The picture is written when the run is over; beside the run it takes the memory of the run's
+/// cells, twice, and of the statements that are drawn, however many there are. The watch is told how far the run is, and the outcome
 /// is the answer.
 /// - `InputTooLong` (E11): there are more values than cells, and nothing was written.
 /// - `OutOfMemory` (E16): memory was refused, and nothing was written.

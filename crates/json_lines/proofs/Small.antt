@@ -5,7 +5,8 @@ use Rattle.std.specs.Prelude.{ℤ, if◌then◌else◌, nat_lt, decimal}
 use Rattle.std.proofs.lemmas.Bool.{or_parts}
 use Rattle.std.specs.Ordering.{nat_cmp, match_ordering}
 use Rattle.std.specs.Cmp.Lexicographic.{slice_cmp}
-use Rattle.serde_json.specs.Data.{Data, number, string, unsigned, Items, Members, no_members, member, depth, items_depth, members_depth, put}
+use Rattle.serde_json.specs.Data.{Data, number, string, unsigned, Items, Members, no_members, member, depth, items_depth, members_depth}
+use Rattle.serde_json.specs.Data.{put}
 use Rattle.serde_json.specs.View.{items_of}
 use Rattle.serde_json.specs.Written.{has_float, items_have_float, members_have_float}
 use Rattle.json_lines.specs.Facts.{Field, count, counts, flag, large, letters, list, object_of, value, values, with_fields, word}

@@ -10,12 +10,14 @@ use Rattle.json_streams.specs.StreamLaws.{facts_are, json_as, json_nothing}
 use Rattle.json_streams.specs.Streams.{Breaks, PrintsJson, Streams, facts_behind, facts_if, facts_of}
 
 -- it is asked for, or not
-facts_by : (a : Asked) (c : ℕ) (e : Entry) (b : Bool) → is_told a.first a.last c ≡ b → facts_if a c e ≡ (if b then facts_of a c e ∷ [] else [])
+facts_by : (a : Asked) (c : ℕ) (e : Entry) (b : Bool) → is_told a.first a.last c ≡ b → facts_if a c e ≡
+    (if b then facts_of a c e ∷ [] else [])
 facts_by a c e b h =
     facts_are a.layout.now a.tree.now a.source.now a.first a.last c e ∙ ap (λ b. if b then facts_of a c e ∷ [] else []) h
 
 -- it isn't, and passes
-pub passes_by : (a : Asked) (c late : ℕ) (s t : Printing) (e : Entry) → is_told a.first a.last c ≡ false → late ≡ one_more a.last c → t ≡ s →
+pub passes_by : (a : Asked) (c late : ℕ) (s t : Printing) (e : Entry) → is_told a.first a.last c ≡ false → late ≡ one_more a.last
+    c → t ≡ s →
     Streams a c late s t (e ∷ [])
 passes_by a c late s t e h l same = record {
   counted = l;

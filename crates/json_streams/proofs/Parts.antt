@@ -75,7 +75,8 @@ module _ {S : Type 0} (asked : S → Asked) (name count : S → ℕ) (at : S →
 -- ---- of a whole run, from a writer that had not failed
 
 module _ (a : Asked) (layout : List SharedEntry) (tree : ProgramTree) (l : a.layout.now ≡ layout) (t : a.tree.now ≡ tree) where
-  said : (es : List Entry) (text : List ℕ) → IsJson (facts_behind a 0 es) text → IsJson (steps_from layout tree a.source.now a.first a.last 1 es) text
+  said : (es : List Entry) (text : List ℕ) → IsJson (facts_behind a 0 es) text → IsJson (steps_from layout tree a.source.now a.first a.last
+      1 es) text
   said es text json = subst (λ tree. IsJson (steps_from layout tree a.source.now a.first a.last 1 es) text) t
       (subst (λ layout. IsJson (steps_from layout a.tree.now a.source.now a.first a.last 1 es) text) l json)
 

@@ -1,5 +1,6 @@
 -- The laws of what is written of entries: it is nothing of no entries, and entries come behind entries.
-use Rattle.std.proofs.Common.{◌≡◌, ◌∙◌, ◌+◌, ◌≤◌, ◌&&◌, ℕ, Bool, true, false, List, [], ◌∷◌, ◌++◌, ap, append_assoc, arith, if◌then◌else◌, nat_le, nat_lt, refl, subst, sym}
+use Rattle.std.proofs.Common.{◌≡◌, ◌∙◌, ◌+◌, ◌≤◌, ◌&&◌, ℕ, Bool, true, false, List, [], ◌∷◌, ◌++◌, ap, append_assoc, arith, if◌then◌else◌}
+use Rattle.std.proofs.Common.{nat_le, nat_lt, refl, subst, sym}
 use Rattle.std.proofs.lemmas.Bool.{le-leb, le-ltb, lt-leb, ltb-false, ltb-true}
 use Rattle.serde_json.specs.Data.{Data}
 use Rattle.json_lines.specs.Lines.{IsJson}
@@ -58,7 +59,8 @@ module _ (layout : List SharedEntry) (tree : ProgramTree) (source : List ℕ) (f
       (steps_from layout tree source first last (passed last (one_more last c) xs + 1) ys))
     where
       by : (b : Bool) → nat_lt c last ≡ b → steps_from layout tree source first last ((c + 1) + 1) (xs ++ ys)
-          ≡ steps_from layout tree source first last ((c + 1) + 1) xs ++ steps_from layout tree source first last (passed last (c + 1) xs + 1) ys →
+          ≡ steps_from layout tree source first last ((c + 1) + 1) xs ++ steps_from layout tree source first last
+              (passed last (c + 1) xs + 1) ys →
           steps_from layout tree source first last ((c + 1) + 1) (xs ++ ys) ≡ steps_from layout tree source first last ((c + 1) + 1) xs
           ++ steps_from layout tree source first last (passed last (if b then c + 1 else c) xs + 1) ys
       by true h go = go

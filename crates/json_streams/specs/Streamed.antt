@@ -32,8 +32,8 @@ pub record WroteJson (old new : OutState) (facts : List Data) : Type 0 where
   pub json : IsJson facts text
   pub written : new ≡ with_bytes old text
 
--- All lines that are asked for were taken; or a beginning of those of some first entries, and the writer failed; or where memory was refused
--- those of the statements before; and none where the run was refused.
+-- All lines that are asked for were taken; or a beginning of those of some first entries, and the writer failed; or where memory was
+-- refused those of the statements before; and none where the run was refused.
 abbrev pub HasStreamedJson : (old new : OutState) → (facts : List Entry → List Data) → List Entry → Result Outcome StreamFailure → Type 0
 HasStreamedJson old new facts es (Ok outcome) = WroteJson old new (facts es)
 HasStreamedJson old new facts es (Err failure.WriteFailed) = StopsInFirst old new facts es

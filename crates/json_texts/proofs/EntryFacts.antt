@@ -8,8 +8,10 @@ use Rattle.step_entries.specs.Entries.{entry_is}
 use Rattle.json_texts.specs.StepFacts.{step_within, steps_from}
 
 -- the entry at i, and those behind it
-pub steps_at : (layout : List SharedEntry) (tree : ProgramTree) (source : List ℕ) (first last : ℕ) (es : List rust.Entry.Entry) (i before : ℕ)
-    (e : rust.Entry.Entry) → i < length es → e ≡ get_or es i e → steps_from layout tree source first last (before + 1) (map entry_is (drop i es)) ≡
+pub steps_at : (layout : List SharedEntry) (tree : ProgramTree) (source : List ℕ) (first last : ℕ) (es : List rust.Entry.Entry)
+    (i before : ℕ)
+    (e : rust.Entry.Entry) → i < length es → e ≡ get_or es i e → steps_from layout tree source first last (before + 1)
+        (map entry_is (drop i es)) ≡
     step_within layout tree source first last (before + 1) (entry_is e)
     ++ steps_from layout tree source first last ((before + 1) + 1) (map entry_is (drop (i + 1) es))
 steps_at layout tree source first last es i before e below is =

@@ -6,12 +6,14 @@ use Rattle.json_lines.proofs.Small.{HasSmall, has_all, small_count, small_counts
 use Rattle.superstep_machine.specs.Trace.{Exchange, relation_of}
 use Rattle.write_rules.specs.Verdict.{Verdict}
 use Rattle.exchange_counts.specs.CountedExchanges.{exchange_at, no_exchange}
-use Rattle.json_texts.specs.TraceFacts.{cost_fields, exchange_facts, exchange_fields, exchanges_from, line_fields, line_of, purpose_word, way, way_facts}
+use Rattle.json_texts.specs.TraceFacts.{cost_fields, exchange_facts, exchange_fields, exchanges_from, line_fields, line_of, purpose_word}
+use Rattle.json_texts.specs.TraceFacts.{way, way_facts}
 
 -- the exchange at i, and those behind it
 pub exchanges_at : (lines : List ℕ) (exchanges : List Exchange) (i : ℕ) → i < length exchanges →
     exchanges_from lines (i + 1) (drop i exchanges)
-    ≡ exchange_facts (i + 1) (line_of lines (i + 1)) (exchange_at exchanges (i + 1)) ∷ exchanges_from lines (i + 1 + 1) (drop (i + 1) exchanges)
+    ≡ exchange_facts (i + 1) (line_of lines (i + 1)) (exchange_at exchanges (i + 1)) ∷ exchanges_from lines (i + 1 + 1)
+        (drop (i + 1) exchanges)
 exchanges_at lines exchanges i below =
     let same : i ≡ i + 1 - 1 = omega arith in
     ap (exchanges_from lines (i + 1)) (drop_more exchanges i no_exchange below)
@@ -48,4 +50,5 @@ small_cost (Some n) = (small_large 0 n, tt)
 
 pub readable_way : (v : Verdict) (cost : Option ℕ) → IsReadable (way_facts v cost)
 readable_way v cost =
-    smaller 1 127 (way_facts v cost) (lit≤ tt) (small_object 0 ((codes "outcome", _) ∷ cost_fields cost) (small_word 0 (way v), small_cost cost))
+    smaller 1 127 (way_facts v cost) (lit≤ tt) (small_object 0 ((codes "outcome", _) ∷ cost_fields cost)
+        (small_word 0 (way v), small_cost cost))

@@ -52,7 +52,8 @@ pub record InOwn (tree : ProgramTree) (at : ℕ) (ls : List rust.OwnLocals.OwnLo
 pub own_start : (tree : ProgramTree) (at : ℕ) (ls : List rust.OwnLocals.OwnLocals) (now : List Data) → now ≡ [] → InOwn tree at ls 0 now
 own_start tree at ls now e = record { same = rw e refl }
 
-pub own_go : (tree : ProgramTree) (at : ℕ) (ls : List rust.OwnLocals.OwnLocals) (k : ℕ) (l : rust.OwnLocals.OwnLocals) (now new : List Data) →
+pub own_go : (tree : ProgramTree) (at : ℕ) (ls : List rust.OwnLocals.OwnLocals) (k : ℕ) (l : rust.OwnLocals.OwnLocals)
+    (now new : List Data) →
     InOwn tree at ls k now → k < length ls → l ≡ get_or ls k l → new ≡ now ++ own_facts tree at (own_is l) → InOwn tree at ls (k + 1) new
 own_go tree at ls k l now new b h is e =
     let rest : List Data = flat_map (own_facts tree at) (map own_is (drop (k + 1) ls)) in record {

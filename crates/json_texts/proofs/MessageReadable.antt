@@ -11,7 +11,8 @@ use Rattle.refusal_messages.specs.declared.message.Point.{Point}
 use Rattle.refusal_messages.specs.declared.message.Point.TheVariants.{Byte, Line}
 use Rattle.refusal_messages.specs.GnuLines.{other_note, other_place}
 use Rattle.refusal_messages.specs.Messages.{Message}
-use Rattle.json_texts.specs.MessageFacts.{known_fields, line_field, list_field, meant_field, message_fields, more_notes, note_facts, notes, other_notes}
+use Rattle.json_texts.specs.MessageFacts.{known_fields, line_field, list_field, meant_field, message_fields, more_notes, note_facts, notes}
+use Rattle.json_texts.specs.MessageFacts.{other_notes}
 use Rattle.json_texts.specs.MessageFacts.{place_field, point_fields, refusal_facts, refusal_fields, said_fields, text_field}
 use Rattle.json_texts.specs.RefusalFacts.{stop_fields}
 use Rattle.json_texts.proofs.Readable.{readable, small_stop}

@@ -3,14 +3,16 @@ use Rattle.std.proofs.Common.{ℕ, ◌-◌, nat_lt, Bool, true, false, ℤ, List
 use Rattle.std.specs.Prelude.{Option, Some, None, if◌then◌else◌}
 use Rattle.json_lines.specs.Facts.{large}
 use Rattle.json_lines.specs.Small.{IsReadable, IsSmall}
-use Rattle.json_lines.proofs.Small.{HasSmall, has_all, small_large, small_letters, small_object, small_value, small_values, small_word, smaller}
+use Rattle.json_lines.proofs.Small.{HasSmall, has_all, small_large, small_letters, small_object, small_value, small_values, small_word}
+use Rattle.json_lines.proofs.Small.{smaller}
 use Rattle.pram_model.specs.Layout.{SharedEntry}
 use Rattle.comparisons.specs.Found.{Differing, Found}
 use Rattle.comparisons.specs.declared.difference.Difference.{Difference}
 use Rattle.comparisons.specs.declared.difference.Difference.TheVariants as differ
 use Rattle.comparisons.specs.declared.difference.Ending.{Ending}
 use Rattle.comparisons.specs.declared.difference.Ending.TheVariants as ending
-use Rattle.json_texts.specs.PairFacts.{both_fields, cells_fields, difference_fields, differing_facts, differing_fields, ending_facts, ending_fields}
+use Rattle.json_texts.specs.PairFacts.{both_fields, cells_fields, difference_fields, differing_facts, differing_fields, ending_facts}
+use Rattle.json_texts.specs.PairFacts.{ending_fields}
 use Rattle.json_texts.specs.PairFacts.{excess_fields, first_fields, found_fields, pair_fields, told_fields, value_fields, whole_facts}
 use Rattle.json_texts.proofs.Readable.{readable, small_fault}
 
@@ -20,7 +22,8 @@ small_one name (Some v) = (small_value 3 v, tt)
 
 small_both : (x y : Option ℤ) → HasSmall 3 (both_fields x y)
 small_both x y =
-    has_all 3 (value_fields (codes "first") x) (value_fields (codes "second") y) (small_one (codes "first") x) (small_one (codes "second") y)
+    has_all 3 (value_fields (codes "first") x) (value_fields (codes "second") y) (small_one (codes "first") x)
+        (small_one (codes "second") y)
 
 small_ending_fields : (layout : List SharedEntry) (e : Ending) → HasSmall 0 (ending_fields layout e)
 small_ending_fields layout ending.Ended = (small_word 0 _, tt)
@@ -28,7 +31,8 @@ small_ending_fields layout (ending.Faulted fault) = (small_word 0 _, small_fault
 small_ending_fields layout ending.GoesOn = (small_word 0 _, tt)
 
 small_ending : (layout : List SharedEntry) (e : Ending) → IsSmall 3 (ending_facts layout e)
-small_ending layout e = smaller 1 3 (ending_facts layout e) (lit≤ tt) (small_object 0 (ending_fields layout e) (small_ending_fields layout e))
+small_ending layout e = smaller 1 3 (ending_facts layout e) (lit≤ tt)
+    (small_object 0 (ending_fields layout e) (small_ending_fields layout e))
 
 small_excess : (what : List ℕ) (taken limit : ℕ) → HasSmall 3 (excess_fields what taken limit)
 small_excess what taken limit = (small_word 3 _, (small_large 3 taken, (small_large 3 limit, tt)))

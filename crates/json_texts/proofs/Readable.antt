@@ -37,7 +37,8 @@ use Rattle.json_texts.specs.CostFacts.{bound_fields, cost_facts, cost_fields, li
 use Rattle.memory_texts.specs.Chosen.{chosen}
 use Rattle.memory_texts.specs.declared.choice.Choice.{Choice}
 use Rattle.memory_texts.specs.declared.choice.Choice.TheVariants.{All}
-use Rattle.json_texts.specs.OutcomeFacts.{bounds_fields, chosen_facts, chosen_fields, entry_facts, fault_fields, memory_facts, opening_facts, outcome_facts, outcome_fields}
+use Rattle.json_texts.specs.OutcomeFacts.{bounds_fields, chosen_facts, chosen_fields, entry_facts, fault_fields, memory_facts}
+use Rattle.json_texts.specs.OutcomeFacts.{opening_facts, outcome_facts, outcome_fields}
 use Rattle.json_texts.specs.RefusalFacts.{cause_fields, place_fields, reason_fields, stop_facts, stop_fields, text_fields, told_place}
 use Rattle.json_texts.specs.RuleFacts.{comparison_facts, declared_fields, finding_fields, rule_facts}
 use Rattle.json_texts.specs.ActFacts.{act_facts, cell_fact, position_fact, processor_fact, value_fact, write_fact, written_fact}

@@ -32,8 +32,8 @@ abbrev pub written_fact : Option ℤ → Data
 written_fact None = null
 written_fact (Some v) = value v
 
--- what one processor did: the cells that it read, in order, with the position of each and what it gave, and the cell that it wrote, with what
--- it wrote there
+-- what one processor did: the cells that it read, in order, with the position of each and what it gave, and the cell that it wrote, with
+-- what it wrote there
 abbrev pub act_facts : List SharedEntry → Act → Data
 act_facts layout a = object_of
     ((codes "processor", processor_fact a.processor) ∷ (codes "reads", list (map (cell_fact layout) a.reads))

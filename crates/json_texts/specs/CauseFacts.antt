@@ -21,8 +21,8 @@ abbrev pub beyond_fields : ℤ → Option SharedEntry → List Field
 beyond_fields z None = []
 beyond_fields z (Some e) = array_fields e.name z (subscripts e.bounds).0 (subscripts e.bounds).1
 
--- the operation and its operands, the subscript, the range and how many processors there may be, or the writes; of conflicting reads nothing,
--- since those that met are told
+-- the operation and its operands, the subscript, the range and how many processors there may be, or the writes; of conflicting reads
+-- nothing, since those that met are told
 abbrev pub why_fields : List SharedEntry → Cause → List Field
 why_fields layout (Between x o y) = (codes "operator", letters (binary_text o)) ∷ (codes "operands", values (x ∷ y ∷ [])) ∷ []
 why_fields layout (Before o x) = (codes "operator", letters (prefix_text o)) ∷ (codes "operands", values (x ∷ [])) ∷ []

@@ -54,7 +54,8 @@ faulting_fields layout fault cause acts met =
     ∷ (fault_fields layout fault ++ known_fields layout cause)
 
 -- that, with the locals of the processors that it is of
-abbrev pub fault_told : List SharedEntry → ProgramTree → (at : ℕ) → Fault → Option Cause → List Act → (met : List ℤ) → List OwnLocals → List Field
+abbrev pub fault_told : List SharedEntry → ProgramTree → (at : ℕ) → Fault → Option Cause → List Act → (met : List ℤ) → List OwnLocals →
+    List Field
 fault_told layout tree at fault cause acts met locals =
     (codes "locals", list (flat_map (own_facts tree at) locals)) ∷ faulting_fields layout fault cause acts met
 

@@ -84,8 +84,8 @@ pub(crate) fn outcome_value(
 }
 
 /// An outcome, on a line: `{"memory":[{"name":"s","values":["7"]}],"outcome":"ended","output":["55"]}`, or at a fault
-/// `{"kind":"read-conflict","line":4,"outcome":"fault","output":[],"place":"a[1]"}`. Of the memory the chosen declarations are told; what was
-/// printed is told with any choice.
+/// `{"kind":"read-conflict","line":4,"outcome":"fault","output":[],"place":"a[1]"}`. Of the memory the chosen declarations are told; what
+/// was printed is told with any choice.
 pub fn json_outcome(
     alloc: Global,
     layout: &Layout,

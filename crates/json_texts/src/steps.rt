@@ -316,13 +316,13 @@ fn push_outcome(
 
 /// The entries whose numbers, counted from 1, go from `first` to `last`, each on a line, and the outcome on the last line:
 /// `{"acts":[{"processor":"3","reads":["a[3]"],"write":"a[3]"}],"changes":[{"after":"7","before":"4","cell":"a[3]"}],"column":5,`
-/// `"line":9,"locals":[],"printed":[],"processors":1,"step":5,"variables":[]}`, where `processor` is null of the one outside pardo and `write`
-/// where it writes no cell; or at a fault
-/// `{"acts":[..],"column":3,"kind":"read-conflict","line":4,"locals":[..],"met":["1","3"],"place":"a[1]","step":6}`, with what there is to say
-/// of why: `array`, `subscript`, `low` and `high`; `operator` and `operands`; `low`, `high` and `procs`; or `writers`. A variable is told as
-/// `{"after":"4","before":"8","name":"m","variable":0}`, by its name in the tree and its number in the order of declarations, and a local
-/// as `{"after":"7","before":"3","local":"x","processor":"1"}`; at a fault what each local holds of those that met, or of the one that
-/// faulted, as `{"local":"x","processor":"1","value":"3"}`.
+/// `"line":9,"locals":[],"printed":[],"processors":1,"step":5,"variables":[]}`, where `processor` is null of the one outside pardo and
+/// `write` where it writes no cell; or at a fault
+/// `{"acts":[..],"column":3,"kind":"read-conflict","line":4,"locals":[..],"met":["1","3"],"place":"a[1]","step":6}`, with what there is to
+/// say of why: `array`, `subscript`, `low` and `high`; `operator` and `operands`; `low`, `high` and `procs`; or `writers`. A variable is
+/// told as `{"after":"4","before":"8","name":"m","variable":0}`, by its name in the tree and its number in the order of declarations, and a
+/// local as `{"after":"7","before":"3","local":"x","processor":"1"}`; at a fault what each local holds of those that met, or of the one
+/// that faulted, as `{"local":"x","processor":"1","value":"3"}`.
 pub fn json_steps(
     alloc: Global,
     layout: &Layout,
@@ -336,7 +336,8 @@ pub fn json_steps(
     // The lines are exactly the facts of these entries and of the outcome, and read as JSON each line is these facts
     // again.
     ensures json { IfOk result (λ text. IsJson
-        (spec.steps_facts layout.now tree.now source.now (verdict_of outcome.now) (map entry_is entries.now) first last) (string_bytes text)) }
+        (spec.steps_facts layout.now tree.now source.now (verdict_of outcome.now) (map entry_is entries.now) first last)
+            (string_bytes text)) }
 {
     let mut text = steps_text(alloc, layout, tree, source, entries, first, last)?;
     push_outcome(alloc, &mut text, layout, outcome)?;

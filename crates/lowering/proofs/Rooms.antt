@@ -1,5 +1,6 @@
 -- A program within bounds has room for the numbers of its code.
-use Rattle.std.proofs.Common.{◌≡◌, ℕ, ◌+◌, ◌*◌, ◌<◌, ◌≤◌, ◌^◌, List, [], ◌∷◌, length, true, false, length-append, Option, Some, None, arith, refl}
+use Rattle.std.proofs.Common.{◌≡◌, ℕ, ◌+◌, ◌*◌, ◌<◌, ◌≤◌, ◌^◌, List, [], ◌∷◌, length, true, false, length-append, Option, Some, None, arith}
+use Rattle.std.proofs.Common.{refl}
 use Rattle.std.specs.Prelude.{MatchOption, slice_get}
 use Rattle.std.proofs.lemmas.Option.{slice_get_within}
 use Rattle.pram_model.specs.Layout.{SharedEntry}
@@ -18,7 +19,8 @@ use Rattle.pram_check.specs.Checked.{Checked, IsResolved}
 use Rattle.pram_check.specs.Bounded.{Names, names_of, with_locals, IsSingleCell, IsArray, IsNamed, AreNamed, IsSole, ArePair, IsInnerAssign}
 use Rattle.pram_check.specs.Bounded.{IsStep, ArePartSteps, AreSteps, IsAssign, IsStatement, ArePartStatements, AreStatements, IsBounded}
 use Rattle.pram_check.specs.Bounded.{nodes, link_nodes, inner_target_nodes, step_depth, part_step_depth, steps_depth}
-use Rattle.pram_check.specs.Bounded.{step_size, part_step_size, steps_size, target_nodes, depth, part_depth, body_depth, size, part_size, body_size}
+use Rattle.pram_check.specs.Bounded.{step_size, part_step_size, steps_size, target_nodes, depth, part_depth, body_depth, size, part_size}
+use Rattle.pram_check.specs.Bounded.{body_size}
 use Rattle.plain_form.specs.Registers.{behind_turns, behind_locals, behind_variables}
 use Rattle.plain_form.specs.Formulas.{Formula, Zero, Between, Pair, formula_of, chained}
 use Rattle.plain_form.specs.Outside.{statements_code}
@@ -156,7 +158,8 @@ module _ (s : Names) (few : s.uniforms + 1 ≤ 2 ^ 16) (fewer : local_count s.lo
 module _ (s : Names) (few : s.uniforms + 1 ≤ 2 ^ 16) (fewer : local_count s.locals + 2 ≤ 2 ^ 16) (short : length s.layout ≤ 2 ^ 16) where
   assign_room : (free : ℕ) (x : Target) (e : Expression) → IsAssign s x e → free + target_nodes x + nodes e + 10 ≤ 2 ^ 16 →
       IsAssignRoom x (formula_of e) free
-  assign_room free (target.Uniform x) e h m = let k = h.0 in (omega (arith, k, few), sole_room s few fewer short free e h.1 (omega (arith, m)))
+  assign_room free (target.Uniform x) e h m = let k = h.0 in (omega (arith, k, few), sole_room s few fewer short free e h.1
+      (omega (arith, m)))
   assign_room free (target.Cell a) e h m = (cell_below s few fewer short a h.0, cell_room s few fewer short free e h.1 (omega (arith, m)))
   assign_room free (target.Element a i) e h m =
       (array_below s few fewer short a h.0, pair_room s few fewer short free i e h.1 (omega (arith, m)))

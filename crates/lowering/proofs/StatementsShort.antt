@@ -6,7 +6,8 @@ use Rattle.superstep_instructions.specs.declared.instr.Side.TheVariants.{Uniform
 use Rattle.superstep_instructions.specs.declared.instr.Instr.TheVariants.{Halt}
 use Rattle.pram_names.specs.declared.body.Expression.{Expression}
 use Rattle.pram_names.specs.declared.body.Statement as statement
-use Rattle.pram_names.specs.declared.body.Statement.{Statement, Row_of-Statement, end_of-Statement, more_of-Statement, items-the_row-Statement}
+use Rattle.pram_names.specs.declared.body.Statement.{Statement, Row_of-Statement, end_of-Statement, more_of-Statement}
+use Rattle.pram_names.specs.declared.body.Statement.{items-the_row-Statement}
 use Rattle.pram_names.specs.declared.body.Statement.{items_hidden-the_row-Statement-0}
 use Rattle.pram_names.specs.declared.body.Statement.TheBlock.{hidden-the_row-Statement-0}
 use Rattle.plain_form.specs.Registers.{turn, high, more, behind_turns}

@@ -3,7 +3,8 @@ use Rattle.std.specs.Prelude.{[], ◌∷◌, pos, codes}
 use Rattle.pram_model.specs.declared.rule.Rule.TheVariants.{Crew, Common}
 use Rattle.superstep_instructions.specs.declared.instr.Arithmetic.TheVariants.{Add, Subtract, Divide}
 use Rattle.superstep_instructions.specs.declared.instr.Side.TheVariants.{Uniform, Private}
-use Rattle.superstep_instructions.specs.declared.instr.Instr.TheVariants.{Mark, Set, Calculate, Index, Enter, Leave, Ask, Put, Send, Reply, Print}
+use Rattle.superstep_instructions.specs.declared.instr.Instr.TheVariants.{Mark, Set, Calculate, Index, Enter, Leave, Ask, Put, Send, Reply}
+use Rattle.superstep_instructions.specs.declared.instr.Instr.TheVariants.{Print}
 use Rattle.superstep_instructions.specs.declared.instr.Instr.TheVariants.{Halt}
 use Rattle.superstep_instructions.specs.Code.{SuperstepCode}
 use Rattle.machine_examples.specs.Examples.{cell, array}

@@ -6,7 +6,8 @@ use Rattle.superstep_instructions.specs.declared.instr.Arithmetic.TheVariants.{D
 use Rattle.superstep_instructions.specs.declared.instr.Truth.TheVariants.{Equal}
 use Rattle.superstep_instructions.specs.declared.instr.Side.TheVariants.{Uniform, Private}
 use Rattle.superstep_instructions.specs.declared.instr.Instr.{Instr}
-use Rattle.superstep_instructions.specs.declared.instr.Instr.TheVariants.{Mark, Set, Calculate, Decide, Enter, Leave, Mask, Unmask, Ask, Put, Send}
+use Rattle.superstep_instructions.specs.declared.instr.Instr.TheVariants.{Mark, Set, Calculate, Decide, Enter, Leave, Mask, Unmask, Ask}
+use Rattle.superstep_instructions.specs.declared.instr.Instr.TheVariants.{Put, Send}
 use Rattle.superstep_instructions.specs.declared.instr.Instr.TheVariants.{Reply, Vote, Print, Halt}
 use Rattle.superstep_instructions.specs.Code.{SuperstepCode}
 use Rattle.machine_examples.specs.Examples.{cell, array}

@@ -4,8 +4,10 @@ use Rattle.pram_model.specs.declared.rule.Rule.TheVariants.{Erew, Crew, Sum}
 use Rattle.superstep_instructions.specs.declared.instr.Arithmetic.TheVariants.{Add, Subtract, Multiply}
 use Rattle.superstep_instructions.specs.declared.instr.Truth.TheVariants.{Less}
 use Rattle.superstep_instructions.specs.declared.instr.Side.TheVariants.{Uniform, Private}
-use Rattle.superstep_instructions.specs.declared.instr.Instr.TheVariants.{Mark, Set, Copy, Calculate, Decide, CopyUniform, Index, Enter, Leave}
-use Rattle.superstep_instructions.specs.declared.instr.Instr.TheVariants.{Mask, Flip, Unmask, Ask, Put, Send, Reply, Vote, Print, Jump, JumpIfZero}
+use Rattle.superstep_instructions.specs.declared.instr.Instr.TheVariants.{Mark, Set, Copy, Calculate, Decide, CopyUniform, Index, Enter}
+use Rattle.superstep_instructions.specs.declared.instr.Instr.TheVariants.{Leave}
+use Rattle.superstep_instructions.specs.declared.instr.Instr.TheVariants.{Mask, Flip, Unmask, Ask, Put, Send, Reply, Vote, Print, Jump}
+use Rattle.superstep_instructions.specs.declared.instr.Instr.TheVariants.{JumpIfZero}
 use Rattle.superstep_instructions.specs.declared.instr.Instr.TheVariants.{Halt}
 use Rattle.superstep_instructions.specs.Code.{SuperstepCode}
 use Rattle.machine_examples.specs.Examples.{cell, array}

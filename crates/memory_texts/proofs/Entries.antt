@@ -1,5 +1,6 @@
 -- The declarations, one by one.
-use Rattle.std.proofs.Common.{◌≡◌, ◌<◌, ◌+◌, ◌++◌, ◌||◌, ◌∷◌, ◌∙◌, Bool, List, ℕ, ℤ, ap, drop, false, length, refl, slice_get, sym, take, true}
+use Rattle.std.proofs.Common.{◌≡◌, ◌<◌, ◌+◌, ◌++◌, ◌||◌, ◌∷◌, ◌∙◌, Bool, List, ℕ, ℤ, ap, drop, false, length, refl, slice_get, sym, take}
+use Rattle.std.proofs.Common.{true}
 use Rattle.std.specs.Bool.{if◌then◌else◌}
 use Rattle.pram_model.specs.Names.{same_text}
 use Rattle.program_texts.proofs.ShownLemmas.{entry_at, known_at}

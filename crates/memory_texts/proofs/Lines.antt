@@ -1,5 +1,6 @@
 -- The lines of a text, one by one.
-use Rattle.std.proofs.Common.{◌≡◌, ◌∙◌, ◌+◌, ◌<◌, ◌==◌, ◌∷◌, [], Bool, List, ℕ, ℤ, suc, true, false, ap, arith, cond, drop, length, length-drop, not, refl, subst, sym, take}
+use Rattle.std.proofs.Common.{◌≡◌, ◌∙◌, ◌+◌, ◌<◌, ◌==◌, ◌∷◌, [], Bool, List, ℕ, ℤ, suc, true, false, ap, arith, cond, drop, length}
+use Rattle.std.proofs.Common.{length-drop, not, refl, subst, sym, take}
 use Rattle.std.specs.Bool.{if◌then◌else◌}
 use Rattle.std.specs.Prelude.{IsErrAnd, Option, Result, Ok, Err}
 use Rattle.std.specs.List.{prefix_len}
@@ -81,7 +82,8 @@ module _ (layout : List SharedEntry) (text rest line : List ℕ) (memory : List 
       ∙ ap (λ l. here ∷ lines (at + (n + 1)) l) (drop-drop (n + 1) at text)
       ∙ ap (λ m. here ∷ lines (at + (m + 1)) (drop (at + (m + 1)) text)) (sym line_length)
 
-  whole : (given layout here >>= λ a. after_lines layout (lines (at + (length line + 1)) (drop (at + (length line + 1)) text)) (after memory a))
+  whole : (given layout here >>= λ a. after_lines layout (lines (at + (length line + 1)) (drop (at + (length line + 1)) text))
+      (after memory a))
       ≡ memory_of layout text
   whole = ap (λ ls. after_lines layout ls memory) (sym split) ∙ before.left
 

@@ -1,5 +1,6 @@
 -- Values are put into cells one by one.
-use Rattle.std.proofs.Common.{◌≡◌, ◌∙◌, ◌+◌, ◌<◌, ◌≤◌, ◌++◌, ◌∷◌, [], List, ℕ, ℤ, pos, suc, ap, append_assoc, arith, drop, get_or, length, length-append, length-take, refl, sym, take}
+use Rattle.std.proofs.Common.{◌≡◌, ◌∙◌, ◌+◌, ◌<◌, ◌≤◌, ◌++◌, ◌∷◌, [], List, ℕ, ℤ, pos, suc, ap, append_assoc, arith, drop, get_or, length}
+use Rattle.std.proofs.Common.{length-append, length-take, refl, sym, take}
 use Rattle.std.proofs.Math.ListN.{set}
 use Rattle.std.proofs.lemmas.List.{drop_more, take_more}
 

@@ -12,7 +12,8 @@ use Rattle.memory_texts.specs.declared.memory_fault.MemoryFault.TheVariants.{Out
 use Rattle.memory_texts.specs.Front.{◌>>=◌, front, past_blanks}
 use Rattle.memory_texts.specs.Headings.{Headed, heading_front}
 use Rattle.memory_texts.specs.Cells.{cells_at, cells_of, declaration, declared_cells, found_cells, left_of, subscripts_of, unknown}
-use Rattle.memory_texts.specs.Assignments.{Answers, Assigned, IsFault, assignment_by, assignment_front, assignment_of, in_line, misplaced, values_of}
+use Rattle.memory_texts.specs.Assignments.{Answers, Assigned, IsFault, assignment_by, assignment_front, assignment_of, in_line, misplaced}
+use Rattle.memory_texts.specs.Assignments.{values_of}
 use Rattle.memory_texts.specs.Memory.{IsRefused, Line, after, after_lines, given, lines, memory_of}
 
 -- what a line can be refused for
@@ -52,7 +53,8 @@ declared_only layout end h (Some (i, bounds)) = found_only end (left_of h) (cell
 of_only : (first cells : ℕ) (values : List ℤ) → Only (assignment_of first cells values)
 of_only first cells values = by (nat_lt cells (length values))
   where
-    by : (t : Bool) → Only {A = Assigned} (if t then Err (TooMany (length values) cells) else Ok (record { first = first; values = values }))
+    by : (t : Bool) → Only {A = Assigned} (if t then Err (TooMany (length values) cells) else Ok
+        (record { first = first; values = values }))
     by true = is_only (TooMany (length values) cells) tt
     by false = none_wrong {A = Assigned} (record { first = first; values = values })
 

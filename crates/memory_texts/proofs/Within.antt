@@ -1,5 +1,6 @@
 -- The cells that a line gives are there.
-use Rattle.std.proofs.Common.{◌≡◌, ◌<◌, ◌≤◌, ◌+◌, ◌-◌, ◌^◌, List, ℕ, ℤ, Bool, true, false, arith, refl, sym, subst, length, nat_le, nat_lt, [], ◌∷◌}
+use Rattle.std.proofs.Common.{◌≡◌, ◌<◌, ◌≤◌, ◌+◌, ◌-◌, ◌^◌, List, ℕ, ℤ, Bool, true, false, arith, refl, sym, subst, length, nat_le, nat_lt}
+use Rattle.std.proofs.Common.{[], ◌∷◌}
 use Rattle.std.specs.Bool.{if◌then◌else◌}
 use Rattle.std.specs.Prelude.{Option, Some, None, IfSome, Result, Ok, Err}
 use Rattle.std.proofs.lemmas.Bool.Decides.{nat_tests}
@@ -9,7 +10,8 @@ use Rattle.memory_texts.specs.declared.memory_fault.MemoryFault.TheVariants.{Too
 use Rattle.memory_texts.specs.Front.{◌>>=◌, past_blanks}
 use Rattle.memory_texts.specs.Headings.{Headed, heading_front}
 use Rattle.memory_texts.specs.Cells.{between, cells_at, cells_of, declaration, declared_cells, found_cells, left_of, subscripts_of}
-use Rattle.memory_texts.specs.Assignments.{Assigned, Reaches, ReachesIf, assignment_by, assignment_front, assignment_of, in_line, line_assignment, values_of}
+use Rattle.memory_texts.specs.Assignments.{Assigned, Reaches, ReachesIf, assignment_by, assignment_front, assignment_of, in_line}
+use Rattle.memory_texts.specs.Assignments.{line_assignment, values_of}
 
 pub few_cells : (layout : List SharedEntry) (i : ℕ) (z : ℤ) (r : Option ℕ) (n : ℕ) → r ≡ cell_of layout i z → n ≡ total_size layout →
     n ≤ most_cells → IfSome r (λ b. b < 2 ^ 20)
@@ -63,7 +65,8 @@ of_within : (total first cells : ℕ) (values : List ℤ) (a : Assigned) → fir
     Reaches total a
 of_within total first cells values a below is = by (nat_lt cells (length values)) refl is
   where
-    by : (t : Bool) → t ≡ nat_lt cells (length values) → (if t then Err (TooMany (length values) cells) else Ok (record { first = first; values = values })) ≡ Ok a →
+    by : (t : Bool) → t ≡ nat_lt cells (length values) → (if t then Err (TooMany (length values) cells) else Ok
+        (record { first = first; values = values })) ≡ Ok a →
         Reaches total a
     by true e h = absurd (cc h)
     by false e h =

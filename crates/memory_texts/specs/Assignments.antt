@@ -77,7 +77,8 @@ abbrev pub assignment_of : (first cells : ℕ) → List ℤ → Result Assigned 
 assignment_of first cells values =
     if nat_lt cells (length values) then Err (TooMany (length values) cells) else Ok (record { first = first; values = values })
 
--- what a line gives that ends there and is not blank: its form is looked at first, then its name and interval, and then the number of values
+-- what a line gives that ends there and is not blank: its form is looked at first, then its name and interval, and then the number of
+-- values
 abbrev pub assignment_front : List SharedEntry → (end : ℕ) → List ℕ → Result Assigned MemoryFault
 assignment_front layout end text =
     in_line end (heading_front text) >>= λ h. in_line end (values_of h.1) >>= λ values. cells_of layout end h.0

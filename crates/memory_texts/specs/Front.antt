@@ -1,6 +1,7 @@
--- What stands at the front of a text: runs of bytes, and bytes that have to be the next ones. Where something else stands, the answer is how
--- many bytes are left from there on.
-use Rattle.std.specs.Prelude.{◌≡◌, ℕ, ◌==◌, ℤ, Bool, not, ◌||◌, if◌then◌else◌, List, [], ◌∷◌, length, take, drop, Option, Some, None, Result, Ok}
+-- What stands at the front of a text: runs of bytes, and bytes that have to be the next ones. Where something else stands, the answer is
+-- how many bytes are left from there on.
+use Rattle.std.specs.Prelude.{◌≡◌, ℕ, ◌==◌, ℤ, Bool, not, ◌||◌, if◌then◌else◌, List, [], ◌∷◌, length, take, drop, Option, Some, None}
+use Rattle.std.specs.Prelude.{Result, Ok}
 use Rattle.std.specs.Prelude.{Err}
 use Rattle.std.specs.List.{prefix_len}
 use Rattle.pram_model.specs.Names.{is_digit, is_word}

@@ -79,13 +79,13 @@ fn memory_of(alloc: Global, layout: &Layout, text: &[u8]) -> Result<Vec<i64>, Me
 /// The values of all cells of a layout, in their order, by a memory text: cells that it does not name are 0.
 ///
 /// A line of the text is empty, or `NAME = VALUES`, or `NAME[LOW..HIGH] = VALUES`; a comment begins with `#` and goes to the line's end,
-/// and white space may stand between the parts. The values are those of the first cells of the declaration, or of its cells from the subscript
-/// LOW on, as many as there are; a cell that is given more than once has the value that comes last.
+/// and white space may stand between the parts. The values are those of the first cells of the declaration, or of its cells from the
+/// subscript LOW on, as many as there are; a cell that is given more than once has the value that comes last.
 ///
 /// A text of more than 1,048,576 bytes is `TextFault::TextTooLong` (E2), whatever it says; then the first byte of 128 or more is
-/// `TextFault::NotAscii` (E1). Then what is wrong with the first line that is wrong: `TextFault::BadToken` (E3) at the first place at which it
-/// has another form, or at its first word behind the `=` that is no whole number of 64 bits; `MemoryFault::Unknown` (E6) at its name, where
-/// no declaration has it, or at LOW, where LOW to HIGH is no interval of the array's subscripts or the declaration is a single cell;
+/// `TextFault::NotAscii` (E1). Then what is wrong with the first line that is wrong: `TextFault::BadToken` (E3) at the first place at which
+/// it has another form, or at its first word behind the `=` that is no whole number of 64 bits; `MemoryFault::Unknown` (E6) at its name,
+/// where no declaration has it, or at LOW, where LOW to HIGH is no interval of the array's subscripts or the declaration is a single cell;
 /// `MemoryFault::TooMany` (E11) where it has more values than cells. `MemoryFault::OutOfMemory` (E16) says that memory was refused.
 pub fn read_memory(alloc: Global, layout: &Layout, text: &[u8]) -> Result<Vec<i64>, MemoryFault>
     // The answer has for each cell the value that the text's lines leave, in order, and 0 where they say nothing.

@@ -17,7 +17,8 @@ use Rattle.moment_laws.proofs.Runs.{IsRun, done, run_none, run_then}
 use Rattle.moment_laws.proofs.Statements.{Moves, begun_moves, set_run, set_value_run}
 
 -- what has gone on has counted what it had and more
-pub grown : {A : Type 0} (n k : ℕ) (m new : State) (a : A) (ms ns : List Moment) (b c : Behaviour A) → b ≡ Goes a new → IsRun n k m ms ns b c →
+pub grown : {A : Type 0} (n k : ℕ) (m new : State) (a : A) (ms ns : List Moment) (b c : Behaviour A) → b ≡ Goes a new → IsRun n k m
+    ms ns b c →
     m.count ≤ new.count
 grown n k m new a ms ns b c is run =
     let lead = (subst (λ b. IsRun n k m ms ns b c) is run).0 in let e = lead_counts ms m new lead in omega (arith, e)
@@ -94,15 +95,18 @@ module _ (p : Checked) (n k : ℕ) (more : n ≤ k) where
         (λ vs m g. inner_row_run body vs m g) vs m low (omega arith) (omega arith)
 
     inner_row_run : {q : _} (ss : Row_of-Step q) (vs : List ℕ) (m : State) → m.count ≤ n →
-        IsRun n k m (inner_row_moments p n ss vs m) (inner_row_moments p k ss vs m) (perform_row_on p n ss vs m) (perform_row_on p k ss vs m)
+        IsRun n k m (inner_row_moments p n ss vs m) (inner_row_moments p k ss vs m) (perform_row_on p n ss vs m)
+            (perform_row_on p k ss vs m)
     inner_row_run end_of-Step vs m low = run_none n k done m low
     inner_row_run (more_of-Step s ss) vs m low =
         run_then n k m (inner_moments p n s vs m) (inner_moments p k s vs m) (perform_on p n s vs m) (perform_on p k s vs m)
-        (λ u. inner_row_moments p n ss vs) (λ u. inner_row_moments p k ss vs) (λ u. perform_row_on p n ss vs) (λ u. perform_row_on p k ss vs)
+        (λ u. inner_row_moments p n ss vs) (λ u. inner_row_moments p k ss vs) (λ u. perform_row_on p n ss vs)
+            (λ u. perform_row_on p k ss vs)
         (inner_run s vs m low) (λ u m i g. inner_row_run ss vs m g)
 
   pub inner_list_run : (ss : List Step) (vs : List ℕ) (m : State) → m.count ≤ n →
-      IsRun n k m (inner_list_moments p n ss vs m) (inner_list_moments p k ss vs m) (perform_list_on p n ss vs m) (perform_list_on p k ss vs m)
+      IsRun n k m (inner_list_moments p n ss vs m) (inner_list_moments p k ss vs m) (perform_list_on p n ss vs m)
+          (perform_list_on p k ss vs m)
   inner_list_run [] vs m low = run_none n k done m low
   inner_list_run (s ∷ ss) vs m low =
       run_then n k m (inner_moments p n s vs m) (inner_moments p k s vs m) (perform_on p n s vs m) (perform_on p k s vs m)

@@ -12,8 +12,8 @@ pub fn moments_lead_to_the_outcome()
     ensures { MomentsLeadToTheOutcome }
 {}
 
-/// A bound only cuts: a larger one adds statements behind those of a smaller one, and none behind an end or a fault. So a run ends or faults
-/// within a bound exactly where it has at most that many statements, and goes on within each smaller one.
+/// A bound only cuts: a larger one adds statements behind those of a smaller one, and none behind an end or a fault. So a run ends or
+/// faults within a bound exactly where it has at most that many statements, and goes on within each smaller one.
 #[tactic(auto, using(crate::proofs::Whole::bound_only_cuts, crate::proofs::Whole::final_moments_stay))]
 pub fn a_bound_only_cuts()
     // A larger bound adds statements behind those of a smaller one, and changes none.

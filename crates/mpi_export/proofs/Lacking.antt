@@ -1,5 +1,6 @@
 -- Bytes that words and numbers lack, and where a text can be cut.
-use Rattle.std.proofs.Common.{◌≡◌, ℕ, List, [], ◌∷◌, ◌++◌, refl, sym, ap, ◌∙◌, ◌+◌, ◌<◌, ◌^◌, ◌%◌, arith, true, false, inl, inr, lit<, subst}
+use Rattle.std.proofs.Common.{◌≡◌, ℕ, List, [], ◌∷◌, ◌++◌, refl, sym, ap, ◌∙◌, ◌+◌, ◌<◌, ◌^◌, ◌%◌, arith, true, false, inl, inr, lit<}
+use Rattle.std.proofs.Common.{subst}
 use Rattle.std.proofs.lemmas.Fmt.{decimal_by_steps, decimal_injective}
 use Rattle.std.specs.Prelude.{ℤ, pos, negsuc, ◌⊎◌, codes}
 use Rattle.std.specs.Fmt.{decimal}
@@ -8,8 +9,10 @@ use Rattle.pram_model.proofs.Truths.{both}
 use Rattle.superstep_instructions.specs.declared.instr.Arithmetic.{Arithmetic}
 use Rattle.superstep_instructions.specs.declared.instr.Arithmetic.TheVariants as arithmetic
 use Rattle.superstep_instructions.specs.declared.instr.Instr.{Instr}
-use Rattle.superstep_instructions.specs.declared.instr.Instr.TheVariants.{Mark, Set, Copy, Negate, Calculate, Decide, Not, CopyUniform, Index}
-use Rattle.superstep_instructions.specs.declared.instr.Instr.TheVariants.{Enter, Leave, Mask, Flip, Unmask, Ask, Put, Send, Reply, Vote, Print}
+use Rattle.superstep_instructions.specs.declared.instr.Instr.TheVariants.{Mark, Set, Copy, Negate, Calculate, Decide, Not, CopyUniform}
+use Rattle.superstep_instructions.specs.declared.instr.Instr.TheVariants.{Index}
+use Rattle.superstep_instructions.specs.declared.instr.Instr.TheVariants.{Enter, Leave, Mask, Flip, Unmask, Ask, Put, Send, Reply, Vote}
+use Rattle.superstep_instructions.specs.declared.instr.Instr.TheVariants.{Print}
 use Rattle.superstep_instructions.specs.declared.instr.Instr.TheVariants.{Jump, JumpIfZero, Halt}
 use Rattle.superstep_instructions.specs.declared.instr.Side.{Side}
 use Rattle.superstep_instructions.specs.declared.instr.Side.TheVariants.{Uniform, Private}

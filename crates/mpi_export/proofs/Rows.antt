@@ -26,7 +26,8 @@ pub complemented : (z : ℤ) → SFits w64 z → lt_z (to_z w64 (of_z w64 z)) (p
 complemented (pos n) fits below =
     let h = subst (λ x. lt_z x (pos 0) ≡ true) (to_z-of_z fits) below in
     absurd (grind (arith, h))
-complemented (negsuc zero) fits below = ap (λ x. 126 ∷ signed_decimal x) (sym (complement_of (negsuc zero) fits (search rules) (search rules)))
+complemented (negsuc zero) fits below = ap (λ x. 126 ∷ signed_decimal x)
+    (sym (complement_of (negsuc zero) fits (search rules) (search rules)))
 complemented (negsuc (suc n)) fits below =
     let less : pos (suc n) ≡ pos 0 -ℤ (negsuc (suc n) +ℤ pos 1) = grind (arith, common_steps) in
     ap (λ x. 126 ∷ signed_decimal x) (less ∙ sym (complement_of (negsuc (suc n)) fits (grind (arith, fits)) (grind (arith, fits))))

@@ -12,7 +12,8 @@ IsPlain b = (b ≡ 34 → ⊥) × (b ≡ 92 → ⊥) × (b ≡ 10 → ⊥)
 
 -- No name of a declaration has a byte that means something in a string literal of C, so it stands there as it is.
 abbrev pub NamesStandInLiterals : Type 0
-NamesStandInLiterals = (code : SuperstepCode) → IsCode code → AllByRecursion (λ (e : SharedEntry). AllByRecursion IsPlain e.name) code.layout
+NamesStandInLiterals = (code : SuperstepCode) → IsCode code → AllByRecursion (λ (e : SharedEntry). AllByRecursion IsPlain e.name)
+    code.layout
 
 -- A text is that of one code: who reads the plan in it knows each word of the code.
 abbrev pub TextsTellCodes : Type 0

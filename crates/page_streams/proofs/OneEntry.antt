@@ -1,5 +1,6 @@
 -- One entry that passes: its changes, and its line.
-use Rattle.std.proofs.Common.{◌≡◌, ◌<◌, ◌≤◌, ◌∙◌, ◌+◌, ◌-◌, ◌&&◌, ℕ, suc, Bool, true, false, List, [], ◌∷◌, ◌++◌, ap, append-nil, arith, if◌then◌else◌, nat_le, refl, subst, sym, take}
+use Rattle.std.proofs.Common.{◌≡◌, ◌<◌, ◌≤◌, ◌∙◌, ◌+◌, ◌-◌, ◌&&◌, ℕ, suc, Bool, true, false, List, [], ◌∷◌, ◌++◌, ap, append-nil, arith}
+use Rattle.std.proofs.Common.{if◌then◌else◌, nat_le, refl, subst, sym, take}
 use Rattle.std.proofs.lemmas.Bool.{le-leb, lt-leb}
 use Rattle.std.proofs.lemmas.List.{take_all}
 use Rattle.std.specs.List.{fold}
@@ -53,7 +54,8 @@ state_passed last count number s e n past = record {
 
 -- ---- its line
 
-pub line_pushed : (k l : KeptLines) (bytes line : List ℕ) → bytes ≡ line → ((before : List ℕ) → Holds k before → Holds l (before ++ bytes)) →
+pub line_pushed : (k l : KeptLines) (bytes line : List ℕ) → bytes ≡ line → ((before : List ℕ) → Holds k before → Holds l
+    (before ++ bytes)) →
     (before : List ℕ) → Holds k before → Holds l (before ++ line)
 line_pushed k l bytes line same holds before h = subst (λ b. Holds l (before ++ b)) same (holds before h)
 

@@ -1,5 +1,6 @@
 -- What was gathered of a whole run, and its facts.
-use Rattle.std.proofs.Common.{◌≡◌, ◌∙◌, ◌<◌, ◌≤◌, ◌+◌, ◌-◌, ℕ, ℤ, Bool, true, false, List, [], ◌∷◌, ◌++◌, Option, ap, append_assoc, arith, length, min, nat_lt, refl, subst, sym, take}
+use Rattle.std.proofs.Common.{◌≡◌, ◌∙◌, ◌<◌, ◌≤◌, ◌+◌, ◌-◌, ℕ, ℤ, Bool, true, false, List, [], ◌∷◌, ◌++◌, Option, ap, append_assoc, arith}
+use Rattle.std.proofs.Common.{length, min, nat_lt, refl, subst, sym, take}
 use Rattle.std.specs.List.{fold}
 use Rattle.serde_json.specs.Data.{Data}
 use Rattle.json_lines.specs.Lines.{IsJson}
@@ -76,7 +77,8 @@ both_said ds es a b x y =
     adds_then ds es [] a (a ++ b) x (record { whole = ap (λ l. a ++ l) y.whole; read_back = y.read_back })
 
 -- the statements and the outcome
-tells_so : (source : List ℕ) (program : Checked) (v : Verdict) (a : Asked) (layout : List SharedEntry) (es : List Entry) (text end : List ℕ) →
+tells_so : (source : List ℕ) (program : Checked) (v : Verdict) (a : Asked) (layout : List SharedEntry) (es : List Entry)
+    (text end : List ℕ) →
     a.layout.now ≡ program.layout → a.tree.now ≡ program.tree → a.source.now ≡ source → layout ≡ program.layout →
     IsJson (steps_from a.layout.now a.tree.now a.source.now a.first a.last 1 es) text → IsJson (outcome_facts layout v ∷ []) end →
     IsJson (steps_facts program.layout program.tree source v es a.first a.last) (text ++ end)
@@ -111,7 +113,8 @@ module _ (file text : List ℕ) (program : Checked) (input : List ℤ) (outcome 
           before = before;
           stands = stands_so (nat_lt 1 a.first) input es a.first g.state before h.before stands;
           lines = told ++ end;
-          tells = tells_so text program (verdict_of outcome) a layout es told end same_layout same_tree same_source layout_is h.lines.json ends;
+          tells = tells_so text program (verdict_of outcome) a layout es told end same_layout same_tree same_source layout_is
+              h.lines.json ends;
           joined = ap (λ l. (l ++ told) ++ end) joined ∙ append_assoc (opening ++ before) told end;
         };
         holds = pushed (head ++ told) (behind told h.lines.holds);

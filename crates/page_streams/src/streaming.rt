@@ -41,7 +41,8 @@ fn make_page<V: Watch>(
     watch: &mut V,
 ) -> Result<(Outcome, Page), AllocError>
     ensures outcome { IfOk result (λ r. IsOutcome program.now input.now bound (verdict_of r.0)) }
-    ensures page { IfOk result (λ r. IsPaged file.now text.now program.now input.now r.0 (run_entries program.now input.now bound) first last
+    ensures page { IfOk result (λ r. IsPaged file.now text.now program.now input.now r.0 (run_entries program.now input.now bound)
+        first last
         r.1) }
 {
     let asked = Asked {

@@ -4,7 +4,8 @@ use Rattle.superstep_instructions.specs.declared.instr.Side.TheVariants.{Uniform
 use Rattle.superstep_instructions.specs.declared.instr.Arithmetic.TheVariants as arithmetic
 use Rattle.superstep_instructions.specs.declared.instr.Truth.TheVariants as truth
 use Rattle.superstep_instructions.specs.declared.instr.Instr.{Instr}
-use Rattle.superstep_instructions.specs.declared.instr.Instr.TheVariants.{Copy, Calculate, Decide, Index, Enter, Leave, Print, Jump, JumpIfZero}
+use Rattle.superstep_instructions.specs.declared.instr.Instr.TheVariants.{Copy, Calculate, Decide, Index, Enter, Leave, Print, Jump}
+use Rattle.superstep_instructions.specs.declared.instr.Instr.TheVariants.{JumpIfZero}
 use Rattle.superstep_instructions.specs.declared.instr.Instr.TheVariants.{Halt}
 use Rattle.pram_names.specs.declared.body.Expression.{Expression}
 use Rattle.pram_names.specs.declared.body.Target.{Target}

@@ -40,9 +40,9 @@ pub data StepAction : Type 0 where
   TurnsOn : Expression → StepAction
   ChoosesOn : Expression → StepAction
 
--- A statement of the one processor outside pardo: where it stands, what it does, the state before it, in which it counts, the attempt with the
--- cell that it writes, and the state behind it. Or one of a set: the parts of its members, its least fault, if there is one, and the state
--- behind it. Or the end of a branch of an `if`, or of a turn of a `for`. Behind a fault the state is the one before it.
+-- A statement of the one processor outside pardo: where it stands, what it does, the state before it, in which it counts, the attempt with
+-- the cell that it writes, and the state behind it. Or one of a set: the parts of its members, its least fault, if there is one, and the
+-- state behind it. Or the end of a branch of an `if`, or of a turn of a `for`. Behind a fault the state is the one before it.
 pub data Moment : Type 0 where
   Alone : (here : Location) → Action → (before : State) → Attempt (Option ℕ) → (behind : State) → Moment
   Together : (here : Location) → StepAction → (before : State) → List Part → Option Key → (behind : State) → Moment

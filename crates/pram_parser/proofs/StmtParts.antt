@@ -19,7 +19,8 @@ use Rattle.pram_trees.specs.Blocks.{if_then, if_else, for_to, pardo, AreStatemen
 use Rattle.pram_trees.specs.Machine.{begins_statement, verdict, opened_verdict, statement_verdict}
 use Rattle.pram_trees.specs.Symbols.{Stack, Operand, Want, Statements, AfterName, assignment, begins_with, Else, ForHead, WantAtMost}
 use Rattle.pram_trees.specs.Symbols.{turns, range, enter, Locals, WantName}
-use Rattle.pram_trees.specs.Follows.{Found, FoundThen, FoundBlock, FoundBody, FoundStatement, FoundTurns, FoundBounds, FoundLow, FoundHigh, IsRange}
+use Rattle.pram_trees.specs.Follows.{Found, FoundThen, FoundBlock, FoundBody, FoundStatement, FoundTurns, FoundBounds, FoundLow, FoundHigh}
+use Rattle.pram_trees.specs.Follows.{IsRange}
 use Rattle.pram_trees.proofs.StmtTokens.{spell_assign, spell_assign_element, spell_print, spell_while, spell_if_then, spell_if_else}
 use Rattle.pram_trees.proofs.StmtTokens.{spell_for, spell_pardo}
 

@@ -1,5 +1,6 @@
 -- A run of packed code is a run of the code.
-use Rattle.std.proofs.Common.{◌≡◌, ℕ, ◌+◌, ◌*◌, ◌<◌, ◌≤◌, List, length, ℤ, subst, sym, refl, ap, ◌∙◌, Result, Ok, Err, Option, Some, None, inl, inr, ⊎_elim}
+use Rattle.std.proofs.Common.{◌≡◌, ℕ, ◌+◌, ◌*◌, ◌<◌, ◌≤◌, List, length, ℤ, subst, sym, refl, ap, ◌∙◌, Result, Ok, Err, Option, Some, None}
+use Rattle.std.proofs.Common.{inl, inr, ⊎_elim}
 use Rattle.std.specs.Prelude.{IfOk, IfErr}
 use Rattle.std.proofs.lemmas.List.{length-map}
 use Rattle.pram_model.specs.Layout.{SharedEntry, total_size}
@@ -24,7 +25,8 @@ use Rattle.program_runs.specs.Reserved.{IsCodeRunWith, IsCodePast, IsCodeRefused
 abbrev most_by : ℕ → ℕ → ℕ
 most_by bound n = bound * (n + 1) + n
 
-module _ (code packed : SuperstepCode) (is : IsPacked code packed) (alike : RunsAlike code packed) (input : List ℤ) (options : Options) where
+module _ (code packed : SuperstepCode) (is : IsPacked code packed) (alike : RunsAlike code packed) (input : List ℤ)
+    (options : Options) where
   layout : packed.layout ≡ code.layout
   layout = ap (λ (c : SuperstepCode). c.layout) is.is
 

@@ -31,8 +31,10 @@ use Rattle.workers.specs.Past.{IsRefusalWith, StaysWithin}
 use Rattle.program_texts.specs.declared.from_text.Refusal.{Refusal}
 use Rattle.program_texts.specs.declared.from_text.Refusal.TheVariants as refusals
 use Rattle.run_options.specs.declared.reserve.Reserve.{Reserve}
-use Rattle.program_runs.specs.Runs.{AreLaidOut, IsChoice, IsCodeRun, IsCodeRefused, IsMapOf, IsNoMap, IsProgramRefused, IsProgramRun, IsRunRefused}
-use Rattle.program_runs.specs.Reserved.{IsCodeRunKept, IsCodeRunWith, IsProgramRunWith, IsRunByWorkersWith, IsCodeRefusedWith, IsProgramRefusedWith}
+use Rattle.program_runs.specs.Runs.{AreLaidOut, IsChoice, IsCodeRun, IsCodeRefused, IsMapOf, IsNoMap, IsProgramRefused, IsProgramRun}
+use Rattle.program_runs.specs.Runs.{IsRunRefused}
+use Rattle.program_runs.specs.Reserved.{IsCodeRunKept, IsCodeRunWith, IsProgramRunWith, IsRunByWorkersWith, IsCodeRefusedWith}
+use Rattle.program_runs.specs.Reserved.{IsProgramRefusedWith}
 use Rattle.program_runs.specs.Reserved.{IsRunRefusedWith}
 
 -- the map of a choice has so many places

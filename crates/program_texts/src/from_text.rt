@@ -2,7 +2,8 @@
 
 ghost use Rattle.std.specs.Prelude.{◌≡◌, ℕ, List, IfErr, IfOk};
 ghost use Rattle.write_rules.specs.Verdict.{verdict_of};
-ghost use Rattle.program_texts.specs.Report.{IsMeaningOf, IsMeaningRefused, IsNoProgram, IsProgramOf, IsRefusedRightly, IsRunOf, refusal_of, refusal_of_meaning};
+ghost use Rattle.program_texts.specs.Report.{IsMeaningOf, IsMeaningRefused, IsNoProgram, IsProgramOf, IsRefusedRightly, IsRunOf};
+ghost use Rattle.program_texts.specs.Report.{refusal_of, refusal_of_meaning};
 ghost use Rattle.program_texts.specs.declared.from_text.Refusal.TheVariants.{OutOfMemory};
 
 use pram_check::{Breach, CheckFault, Program, check};

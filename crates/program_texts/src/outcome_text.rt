@@ -55,7 +55,8 @@ fn show_fault<W: Out>(
 }
 
 fn show_front<W: Out>(output: &[i64], out: &mut W) -> Result<(), WriteFault>
-    ensures written { Writes (W.Out.state out.old) (W.Out.state out.new) (shown.item_lines output.now ++ shown.line (codes "goes on")) result }
+    ensures written { Writes (W.Out.state out.old) (W.Out.state out.new)
+        (shown.item_lines output.now ++ shown.line (codes "goes on")) result }
 {
     write_items(out, output)?;
     out.write_all(b"goes on\n")

@@ -1,5 +1,6 @@
 -- No line of a message ends within.
-use Rattle.std.proofs.Common.{◌≡◌, ◌∙◌, ◌+◌, ◌/◌, ◌%◌, ◌==◌, ◌<◌, ◌++◌, ◌∷◌, [], true, false, Bool, List, ℕ, zero, suc, ap, arith, cond, length, refl, sym}
+use Rattle.std.proofs.Common.{◌≡◌, ◌∙◌, ◌+◌, ◌/◌, ◌%◌, ◌==◌, ◌<◌, ◌++◌, ◌∷◌, [], true, false, Bool, List, ℕ, zero, suc, ap, arith, cond}
+use Rattle.std.proofs.Common.{length, refl, sym}
 use Rattle.std.proofs.Common.{Option, Some, None, append_assoc, eqb-true}
 use Rattle.std.specs.List.{AllByRecursion}
 use Rattle.std.specs.Prelude.{codes, decimal}
@@ -14,8 +15,10 @@ use Rattle.refusal_messages.specs.declared.message.Other.{Other}
 use Rattle.refusal_messages.specs.declared.message.Point.{Point}
 use Rattle.refusal_messages.specs.declared.message.Point.TheVariants.{Byte, Line}
 use Rattle.refusal_messages.specs.Messages.{Message}
-use Rattle.refusal_messages.specs.GnuLines.{AreLines, IsOneLine, bracketed, coded, count_if, count_other, ended, error, error_line, error_text, file}
-use Rattle.refusal_messages.specs.GnuLines.{gnu_lines, gnu_text, line_ends, more_text, note, note_line, number, one_if, other_lines, other_note, other_place}
+use Rattle.refusal_messages.specs.GnuLines.{AreLines, IsOneLine, bracketed, coded, count_if, count_other, ended, error, error_line}
+use Rattle.refusal_messages.specs.GnuLines.{error_text, file}
+use Rattle.refusal_messages.specs.GnuLines.{gnu_lines, gnu_text, line_ends, more_text, note, note_line, number, one_if, other_lines}
+use Rattle.refusal_messages.specs.GnuLines.{other_note, other_place}
 use Rattle.refusal_messages.specs.GnuLines.{other_text, place, point, spaced, things, with_code}
 
 ends_step : (c : Bool) (a b n : ℕ) → a ≡ n + b → cond c (1 + a) a ≡ cond c (1 + n) n + b
@@ -161,14 +164,16 @@ mores : (name bytes : List ℕ) (p : Option Point) (more : List ℕ) →
 mores name bytes p [] = no_lines
 mores name bytes p (b ∷ rest) = one_line (note_line name bytes p (b ∷ rest)) (noted name bytes p (b ∷ rest))
 
-others : (name bytes : List ℕ) (other : Option Other) → AreLines (other_text name bytes other) (other_lines name bytes other) (count_other other)
+others : (name bytes : List ℕ) (other : Option Other) → AreLines (other_text name bytes other) (other_lines name bytes other)
+    (count_other other)
 others name bytes None = no_lines
 others name bytes (Some other) =
     let p = Some (other_place other) in
     let s = other_note other in
     one_line (note_line name bytes p s) (noted name bytes p s)
 
-pub message_lines : (name bytes code : List ℕ) (m : Message) → AreLines (gnu_text name bytes m code) (gnu_lines name bytes m code) (things m)
+pub message_lines : (name bytes code : List ℕ) (m : Message) → AreLines (gnu_text name bytes m code) (gnu_lines name bytes m code)
+    (things m)
 message_lines name bytes code m =
     joined (error_text name bytes m.place m.sentence code) (more_text name bytes m.place m.more ++ other_text name bytes m.other)
     (one_if m.sentence (error_line name bytes m.place m.sentence code))

@@ -244,9 +244,9 @@ fn write_notes<W: Out>(
     write_other(out, name, bytes, message.other)
 }
 
-/// Writes a message about a text of that name in lines that editors read: `sum.pram:4:7: error: SENTENCE [E6]` with the code of the refusal,
-/// and a note for the second sentence and for the second place. A line stands without a column, and without a place the file alone. Nothing
-/// in it steers a terminal. The error is that the writer failed (E17).
+/// Writes a message about a text of that name in lines that editors read: `sum.pram:4:7: error: SENTENCE [E6]` with the code of the
+/// refusal, and a note for the second sentence and for the second place. A line stands without a column, and without a place the file
+/// alone. Nothing in it steers a terminal. The error is that the writer failed (E17).
 pub fn write_gnu<W: Out>(
     out: &mut W,
     name: &[u8],

@@ -4,7 +4,8 @@ ghost use Rattle.std.specs.Prelude.{ℕ, List};
 ghost use Rattle.refusal_messages.specs.Messages.{Message as MessageOf};
 ghost use Rattle.refusal_messages.specs.GnuLines.{AreLines, gnu_lines, gnu_text, things};
 
-/// What editors read of a message is a line for each thing that it says, and none of these lines ends within, whatever the name of the file.
+/// What editors read of a message is a line for each thing that it says, and none of these lines ends within, whatever the name of the
+/// file.
 pub fn a_message_is_lines()
     // A message is one line for each thing that it says, and none of them ends within, whatever the name of the file
     // and the text.

@@ -1,5 +1,6 @@
 -- Packed code is well formed again.
-use Rattle.std.proofs.Common.{◌≡◌, ℕ, ◌+◌, ◌<◌, inl, inr, length, Bool, true, not, ◌&&◌, ◌||◌, Option, Some, None, refl, sym, ap, ◌∙◌, arith}
+use Rattle.std.proofs.Common.{◌≡◌, ℕ, ◌+◌, ◌<◌, inl, inr, length, Bool, true, not, ◌&&◌, ◌||◌, Option, Some, None, refl, sym, ap, ◌∙◌}
+use Rattle.std.proofs.Common.{arith}
 use Rattle.std.specs.Prelude.{slice_get, option_map, nat_lt}
 use Rattle.std.proofs.lemmas.Bool.{lt-ltb}
 use Rattle.std.proofs.lemmas.List.{length-map}
@@ -7,14 +8,17 @@ use Rattle.std.proofs.lemmas.Option.{slice_get-map}
 use Rattle.superstep_instructions.specs.declared.instr.Side.{Side}
 use Rattle.superstep_instructions.specs.declared.instr.Side.TheVariants.{Uniform, Private}
 use Rattle.superstep_instructions.specs.declared.instr.Instr.{Instr}
-use Rattle.superstep_instructions.specs.declared.instr.Instr.TheVariants.{Mark, Set, Copy, Negate, Calculate, Decide, Not, CopyUniform, Index}
-use Rattle.superstep_instructions.specs.declared.instr.Instr.TheVariants.{Enter, Leave, Mask, Flip, Unmask, Ask, Put, Send, Reply, Vote, Print}
+use Rattle.superstep_instructions.specs.declared.instr.Instr.TheVariants.{Mark, Set, Copy, Negate, Calculate, Decide, Not, CopyUniform}
+use Rattle.superstep_instructions.specs.declared.instr.Instr.TheVariants.{Index}
+use Rattle.superstep_instructions.specs.declared.instr.Instr.TheVariants.{Enter, Leave, Mask, Flip, Unmask, Ask, Put, Send, Reply, Vote}
+use Rattle.superstep_instructions.specs.declared.instr.Instr.TheVariants.{Print}
 use Rattle.superstep_instructions.specs.declared.instr.Instr.TheVariants.{Jump, JumpIfZero, Halt}
 use Rattle.superstep_instructions.specs.Code.{SuperstepCode}
 use Rattle.bsp_verify.specs.declared.state.State.{State}
 use Rattle.bsp_verify.specs.States.{after}
 use Rattle.bsp_verify.specs.Control.{Leads, goes_on, IsLed}
-use Rattle.bsp_verify.specs.Judging.{registers_of, is_register, has_registers, has_entry, is_mark, is_target, has_target, fits_mode, fits_masks}
+use Rattle.bsp_verify.specs.Judging.{registers_of, is_register, has_registers, has_entry, is_mark, is_target, has_target, fits_mode}
+use Rattle.bsp_verify.specs.Judging.{fits_masks}
 use Rattle.bsp_verify.specs.Judging.{fits_exchange}
 use Rattle.bsp_verify.specs.WellFormed.{IsMet, IsWellFormed}
 use Rattle.renaming.specs.Renamed.{renamed, with_names}
@@ -33,29 +37,52 @@ record Judged (i j : Instr) : Type 0 where
   pub led : (k v : ℕ) → Leads i k v → Leads j k v
 
 judged : (p : ℕ → ℕ) (i : Instr) → Judged i (renamed p i)
-judged p (Mark line) = record { entry = λ c. refl; mode = λ z. refl; masks = λ z. refl; exchange = λ z. refl; goes = refl; after = λ z. refl; mark = refl; leads = λ k v h. h; led = λ k v h. h }
-judged p (Set s d n) = record { entry = λ c. refl; mode = λ z. refl; masks = λ z. refl; exchange = λ z. refl; goes = refl; after = λ z. refl; mark = refl; leads = λ k v h. h; led = λ k v h. h }
-judged p (Copy s d x) = record { entry = λ c. refl; mode = λ z. refl; masks = λ z. refl; exchange = λ z. refl; goes = refl; after = λ z. refl; mark = refl; leads = λ k v h. h; led = λ k v h. h }
-judged p (Negate s d x q) = record { entry = λ c. refl; mode = λ z. refl; masks = λ z. refl; exchange = λ z. refl; goes = refl; after = λ z. refl; mark = refl; leads = λ k v h. h; led = λ k v h. h }
-judged p (Calculate s o d a b q) = record { entry = λ c. refl; mode = λ z. refl; masks = λ z. refl; exchange = λ z. refl; goes = refl; after = λ z. refl; mark = refl; leads = λ k v h. h; led = λ k v h. h }
-judged p (Decide s o d a b) = record { entry = λ c. refl; mode = λ z. refl; masks = λ z. refl; exchange = λ z. refl; goes = refl; after = λ z. refl; mark = refl; leads = λ k v h. h; led = λ k v h. h }
-judged p (Not s d x) = record { entry = λ c. refl; mode = λ z. refl; masks = λ z. refl; exchange = λ z. refl; goes = refl; after = λ z. refl; mark = refl; leads = λ k v h. h; led = λ k v h. h }
-judged p (CopyUniform d s) = record { entry = λ c. refl; mode = λ z. refl; masks = λ z. refl; exchange = λ z. refl; goes = refl; after = λ z. refl; mark = refl; leads = λ k v h. h; led = λ k v h. h }
-judged p (Index d) = record { entry = λ c. refl; mode = λ z. refl; masks = λ z. refl; exchange = λ z. refl; goes = refl; after = λ z. refl; mark = refl; leads = λ k v h. h; led = λ k v h. h }
-judged p (Enter a b q) = record { entry = λ c. refl; mode = λ z. refl; masks = λ z. refl; exchange = λ z. refl; goes = refl; after = λ z. refl; mark = refl; leads = λ k v h. h; led = λ k v h. h }
-judged p Leave = record { entry = λ c. refl; mode = λ z. refl; masks = λ z. refl; exchange = λ z. refl; goes = refl; after = λ z. refl; mark = refl; leads = λ k v h. h; led = λ k v h. h }
-judged p (Mask s) = record { entry = λ c. refl; mode = λ z. refl; masks = λ z. refl; exchange = λ z. refl; goes = refl; after = λ z. refl; mark = refl; leads = λ k v h. h; led = λ k v h. h }
-judged p Flip = record { entry = λ c. refl; mode = λ z. refl; masks = λ z. refl; exchange = λ z. refl; goes = refl; after = λ z. refl; mark = refl; leads = λ k v h. h; led = λ k v h. h }
-judged p Unmask = record { entry = λ c. refl; mode = λ z. refl; masks = λ z. refl; exchange = λ z. refl; goes = refl; after = λ z. refl; mark = refl; leads = λ k v h. h; led = λ k v h. h }
-judged p (Ask s d c x q) = record { entry = λ c. refl; mode = λ z. refl; masks = λ z. refl; exchange = λ z. refl; goes = refl; after = λ z. refl; mark = refl; leads = λ k v h. h; led = λ k v h. h }
-judged p (Put s c x v q) = record { entry = λ c. refl; mode = λ z. refl; masks = λ z. refl; exchange = λ z. refl; goes = refl; after = λ z. refl; mark = refl; leads = λ k v h. h; led = λ k v h. h }
-judged p Send = record { entry = λ c. refl; mode = λ z. refl; masks = λ z. refl; exchange = λ z. refl; goes = refl; after = λ z. refl; mark = refl; leads = λ k v h. h; led = λ k v h. h }
-judged p Reply = record { entry = λ c. refl; mode = λ z. refl; masks = λ z. refl; exchange = λ z. refl; goes = refl; after = λ z. refl; mark = refl; leads = λ k v h. h; led = λ k v h. h }
-judged p (Vote d) = record { entry = λ c. refl; mode = λ z. refl; masks = λ z. refl; exchange = λ z. refl; goes = refl; after = λ z. refl; mark = refl; leads = λ k v h. h; led = λ k v h. h }
-judged p (Print s) = record { entry = λ c. refl; mode = λ z. refl; masks = λ z. refl; exchange = λ z. refl; goes = refl; after = λ z. refl; mark = refl; leads = λ k v h. h; led = λ k v h. h }
-judged p (Jump t) = record { entry = λ c. refl; mode = λ z. refl; masks = λ z. refl; exchange = λ z. refl; goes = refl; after = λ z. refl; mark = refl; leads = λ k v h. h; led = λ k v h. h }
-judged p (JumpIfZero s t) = record { entry = λ c. refl; mode = λ z. refl; masks = λ z. refl; exchange = λ z. refl; goes = refl; after = λ z. refl; mark = refl; leads = λ k v h. h; led = λ k v h. h }
-judged p Halt = record { entry = λ c. refl; mode = λ z. refl; masks = λ z. refl; exchange = λ z. refl; goes = refl; after = λ z. refl; mark = refl; leads = λ k v h. h; led = λ k v h. h }
+judged p (Mark line) = record { entry = λ c. refl; mode = λ z. refl; masks = λ z. refl; exchange = λ z. refl; goes = refl; after = λ z.
+    refl; mark = refl; leads = λ k v h. h; led = λ k v h. h }
+judged p (Set s d n) = record { entry = λ c. refl; mode = λ z. refl; masks = λ z. refl; exchange = λ z. refl; goes = refl; after = λ z.
+    refl; mark = refl; leads = λ k v h. h; led = λ k v h. h }
+judged p (Copy s d x) = record { entry = λ c. refl; mode = λ z. refl; masks = λ z. refl; exchange = λ z. refl; goes = refl; after = λ z.
+    refl; mark = refl; leads = λ k v h. h; led = λ k v h. h }
+judged p (Negate s d x q) = record { entry = λ c. refl; mode = λ z. refl; masks = λ z. refl; exchange = λ z. refl; goes = refl; after = λ z.
+    refl; mark = refl; leads = λ k v h. h; led = λ k v h. h }
+judged p (Calculate s o d a b q) = record { entry = λ c. refl; mode = λ z. refl; masks = λ z. refl; exchange = λ z. refl; goes = refl;
+    after = λ z. refl; mark = refl; leads = λ k v h. h; led = λ k v h. h }
+judged p (Decide s o d a b) = record { entry = λ c. refl; mode = λ z. refl; masks = λ z. refl; exchange = λ z. refl; goes = refl; after =
+    λ z. refl; mark = refl; leads = λ k v h. h; led = λ k v h. h }
+judged p (Not s d x) = record { entry = λ c. refl; mode = λ z. refl; masks = λ z. refl; exchange = λ z. refl; goes = refl; after = λ z.
+    refl; mark = refl; leads = λ k v h. h; led = λ k v h. h }
+judged p (CopyUniform d s) = record { entry = λ c. refl; mode = λ z. refl; masks = λ z. refl; exchange = λ z. refl; goes = refl; after =
+    λ z. refl; mark = refl; leads = λ k v h. h; led = λ k v h. h }
+judged p (Index d) = record { entry = λ c. refl; mode = λ z. refl; masks = λ z. refl; exchange = λ z. refl; goes = refl; after = λ z. refl;
+    mark = refl; leads = λ k v h. h; led = λ k v h. h }
+judged p (Enter a b q) = record { entry = λ c. refl; mode = λ z. refl; masks = λ z. refl; exchange = λ z. refl; goes = refl; after = λ z.
+    refl; mark = refl; leads = λ k v h. h; led = λ k v h. h }
+judged p Leave = record { entry = λ c. refl; mode = λ z. refl; masks = λ z. refl; exchange = λ z. refl; goes = refl; after = λ z. refl;
+    mark = refl; leads = λ k v h. h; led = λ k v h. h }
+judged p (Mask s) = record { entry = λ c. refl; mode = λ z. refl; masks = λ z. refl; exchange = λ z. refl; goes = refl; after = λ z. refl;
+    mark = refl; leads = λ k v h. h; led = λ k v h. h }
+judged p Flip = record { entry = λ c. refl; mode = λ z. refl; masks = λ z. refl; exchange = λ z. refl; goes = refl; after = λ z. refl;
+    mark = refl; leads = λ k v h. h; led = λ k v h. h }
+judged p Unmask = record { entry = λ c. refl; mode = λ z. refl; masks = λ z. refl; exchange = λ z. refl; goes = refl; after = λ z. refl;
+    mark = refl; leads = λ k v h. h; led = λ k v h. h }
+judged p (Ask s d c x q) = record { entry = λ c. refl; mode = λ z. refl; masks = λ z. refl; exchange = λ z. refl; goes = refl; after = λ z.
+    refl; mark = refl; leads = λ k v h. h; led = λ k v h. h }
+judged p (Put s c x v q) = record { entry = λ c. refl; mode = λ z. refl; masks = λ z. refl; exchange = λ z. refl; goes = refl; after = λ z.
+    refl; mark = refl; leads = λ k v h. h; led = λ k v h. h }
+judged p Send = record { entry = λ c. refl; mode = λ z. refl; masks = λ z. refl; exchange = λ z. refl; goes = refl; after = λ z. refl;
+    mark = refl; leads = λ k v h. h; led = λ k v h. h }
+judged p Reply = record { entry = λ c. refl; mode = λ z. refl; masks = λ z. refl; exchange = λ z. refl; goes = refl; after = λ z. refl;
+    mark = refl; leads = λ k v h. h; led = λ k v h. h }
+judged p (Vote d) = record { entry = λ c. refl; mode = λ z. refl; masks = λ z. refl; exchange = λ z. refl; goes = refl; after = λ z. refl;
+    mark = refl; leads = λ k v h. h; led = λ k v h. h }
+judged p (Print s) = record { entry = λ c. refl; mode = λ z. refl; masks = λ z. refl; exchange = λ z. refl; goes = refl; after = λ z. refl;
+    mark = refl; leads = λ k v h. h; led = λ k v h. h }
+judged p (Jump t) = record { entry = λ c. refl; mode = λ z. refl; masks = λ z. refl; exchange = λ z. refl; goes = refl; after = λ z. refl;
+    mark = refl; leads = λ k v h. h; led = λ k v h. h }
+judged p (JumpIfZero s t) = record { entry = λ c. refl; mode = λ z. refl; masks = λ z. refl; exchange = λ z. refl; goes = refl; after = λ z.
+    refl; mark = refl; leads = λ k v h. h; led = λ k v h. h }
+judged p Halt = record { entry = λ c. refl; mode = λ z. refl; masks = λ z. refl; exchange = λ z. refl; goes = refl; after = λ z. refl;
+    mark = refl; leads = λ k v h. h; led = λ k v h. h }
 
 mark_moved : (p : ℕ → ℕ) (o : Option Instr) → is_mark (option_map (renamed p) o) ≡ is_mark o
 mark_moved p None = refl

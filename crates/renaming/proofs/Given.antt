@@ -1,5 +1,6 @@
 -- A register that was given the next number.
-use Rattle.std.proofs.Common.{◌≡◌, ℕ, zero, suc, ◌+◌, ◌<◌, ◌≤◌, ◌^◌, ◌⊎◌, inl, inr, ⊎_elim, List, [], ◌∷◌, ◌++◌, length, length-set, set, get_or, refl, sym, ap, ◌∙◌, subst, arith}
+use Rattle.std.proofs.Common.{◌≡◌, ℕ, zero, suc, ◌+◌, ◌<◌, ◌≤◌, ◌^◌, ◌⊎◌, inl, inr, ⊎_elim, List, [], ◌∷◌, ◌++◌, length, length-set, set}
+use Rattle.std.proofs.Common.{get_or, refl, sym, ap, ◌∙◌, subst, arith}
 use Rattle.std.specs.List.{range_with_len}
 use Rattle.std.proofs.lemmas.List.{get_or_read}
 use Rattle.renaming.specs.declared.numbers.Numbers.{Numbers}
@@ -65,7 +66,8 @@ module _ (x y : Numbers) (register : ℕ) (are : AreNumbers x) (there : register
   module _ (e : y.numbers.items ≡ numbers_then) (f : y.registers.items ≡ registers_then) (more : y.given ≡ x.given + 1) where
     one : IsOneToOne (number_of y) (register_of y)
     one = subst (λ (ns : List ℕ × List ℕ). IsOneToOne (λ r. get_or ns.0 r r) (λ n. get_or ns.1 n n)) (λ i. (sym e i, sym f i))
-        (one_again x.numbers.items x.registers.items (2 ^ 16) register x.given are.numbers are.registers are.one there room old_there other_there)
+        (one_again x.numbers.items x.registers.items (2 ^ 16) register x.given are.numbers are.registers are.one there room old_there
+            other_there)
 
     numbers : AreNumbers y
     numbers = record {
@@ -81,7 +83,8 @@ module _ (x y : Numbers) (register : ℕ) (are : AreNumbers x) (there : register
 
     new_number : number_of y register ≡ x.given
     new_number = ap (λ (ns : List ℕ). get_or ns register register) e
-        ∙ number_new x.numbers.items x.registers.items (2 ^ 16) register x.given are.numbers are.registers are.one there room old_there other_there
+        ∙ number_new x.numbers.items x.registers.items (2 ^ 16) register x.given are.numbers are.registers are.one there room old_there
+            other_there
 
     others : (n : ℕ) → n < y.given → ((n < x.given) × (register_of y n ≡ register_of x n)) ⊎ (register_of y n ≡ register)
     others n l = ⊎_elim
@@ -91,7 +94,8 @@ module _ (x y : Numbers) (register : ℕ) (are : AreNumbers x) (there : register
         (λ (not : n ≡ x.given → ⊥). inl (
           below not,
           ap (λ (ns : List ℕ). get_or ns n n) f
-              ∙ holder_else x.numbers.items x.registers.items (2 ^ 16) register x.given are.numbers are.registers are.one there room old_there
+              ∙ holder_else x.numbers.items x.registers.items (2 ^ 16) register x.given are.numbers are.registers are.one there
+                  room old_there
               other_there n not (λ (same : n ≡ number_of x register). let b = below not in omega (arith, same, high, b)),
         ))
         (same_or_not n x.given)
@@ -117,7 +121,8 @@ module _ (x y : Numbers) (register : ℕ) (are : AreNumbers x) (there : register
     }
 
 -- as it is read and written
-pub given_anew : (x y : Numbers) (register old other : ℕ) → AreNumbers x → register < 2 ^ 16 → old < 2 ^ 16 → other < 2 ^ 16 → x.given ≤ old →
+pub given_anew : (x y : Numbers) (register old other : ℕ) → AreNumbers x → register < 2 ^ 16 → old < 2 ^ 16 → other < 2 ^ 16 →
+    x.given ≤ old →
     old ≡ get_or x.numbers.items register old → other ≡ get_or x.registers.items x.given other →
     y.numbers.items ≡ set (set x.numbers.items other old) register x.given →
     y.registers.items ≡ set (set x.registers.items old other) x.given register → y.given ≡ x.given + 1 →

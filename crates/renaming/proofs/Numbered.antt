@@ -1,5 +1,6 @@
 -- Registers that were given numbers, one after the other.
-use Rattle.std.proofs.Common.{◌≡◌, ℕ, zero, suc, ◌+◌, ◌<◌, ◌≤◌, ◌⊎◌, inl, inr, ⊎_elim, List, [], ◌∷◌, length, get_or, Option, Some, None, refl, sym, ap, ◌∙◌, subst, arith}
+use Rattle.std.proofs.Common.{◌≡◌, ℕ, zero, suc, ◌+◌, ◌<◌, ◌≤◌, ◌⊎◌, inl, inr, ⊎_elim, List, [], ◌∷◌, length, get_or, Option, Some, None}
+use Rattle.std.proofs.Common.{refl, sym, ap, ◌∙◌, subst, arith}
 use Rattle.std.specs.Prelude.{slice_get}
 use Rattle.std.proofs.lemmas.Option.{slice_get_within}
 use Rattle.superstep_instructions.specs.declared.instr.Side.{Side}
@@ -77,7 +78,8 @@ some_there (x ∷ xs) (suc k) r e = some_there xs k r e
 
 -- the next name of an instruction
 pub among_more : (names : List (Option ℕ)) (k register : ℕ) → {x y z : Numbers} → slice_get names k ≡ Some (Some register) →
-    HaveNumbers (λ r. IsAmongBelow k r names) x y → HaveNumbers (λ r. r ≡ register) y z → HaveNumbers (λ r. IsAmongBelow (k + 1) r names) x z
+    HaveNumbers (λ r. IsAmongBelow k r names) x y → HaveNumbers (λ r. r ≡ register) y z → HaveNumbers
+        (λ r. IsAmongBelow (k + 1) r names) x z
 among_more names k register at h g = others_alike back on (both h g)
   where
     back : (r : ℕ) → IsAmongBelow (k + 1) r names → IsAmongBelow k r names ⊎ (r ≡ register)
@@ -108,7 +110,8 @@ among_none names k none h = others_alike back on h
     on r a = record { at = a.at; below = (let l = a.below in omega (arith, l)); is = a.is }
 
 -- the next instruction
-pub named_more : (side : Side) (instructions : List Instr) (k : ℕ) (instr : Instr) → {x y z : Numbers} → slice_get instructions k ≡ Some instr →
+pub named_more : (side : Side) (instructions : List Instr) (k : ℕ) (instr : Instr) → {x y z : Numbers} → slice_get instructions k ≡
+    Some instr →
     HaveNumbers (IsNamedBelow k side instructions) x y → HaveNumbers (λ r. IsAmong r (named side instr)) y z →
     HaveNumbers (IsNamedBelow (k + 1) side instructions) x z
 named_more side instructions k instr at h g = others_alike back on (both h g)

@@ -18,7 +18,8 @@ use Rattle.renaming.proofs.Formed.{formed_again}
 
 -- ---- what was numbered
 
-module _ (code packed : SuperstepCode) (x y z : Numbers) (none : x.given ≡ 0) (first : HaveNumbers (IsNamedIn Private code.instructions) x y)
+module _ (code packed : SuperstepCode) (x y z : Numbers) (none : x.given ≡ 0)
+    (first : HaveNumbers (IsNamedIn Private code.instructions) x y)
     (second : HaveNumbers (IsNamedIn Uniform code.instructions) y z)
     (is : packed ≡ with_names (number_of z) z.given y.given code) where
   one : IsOneToOne (number_of z) (register_of z)

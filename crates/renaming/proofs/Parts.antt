@@ -12,14 +12,18 @@ use Rattle.pram_values.specs.Truth.{truth, is_nonzero}
 use Rattle.superstep_instructions.specs.declared.instr.Side.{Side}
 use Rattle.superstep_instructions.specs.declared.instr.Side.TheVariants.{Uniform, Private}
 use Rattle.superstep_instructions.specs.declared.instr.Instr.{Instr}
-use Rattle.superstep_instructions.specs.declared.instr.Instr.TheVariants.{Mark, Set, Copy, Negate, Calculate, Decide, Not, CopyUniform, Index}
-use Rattle.superstep_instructions.specs.declared.instr.Instr.TheVariants.{Enter, Leave, Mask, Flip, Unmask, Ask, Put, Send, Reply, Vote, Print}
+use Rattle.superstep_instructions.specs.declared.instr.Instr.TheVariants.{Mark, Set, Copy, Negate, Calculate, Decide, Not, CopyUniform}
+use Rattle.superstep_instructions.specs.declared.instr.Instr.TheVariants.{Index}
+use Rattle.superstep_instructions.specs.declared.instr.Instr.TheVariants.{Enter, Leave, Mask, Flip, Unmask, Ask, Put, Send, Reply, Vote}
+use Rattle.superstep_instructions.specs.declared.instr.Instr.TheVariants.{Print}
 use Rattle.superstep_instructions.specs.declared.instr.Instr.TheVariants.{Jump, JumpIfZero, Halt}
 use Rattle.superstep_instructions.specs.Code.{SuperstepCode}
 use Rattle.superstep_machine.specs.Parts.{Registers, set_register, Read, UniformPart, PrivatePart}
-use Rattle.superstep_machine.specs.Results.{computed, calculated, tested, is_same, is_of, position_of, kind_of, missing, range_width, or_empty}
+use Rattle.superstep_machine.specs.Results.{computed, calculated, tested, is_same, is_of, position_of, kind_of, missing, range_width}
+use Rattle.superstep_machine.specs.Results.{or_empty}
 use Rattle.superstep_machine.specs.Steps.{with_result, wrong_in, zero_without, fault_at, write_to, on_uniform, wrong_uniform, uniform_key}
-use Rattle.superstep_machine.specs.Steps.{uniform_write, index_of, is_active, on_active, on_own, wrong_own, own_key, own_write, is_put, renews}
+use Rattle.superstep_machine.specs.Steps.{uniform_write, index_of, is_active, on_active, on_own, wrong_own, own_key, own_write, is_put}
+use Rattle.superstep_machine.specs.Steps.{renews}
 use Rattle.superstep_machine.specs.Steps.{moment_of}
 use Rattle.renaming.specs.Renamed.{IsOneToOne, renamed, with_names}
 
@@ -144,7 +148,8 @@ module _ (p l : ℕ → ℕ) (one : IsOneToOne p l) where
 
   -- what an instruction computes, if it is of a side
   pub result_if : (b : Bool) (i : Instr) (r : Registers) →
-      with_result (if b then computed (renamed p i) (moved r) else None) (moved r) ≡ moved (with_result (if b then computed i r else None) r)
+      with_result (if b then computed (renamed p i) (moved r) else None) (moved r) ≡ moved
+          (with_result (if b then computed i r else None) r)
   result_if true i r = ap (λ o. with_result o (moved r)) (computed_moved i r) ∙ with_moved (computed i r) r
   result_if false i r = refl
 
@@ -182,11 +187,13 @@ module _ (p l : ℕ → ℕ) (one : IsOneToOne p l) where
     asks_more u read = sym (map_joined read_moved u.asks (read ∷ []))
 
     plain : (u : UniformPart) (b : Bool) (i : Instr) →
-        record (uniform_moved u) { registers = with_result (if b then computed (renamed p i) (moved u.registers) else None) (moved u.registers) }
+        record (uniform_moved u) { registers = with_result (if b then computed (renamed p i) (moved u.registers) else None)
+            (moved u.registers) }
         ≡ uniform_moved (record u { registers = with_result (if b then computed i u.registers else None) u.registers })
     plain u b i = λ j. record (uniform_moved u) { registers = result_if b i u.registers j }
 
-    pub on_uniform_moved : (i : Instr) (u : UniformPart) → on_uniform code' (renamed p i) (uniform_moved u) ≡ uniform_moved (on_uniform code i u)
+    pub on_uniform_moved : (i : Instr) (u : UniformPart) → on_uniform code' (renamed p i) (uniform_moved u) ≡ uniform_moved
+        (on_uniform code i u)
     on_uniform_moved (Mark line) u = refl
     on_uniform_moved (Set s d n) u = plain u (is_same Uniform s) (Set s d n)
     on_uniform_moved (Copy s d x) u = plain u (is_same Uniform s) (Copy s d x)
@@ -209,7 +216,8 @@ module _ (p l : ℕ → ℕ) (one : IsOneToOne p l) where
           ∙ zero_moved (cell_of code.layout c (u.registers s)) d u.registers) j;
       asks = (ap (λ o. map read_moved u.asks
           ++ record { side = Uniform; destination = p d; moment = moment_of u q; cell = o } ∷ []) (cells c s u.registers)
-          ∙ asks_more u (record { side = Uniform; destination = d; moment = moment_of u q; cell = cell_of code.layout c (u.registers s) })) j;
+          ∙ asks_more u (record { side = Uniform; destination = d; moment = moment_of u q; cell = cell_of code.layout c
+              (u.registers s) })) j;
     }
     on_uniform_moved (Ask Private d c s q) u = λ j. record (uniform_moved u) {
       asks = asks_more u (record { side = Private; destination = d; moment = moment_of u q; cell = None }) j;
@@ -290,7 +298,8 @@ module _ (p l : ℕ → ℕ) (one : IsOneToOne p l) where
     -- ---- one processor
 
     own_plain : (x : PrivatePart) (b : Bool) (i : Instr) →
-        record (own_moved x) { registers = with_result (if b then computed (renamed p i) (moved x.registers) else None) (moved x.registers) }
+        record (own_moved x) { registers = with_result (if b then computed (renamed p i) (moved x.registers) else None)
+            (moved x.registers) }
         ≡ own_moved (record x { registers = with_result (if b then computed i x.registers else None) x.registers })
     own_plain x b i = λ j. record (own_moved x) { registers = result_if b i x.registers j }
 

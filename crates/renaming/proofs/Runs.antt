@@ -13,13 +13,15 @@ use Rattle.superstep_machine.specs.Worker.{Worker}
 use Rattle.superstep_machine.specs.Stretch.{ToSend, ToReply, ToVote, ToClose, Arrival, Nowhere, At}
 use Rattle.superstep_machine.specs.Machine.{column, phase, phases, run}
 use Rattle.superstep_machine.specs.Run.{Purpose, Sends, Replies, Votes, Closes, Way, On, Ending, Past, Refused, Lost, State, Ready}
-use Rattle.superstep_machine.specs.Run.{mark_now, stretch, ready_at, ready_by, ready_with, ready, is_held, message_for, message_with, message_of}
+use Rattle.superstep_machine.specs.Run.{mark_now, stretch, ready_at, ready_by, ready_with, ready, is_held, message_for, message_with}
+use Rattle.superstep_machine.specs.Run.{message_of}
 use Rattle.superstep_machine.specs.Run.{key_of, decided, after_exchange, mark_of, after_with, after, is_over, state_of, cell_in}
 use Rattle.superstep_machine.specs.Run.{verdict_by, outcome_of, bsp, opening, outcome_by}
 use Rattle.bsp_verify.specs.Runs.{worker_after}
 use Rattle.renaming.specs.Renamed.{IsOneToOne}
 use Rattle.renaming.proofs.Parts.{uniform_moved}
-use Rattle.renaming.proofs.Workers.{t', worker_moved, arrival_moved, until_moved, sent_moved, voted_moved, after_send_moved, after_reply_moved}
+use Rattle.renaming.proofs.Workers.{t', worker_moved, arrival_moved, until_moved, sent_moved, voted_moved, after_send_moved}
+use Rattle.renaming.proofs.Workers.{after_reply_moved}
 use Rattle.renaming.proofs.Workers.{after_vote_moved}
 
 module _ (p l : ℕ → ℕ) (one : IsOneToOne p l) (uniform private : ℕ) (t : Setting) where
@@ -126,7 +128,8 @@ module _ (p l : ℕ → ℕ) (one : IsOneToOne p l) (uniform private : ℕ) (t :
 
   phase_moved : (n : ℕ) (ws : ℕ → State) → phase (bsp u') n (all_moved ws) ≡ all_moved (phase (bsp t) n ws)
   phase_moved n ws = λ i w. (ap (after u' w (ready u' w (state_moved (ws w))))
-      (map_same (λ v. message_of u' v (state_moved (ws v)) w) (λ v. message_of t v (ws v) w) (λ v. message_is v (ws v) w) (range_with_len 0 n))
+      (map_same (λ v. message_of u' v (state_moved (ws v)) w) (λ v. message_of t v (ws v) w) (λ v. message_is v (ws v) w)
+          (range_with_len 0 n))
       ∙ after_moved w (ws w) (column (bsp t) n ws w)) i
 
   phases_moved : (n k : ℕ) (ws : ℕ → State) → phases (bsp u') n k (all_moved ws) ≡ all_moved (phases (bsp t) n k ws)

@@ -1,5 +1,6 @@
 -- What a worker does whose registers are renamed, by renamed code.
-use Rattle.std.proofs.Common.{◌≡◌, ℕ, zero, suc, ◌+◌, List, [], ◌∷◌, ◌++◌, map, Bool, true, false, Option, Some, None, ℤ, pos, refl, sym, ap, ◌∙◌, eqb}
+use Rattle.std.proofs.Common.{◌≡◌, ℕ, zero, suc, ◌+◌, List, [], ◌∷◌, ◌++◌, map, Bool, true, false, Option, Some, None, ℤ, pos, refl, sym}
+use Rattle.std.proofs.Common.{ap, ◌∙◌, eqb}
 use Rattle.std.specs.Prelude.{◌||◌, if◌then◌else◌, slice_get, option_map}
 use Rattle.std.specs.List.{filter, filter_map, cons_option, zip, list_any}
 use Rattle.std.proofs.lemmas.Option.{slice_get-map}
@@ -8,8 +9,10 @@ use Rattle.pram_values.specs.Total.{total}
 use Rattle.pram_values.proofs.Totals.{total_map, total_same}
 use Rattle.pram_values.specs.Truth.{is_nonzero, truth}
 use Rattle.superstep_instructions.specs.declared.instr.Instr.{Instr}
-use Rattle.superstep_instructions.specs.declared.instr.Instr.TheVariants.{Mark, Set, Copy, Negate, Calculate, Decide, Not, CopyUniform, Index}
-use Rattle.superstep_instructions.specs.declared.instr.Instr.TheVariants.{Enter, Leave, Mask, Flip, Unmask, Ask, Put, Send, Reply, Vote, Print}
+use Rattle.superstep_instructions.specs.declared.instr.Instr.TheVariants.{Mark, Set, Copy, Negate, Calculate, Decide, Not, CopyUniform}
+use Rattle.superstep_instructions.specs.declared.instr.Instr.TheVariants.{Index}
+use Rattle.superstep_instructions.specs.declared.instr.Instr.TheVariants.{Enter, Leave, Mask, Flip, Unmask, Ask, Put, Send, Reply, Vote}
+use Rattle.superstep_instructions.specs.declared.instr.Instr.TheVariants.{Print}
 use Rattle.superstep_instructions.specs.declared.instr.Instr.TheVariants.{Jump, JumpIfZero, Halt}
 use Rattle.superstep_machine.specs.Keys.{least}
 use Rattle.superstep_machine.specs.Setting.{Setting, processors, module_cells}
@@ -193,7 +196,8 @@ module _ (p l : ℕ → ℕ) (one : IsOneToOne p l) (uniform private : ℕ) (t :
   until_moved w zero place s = refl
   until_moved w (suc n) place s =
       ap (λ o. there w (until t.bound (λ (x : Worker). x.uniform) (after_instr t w) t.code.instructions n)
-      (until t.bound (λ (x : Worker). x.uniform) (after_instr t' w) (map (renamed p) t.code.instructions) n) (until_moved w n) o place (worker_moved s))
+      (until t.bound (λ (x : Worker). x.uniform) (after_instr t' w) (map (renamed p) t.code.instructions) n) (until_moved w n) o place
+          (worker_moved s))
       (slice_get-map (renamed p) t.code.instructions place)
       ∙ advance_moved w (until t.bound (λ (x : Worker). x.uniform) (after_instr t w) t.code.instructions n)
       (until t.bound (λ (x : Worker). x.uniform) (after_instr t' w) (map (renamed p) t.code.instructions) n) (until_moved w n)
@@ -208,7 +212,8 @@ module _ (p l : ℕ → ℕ) (one : IsOneToOne p l) (uniform private : ℕ) (t :
   twice_moved : (s : Worker) (k c : ℕ) → asked_twice (worker_moved s) k c ≡ asked_twice s k c
   twice_moved s k c = ap is_several (total_map None several (λ (x : PrivatePart). asks_for c (cell_at k x.asks)) (own_moved p l one) s.own)
 
-  asks_moved : (s : Worker) (k : ℕ) (reads : List Read) → asks_from (worker_moved s) k (map (read_moved p l one) reads) ≡ asks_from s k reads
+  asks_moved : (s : Worker) (k : ℕ) (reads : List Read) → asks_from (worker_moved s) k (map (read_moved p l one) reads) ≡
+      asks_from s k reads
   asks_moved s k [] = refl
   asks_moved s k (read ∷ rest) = λ j.
       map (λ c. record { read = k; cell = c; twice = twice_moved s k c j }) (asked_moved s read k j) ++ asks_moved s (k + 1) rest j

@@ -57,8 +57,8 @@ fn packed(alloc: Global, code: &Code) -> Result<Code, AllocError>
 }
 
 /// The same code whose registers are numbered anew, from 0 on: the private ones that its instructions name come first, so that there are no
-/// other private ones, and behind them the uniform ones that they name and that have no number yet. Its runs are those of the code. It takes
-/// a copy of the code and 256 KiB, and the pass of the verifier. The error comes where memory was refused.
+/// other private ones, and behind them the uniform ones that they name and that have no number yet. Its runs are those of the code. It
+/// takes a copy of the code and 256 KiB, and the pass of the verifier. The error comes where memory was refused.
 pub fn pack(alloc: Global, code: &Verified) -> Result<Verified, AllocError>
     // The answer is the code, its registers numbered anew, one to one, with a private register for each that an
     // instruction names and no other.

@@ -117,8 +117,8 @@ fn find_ahead<V: Watch>(
 /// How the program comes out under each of the five rules on the input within `bound` statements, and whether as under the rule that it
 /// declares, where it ends under that, and else as under the first, in the order erew, crew, common, priority, sum, under which it ends.
 /// The first cells get the values of the input. E11 where there are more values than cells; E16 only where memory was refused.
-/// The program is run under a rule only where no run under a stricter one tells: once, where it comes to no conflict under erew. The watch is
-/// told how far each run is.
+/// The program is run under a rule only where no run under a stricter one tells: once, where it comes to no conflict under erew. The watch
+/// is told how far each run is.
 pub fn compare_rules<V: Watch>(
     alloc: Global,
     program: Program,

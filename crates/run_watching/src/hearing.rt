@@ -27,8 +27,8 @@ fn hear<L: Listener + Drop>(
     (listener, done)
 }
 
-/// Runs the program of an interpreter, as [`Interpreter::run_body`] does, and tells the watch how far the run is. The listener comes back with
-/// how the run halted.
+/// Runs the program of an interpreter, as [`Interpreter::run_body`] does, and tells the watch how far the run is. The listener comes back
+/// with how the run halted.
 pub fn run_watched<L: Listener + Drop, V: Watch>(
     interpreter: &Interpreter<'_>,
     run: &mut Run,

@@ -16,7 +16,8 @@ module _ (word : List ℕ) (found : Option Known) where
   each [] f = refl
   each (x ∷ rest) f = each rest (statement_bound word x f)
 
-  rolled : (x : Stmt) (f : Stmt-F Seeking) → statement_bound word x ≡ node_bound word f → statement_bound word x found ≡ node_bound word f found
+  rolled : (x : Stmt) (f : Stmt-F Seeking) → statement_bound word x ≡ node_bound word f → statement_bound word x found ≡ node_bound
+      word f found
   rolled x f h = ap (λ g. g found) h
 
   module _ (x : Stmt) where
@@ -56,7 +57,8 @@ module _ (word : List ℕ) (found : Option Known) where
     unfolding statement_bound
     for_bound l t low high body given is same =
         of_form (s.For l t low high body) _ is
-        (rolled _ (Stmt-F.For l t low high (map (statement_bound word) body)) (ap (statement_bound word) (sym (s.rolls-For l t low high body))
+        (rolled _ (Stmt-F.For l t low high (map (statement_bound word) body))
+            (ap (statement_bound word) (sym (s.rolls-For l t low high body))
         ∙ fold-roll-Stmt Seeking (node_bound word) (Stmt-F.For l t low high body))
         ∙ each body found)
         ∙ ap (λ b. block_bound word b found) (sym same)

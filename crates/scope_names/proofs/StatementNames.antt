@@ -21,7 +21,8 @@ module _ (at : ℕ) (here found : List Known) where
   each [] h f = refl
   each (x ∷ rest) h f = each rest h (statement_names at x h f)
 
-  rolled : (x : Stmt) (f : Stmt-F Reaching) → statement_names at x ≡ node_names at f → statement_names at x here found ≡ node_names at f here found
+  rolled : (x : Stmt) (f : Stmt-F Reaching) → statement_names at x ≡ node_names at f → statement_names at x here found ≡ node_names at f
+      here found
   rolled x f h = ap (λ g. g here found) h
 
   module _ (x : Stmt) where
@@ -37,7 +38,8 @@ module _ (at : ℕ) (here found : List Known) where
         statement_names at x here found ≡ reached at t.location here found
     unfolding statement_names
     element_names t i v is =
-        of_form (s.AssignElement t i v) _ is (rolled _ (Stmt-F.AssignElement t i v) (ap (statement_names at) (sym (s.rolls-AssignElement t i v))
+        of_form (s.AssignElement t i v) _ is (rolled _ (Stmt-F.AssignElement t i v)
+            (ap (statement_names at) (sym (s.rolls-AssignElement t i v))
         ∙ fold-roll-Stmt Reaching (node_names at) (Stmt-F.AssignElement t i v)))
 
     pub print_names : (l : Location) (v : Expr) → x ≡ s.Print l v → statement_names at x here found ≡ reached at l here found

@@ -1,5 +1,6 @@
 -- A text is read as a range exactly where it is one, and no list of numbers is one.
-use Rattle.std.proofs.Common.{◌≡◌, ◌∙◌, ◌<◌, ◌≤◌, ◌+◌, ◌++◌, ◌∷◌, ◌==◌, ◌&&◌, [], Bool, List, ℕ, ap, arith, cond, false, length, map, nat_le, refl, subst, sym, true}
+use Rattle.std.proofs.Common.{◌≡◌, ◌∙◌, ◌<◌, ◌≤◌, ◌+◌, ◌++◌, ◌∷◌, ◌==◌, ◌&&◌, [], Bool, List, ℕ, ap, arith, cond, false, length, map}
+use Rattle.std.proofs.Common.{nat_le, refl, subst, sym, true}
 use Rattle.std.specs.Bool.{if◌then◌else◌}
 use Rattle.std.specs.Prelude.{Option, Some, None, Result, Ok, Err, IfOk}
 use Rattle.std.proofs.Common.{inl, inr}
@@ -14,7 +15,8 @@ use Rattle.pram_tokens.specs.Lexemes.{largest, value_after}
 use Rattle.sized_texts.specs.declared.size_range.Growth.{Growth}
 use Rattle.sized_texts.specs.declared.size_range.Growth.TheVariants.{Times, Plus}
 use Rattle.sized_texts.specs.declared.size_range.Range.{Range}
-use Rattle.sized_texts.specs.SizeRanges.{Begins, IsGrowth, IsProgression, IsRange, begins, behind_dots, growth_of, plus, range_by, range_from, range_of, times}
+use Rattle.sized_texts.specs.SizeRanges.{Begins, IsGrowth, IsProgression, IsRange, begins, behind_dots, growth_of, plus, range_by}
+use Rattle.sized_texts.specs.SizeRanges.{range_from, range_of, times}
 use Rattle.sized_texts.specs.SizeWords.{digits_value, name_of, rest_of}
 use Rattle.sized_texts.specs.Sweeps.{AreListed, AreSizes, IsOf, most, parts}
 use Rattle.sized_texts.proofs.SizeWords.{digits_found}

@@ -1,5 +1,6 @@
 -- The sizes of a sweep, one by one.
-use Rattle.std.proofs.Common.{◌≡◌, ◌∙◌, ◌<◌, ◌≤◌, ◌≢◌, ◌+◌, ◌++◌, ◌∷◌, [], List, ℕ, ap, append_assoc, arith, drop, get_or, length, length-append, map, refl, subst, sym}
+use Rattle.std.proofs.Common.{◌≡◌, ◌∙◌, ◌<◌, ◌≤◌, ◌≢◌, ◌+◌, ◌++◌, ◌∷◌, [], List, ℕ, ap, append_assoc, arith, drop, get_or, length}
+use Rattle.std.proofs.Common.{length-append, map, refl, subst, sym}
 use Rattle.std.specs.Prelude.{Some, None}
 use Rattle.std.proofs.lemmas.List.{append-nil, at_drop_all, drop_more}
 use Rattle.sized_texts.specs.declared.size_range.Growth.{Growth}
@@ -53,7 +54,8 @@ pub one_step : (range : Range) (at behind : ℕ) (found : List ℕ) → IsReadTo
     IsReadTo (IsProgression range) (Goes range.growth range.last behind) (found ++ at ∷ [])
 one_step range at behind found before room below is =
     subst (λ n. IsReadTo (IsProgression range) (Goes range.growth range.last n) (found ++ at ∷ [])) (sym is)
-    (one_more (IsProgression range) (Goes range.growth range.last at) (Goes range.growth range.last (next range.growth at)) found at before room
+    (one_more (IsProgression range) (Goes range.growth range.last at) (Goes range.growth range.last (next range.growth at)) found at
+        before room
     (λ rest h. (refl, below, h)) (goes_split range.growth range.last at below))
 
 -- ---- numbers with commas between them
@@ -89,7 +91,8 @@ module _ (text : List ℕ) (n : ℕ) (part read : List ℕ) (here : (n < length 
       IsReadTo (AreListed text) (Listed text m) (found ++ size ∷ [])
   listed_one size m is room next =
       subst (λ m. IsReadTo (AreListed text) (Listed text m) (found ++ size ∷ [])) (sym next)
-      (one_more (AreListed text) (Listed text n) (Listed text (n + 1)) found size before room put (λ rest h. split rest (sym next_parts ∙ h)))
+      (one_more (AreListed text) (Listed text n) (Listed text (n + 1)) found size before room put
+          (λ rest h. split rest (sym next_parts ∙ h)))
     where
       put : (rest : List ℕ) → Listed text (n + 1) rest → Listed text n (size ∷ rest)
       put rest h =

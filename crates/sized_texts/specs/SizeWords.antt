@@ -9,8 +9,8 @@ use Rattle.pram_tokens.specs.Lexemes.{largest, value_after}
 use Rattle.sized_texts.specs.declared.size.Size.{Size}
 use Rattle.sized_texts.specs.Front.{number_of}
 
--- A word is that of a size: its name, which has letters, digits and `_` alone, one at least, then `=`, then digits of its value, which is at
--- most 9223372036854775807.
+-- A word is that of a size: its name, which has letters, digits and `_` alone, one at least, then `=`, then digits of its value, which is
+-- at most 9223372036854775807.
 pub record IsSizeWord (word : List ℕ) (size : Size) : Type 0 where
   pub digits : List ℕ
   pub parts : word ≡ size.name ++ 61 ∷ digits

@@ -1,5 +1,6 @@
 -- The inputs from a place on.
-use Rattle.std.proofs.Common.{◌≡◌, ℕ, ◌+◌, ◌-◌, ◌≤◌, zero, suc, Bool, true, ℤ, List, [], ◌∷◌, drop, refl, ap, sym, ◌∙◌, arith, if◌then◌else◌}
+use Rattle.std.proofs.Common.{◌≡◌, ℕ, ◌+◌, ◌-◌, ◌≤◌, zero, suc, Bool, true, ℤ, List, [], ◌∷◌, drop, refl, ap, sym, ◌∙◌, arith}
+use Rattle.std.proofs.Common.{if◌then◌else◌}
 use Rattle.std.proofs.Math.Seq.{drop-nil}
 use Rattle.small_scopes.specs.Scopes.{inputs_from, inputs_left, inputs_of}
 use Rattle.small_scopes.specs.declared.scope.Scope.{Scope}

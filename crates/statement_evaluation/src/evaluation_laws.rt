@@ -7,7 +7,8 @@ ghost use Rattle.std.specs.Prelude.{ℕ, ℤ};
 ghost use Rattle.pram_meaning.specs.Attempt.{Effect};
 ghost use Rattle.statement_evaluation.specs.Effects.{PartsAreWhole, TestsAreValues, LocalsAreValues};
 ghost use Rattle.statement_evaluation.specs.Effects.{CellsAreSettled, NoCellIsLost, EntriesAreTheRule, OneWriterIsTheRule};
-ghost use Rattle.statement_evaluation.specs.LeastFaults.{LeastFaultIsNoted, TogetherIsNoted, AloneIsNoted, AreToldInOneOrder, NoneDifferInKindAlone};
+ghost use Rattle.statement_evaluation.specs.LeastFaults.{LeastFaultIsNoted, TogetherIsNoted, AloneIsNoted, AreToldInOneOrder};
+ghost use Rattle.statement_evaluation.specs.LeastFaults.{NoneDifferInKindAlone};
 
 /// A processor's attempt at a statement is its whole evaluation, in which it goes on after a fault
 /// with 0, cut off at the first thing noted: for an expression, for each kind of statement outside

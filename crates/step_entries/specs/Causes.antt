@@ -7,7 +7,8 @@ use Rattle.step_entries.specs.declared.cause as rust
 use Rattle.step_entries.specs.declared.cause.Cause.TheVariants as variant
 
 -- An operation on two values, or on one. A subscript that is none of a declaration's, by its number among the shared ones. The bounds of a
--- pardo with more indices than there may be processors. Processors that read one cell at the same moment, or the writes that go to one cell.
+-- pardo with more indices than there may be processors. Processors that read one cell at the same moment, or the writes that go to one
+-- cell.
 pub data Cause : Type 0 where
   Between : (left : ℤ) → Binary → (right : ℤ) → Cause
   Before : Prefix → (operand : ℤ) → Cause

@@ -26,8 +26,8 @@ pub record OwnLocals : Type 0 where
   pub values : List ℤ
 
 -- A statement that ran: where it stands, what each of those did that executed it, the cells, the uniform variables and the locals of
--- processors whose value differs behind it, and what it printed. Or one that faulted: where it stands, its fault and its cause, what each did
--- before its position, the indices of those that met at its cell, and the locals of these, or of the one that faulted.
+-- processors whose value differs behind it, and what it printed. Or one that faulted: where it stands, its fault and its cause, what each
+-- did before its position, the indices of those that met at its cell, and the locals of these, or of the one that faulted.
 pub data Entry : Type 0 where
   Ran : (here : Location) → List Act → (cells variables : List Change) → (locals : List LocalChange) → (printed : List ℤ) → Entry
   Faulting : (here : Location) → Fault → Option Cause → List Act → (met : List ℤ) → (locals : List OwnLocals) → Entry

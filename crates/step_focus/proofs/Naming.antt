@@ -1,5 +1,6 @@
 -- The declarations, one by one, and the parts of a word.
-use Rattle.std.proofs.Common.{◌≡◌, ◌∙◌, ◌<◌, ◌≤◌, ◌+◌, ◌-◌, Bool, true, false, List, ℕ, ap, arith, drop, get_or, length, nat_lt, not, slice_get, sym}
+use Rattle.std.proofs.Common.{◌≡◌, ◌∙◌, ◌<◌, ◌≤◌, ◌+◌, ◌-◌, Bool, true, false, List, ℕ, ap, arith, drop, get_or, length, nat_lt, not}
+use Rattle.std.proofs.Common.{slice_get, sym}
 use Rattle.std.proofs.lemmas.Bool.Decides.{nat_tests}
 use Rattle.std.proofs.lemmas.List.{at_drop_more}
 use Rattle.std.specs.Bool.{if◌then◌else◌}

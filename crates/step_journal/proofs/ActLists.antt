@@ -1,5 +1,6 @@
 -- What processors do in a statement, listed one by one.
-use Rattle.std.proofs.Common.{◌≡◌, ℕ, ℤ, ◌+◌, ◌<◌, ◌≤◌, List, [], ◌∷◌, ◌++◌, Option, map, drop, length, get_or, append_assoc, append-nil, refl}
+use Rattle.std.proofs.Common.{◌≡◌, ℕ, ℤ, ◌+◌, ◌<◌, ◌≤◌, List, [], ◌∷◌, ◌++◌, Option, map, drop, length, get_or, append_assoc, append-nil}
+use Rattle.std.proofs.Common.{refl}
 use Rattle.std.proofs.Common.{ap}
 use Rattle.std.proofs.Common.{sym, ◌∙◌}
 use Rattle.std.proofs.lemmas.List.{drop_more, drop_all}

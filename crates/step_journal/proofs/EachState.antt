@@ -1,5 +1,6 @@
 -- What is told of the first statements of a run gives the state behind them.
-use Rattle.std.proofs.Common.{◌≡◌, ◌∙◌, ℕ, zero, suc, ◌+◌, ◌-◌, ℤ, pos, List, [], ◌∷◌, ◌++◌, Option, Some, None, ap, arith, drop, length, length-append}
+use Rattle.std.proofs.Common.{◌≡◌, ◌∙◌, ℕ, zero, suc, ◌+◌, ◌-◌, ℤ, pos, List, [], ◌∷◌, ◌++◌, Option, Some, None, ap, arith, drop, length}
+use Rattle.std.proofs.Common.{length-append}
 use Rattle.std.proofs.Common.{refl, replicate, subst, sym}
 use Rattle.std.specs.Prelude.{map, slice_index_or, take}
 use Rattle.std.specs.List.{flat_map, fold}
@@ -49,7 +50,8 @@ all_same (d ∷ ds) xs ys same =
     all_same ds (with_value xs d.cell d.after) (with_value ys d.cell d.after) (with_same xs ys d.cell d.after same)
 
 -- a difference gives the second list
-given : (xs old new : List ℤ) → length new ≡ length old → HasSameValues xs old → HasSameValues (fold with_change xs (difference old new)) new
+given : (xs old new : List ℤ) → length new ≡ length old → HasSameValues xs old → HasSameValues
+    (fold with_change xs (difference old new)) new
 given xs old new size same =
     subst (HasSameValues (fold with_change xs (difference old new))) (applied old new size) (all_same (difference old new) xs old same)
 
@@ -74,7 +76,8 @@ begins cells variables printed m before is same = record {
   printed = is.printed ∙ ap length (sym same.output);
 }
 
-ran_store : (cells variables : List ℤ) (printed : ℕ) (before behind : State) (here : Location) (acts : List Act) (locals : List LocalChange) →
+ran_store : (cells variables : List ℤ) (printed : ℕ) (before behind : State) (here : Location) (acts : List Act)
+    (locals : List LocalChange) →
     IsStore cells variables printed before → IsLeft before behind →
     IsStore (with_cells cells (ran here acts locals before behind)) (with_variables variables (ran here acts locals before behind))
     (with_printed printed (ran here acts locals before behind)) behind
@@ -111,7 +114,8 @@ set_store p cells variables printed here act before behind xs (Some key) is left
 
 each : (p : Checked) (ms : List Moment) (k : ℕ) (m last : State) (cells variables : List ℤ) (printed : ℕ) → Lead ms m last →
     IsStore cells variables printed m →
-    IsStore (fold with_cells cells (take k (flat_map (entries_of p) ms))) (fold with_variables variables (take k (flat_map (entries_of p) ms)))
+    IsStore (fold with_cells cells (take k (flat_map (entries_of p) ms)))
+        (fold with_variables variables (take k (flat_map (entries_of p) ms)))
     (fold with_printed printed (take k (flat_map (entries_of p) ms))) (state_behind k ms m)
 each p ms zero m last cells variables printed lead is = is
 each p [] (suc k) m last cells variables printed lead is = is

@@ -15,7 +15,8 @@ FaultHeard now then old new ms = (then ≡ now) × (new ≡ fault_behind old (fl
 behind_both : (before : Option Entry) (xs ys : List Entry) → fault_behind before (xs ++ ys) ≡ fault_behind (fault_behind before xs) ys
 behind_both before [] ys = refl
 behind_both before (Ran here acts changed variables locals items ∷ xs) ys = behind_both None xs ys
-behind_both before (Faulting here fault cause acts met locals ∷ xs) ys = behind_both (Some (Faulting here fault cause acts met locals)) xs ys
+behind_both before (Faulting here fault cause acts met locals ∷ xs) ys = behind_both
+    (Some (Faulting here fault cause acts met locals)) xs ys
 
 pub last_on : (p q r : Checked) (a b c : Option Entry) (ms ns : List Moment) → FaultHeard p q a b ms → FaultHeard q r b c ns →
     FaultHeard p r a c (ms ++ ns)

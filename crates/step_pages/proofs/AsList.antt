@@ -1,5 +1,6 @@
 -- What stands in a page is read as the list of its facts.
-use Rattle.std.proofs.Common.{◌≡◌, ◌∙◌, ◌-◌, ◌<◌, ◌≤◌, ◌^◌, ◌++◌, ◌∷◌, [], true, false, List, Some, ℕ, max, suc, ap, ap₂, append_assoc, append-nil, arith, codes, decimal}
+use Rattle.std.proofs.Common.{◌≡◌, ◌∙◌, ◌-◌, ◌<◌, ◌≤◌, ◌^◌, ◌++◌, ◌∷◌, [], true, false, List, Some, ℕ, max, suc, ap, ap₂, append_assoc}
+use Rattle.std.proofs.Common.{append-nil, arith, codes, decimal}
 use Rattle.std.proofs.Common.{drop, inl, inr, length, length-append, refl, subst, sym, take, zero}
 use Rattle.std.specs.Prelude.{◌⊎◌, ◌&&◌, Bool, negsuc, pos, if◌then◌else◌, nat_le, nat_lt, option_and_then, option_map}
 use Rattle.std.proofs.lemmas.Bool.{cases_lt, le-ltb}
@@ -13,7 +14,8 @@ use Rattle.json.specs.Tree as tree
 use Rattle.json.proofs.Printed.Decimals.{IsNumber-decimal, IsNumber-signed_decimal}
 use Rattle.json.proofs.Printed.Tokens.{tokens-print}
 use Rattle.json.proofs.Printed.Trees.{ArePrintable-json_tokens, value-json_tokens}
-use Rattle.serde_json.specs.Data.{unsigned, negative, float, Data, null, boolean, number, string, array, object, Items, no_items, item, Members}
+use Rattle.serde_json.specs.Data.{unsigned, negative, float, Data, null, boolean, number, string, array, object, Items, no_items, item}
+use Rattle.serde_json.specs.Data.{Members}
 use Rattle.serde_json.specs.Data.{no_members, member, depth, items_depth, members_depth, put}
 use Rattle.serde_json.specs.Read.{max_depth, of_items, of_json, of_members, read}
 use Rattle.serde_json.specs.View.{items_of}
@@ -28,7 +30,8 @@ use Rattle.step_pages.specs.Facts.{BeginsLine, both_text, embedded, facts_text, 
 use Rattle.step_pages.specs.Stand.{AreTold, CutFactsAreRead, FactsAreRead, IsReadAs, OutcomeIsRead, gap_fact}
 use Rattle.step_pages.proofs.Integers.{AreRead, EachOfItems, EachOfMembers, HasIntegers, IsInteger, those_read}
 use Rattle.step_pages.proofs.Embedding.{embedded-append}
-use Rattle.step_pages.proofs.LineEnds.{IsCutAt, all_at, cut_at, first_told, last_alone, last_at, last_begins, last_length, last_line, lines-append}
+use Rattle.step_pages.proofs.LineEnds.{IsCutAt, all_at, cut_at, first_told, last_alone, last_at, last_begins, last_length, last_line}
+use Rattle.step_pages.proofs.LineEnds.{lines-append}
 use Rattle.step_pages.proofs.LineEnds.{lines_end, ordered, whole_begins}
 use Rattle.step_pages.proofs.Lexed.{AreKept, decimal_kept, kept-append, tokens_embedded}
 
@@ -97,7 +100,8 @@ mutual
 read_tokens : (d : Data) (text : List ℕ) → depth d ≤ 127 → tokens text ≡ tree.json_tokens (outline d) → read text ≡ of_json (outline d)
 read_tokens d text shallow is =
     let deep : tree.depth (outline d) ≡ depth d = depths d in
-    ap (λ o. option_and_then of_json (option_and_then (λ p. json.if_last p.0 p.1) o)) (ap (json.value max_depth) (is ∙ sym (append-nil (tree.json_tokens (outline d))))
+    ap (λ o. option_and_then of_json (option_and_then (λ p. json.if_last p.0 p.1) o))
+        (ap (json.value max_depth) (is ∙ sym (append-nil (tree.json_tokens (outline d))))
     ∙ value-json_tokens (outline d) max_depth [] (omega (arith, deep, shallow)))
 
 read_compact : (d : Data) → HasIntegers d → depth d ≤ 127 → read (compact_text d) ≡ of_json (outline d)
@@ -142,14 +146,16 @@ list_depth n m (d ∷ ds) h =
 
 -- ---- its text
 
-comma_first : (n m : ℕ) (ds : List Data) → items_text true (items_of (with_last n m ds)) ≡ 44 ∷ items_text false (items_of (with_last n m ds))
+comma_first : (n m : ℕ) (ds : List Data) → items_text true (items_of (with_last n m ds)) ≡ 44 ∷ items_text false
+    (items_of (with_last n m ds))
 comma_first n m [] = refl
 comma_first n m (d ∷ ds) = refl
 
 abbrev end_text : (n m : ℕ) → List ℕ
 end_text n m = embedded (compact_text (gap_fact n m)) ++ 93 ∷ []
 
-lines_text : (n m : ℕ) (ds : List Data) → embedded (json_lines ds) ++ end_text n m ≡ embedded (items_text false (items_of (with_last n m ds)))
+lines_text : (n m : ℕ) (ds : List Data) → embedded (json_lines ds) ++ end_text n m ≡ embedded
+    (items_text false (items_of (with_last n m ds)))
 lines_text n m [] = sym (embedded-append (compact_text (gap_fact n m)) (93 ∷ []))
 lines_text n m (d ∷ ds) =
     let one = compact_text d in
@@ -178,7 +184,8 @@ end_is n m h g =
     let second = 44 ∷ (quoted (codes "left_out") ++ 58 ∷ (decimal m ++ 125 ∷ [])) in
     let there : embedded second ≡ codes ",\"left_out\":" ++ (decimal m ++ 125 ∷ []) =
     middle_is (decimal m ++ 125 ∷ []) ∙ ap (λ t. codes ",\"left_out\":" ++ t) (number_is m (125 ∷ []) g) in
-    let whole : embedded (compact_text (gap_fact n m)) ≡ codes "{\"behind\":" ++ (decimal n ++ (codes ",\"left_out\":" ++ (decimal m ++ 125 ∷ []))) =
+    let whole : embedded (compact_text (gap_fact n m)) ≡ codes "{\"behind\":" ++
+        (decimal n ++ (codes ",\"left_out\":" ++ (decimal m ++ 125 ∷ []))) =
     front_is (decimal n ++ second) ∙ ap (λ t. codes "{\"behind\":" ++ t) (number_is n second h ∙ ap (λ t. decimal n ++ t) there) in
     sym (ap (λ t. t ++ 93 ∷ []) whole
     ∙ ap (λ t. codes "{\"behind\":" ++ t) (append_assoc (decimal n) (codes ",\"left_out\":" ++ (decimal m ++ 125 ∷ [])) (93 ∷ [])
@@ -219,7 +226,8 @@ read-append [] b h g = g
 read-append (d ∷ a) b h g = (h.0, read-append a b h.1 g)
 
 -- the text of some facts and of others, and of which are left out between them
-both_is : (a b : List Data) (n m : ℕ) → embedded (json_lines a) ++ (embedded (json_lines b) ++ gap_text n m) ≡ embedded (json_lines (a ++ b)) ++ gap_text n m
+both_is : (a b : List Data) (n m : ℕ) → embedded (json_lines a) ++ (embedded (json_lines b) ++ gap_text n m) ≡ embedded
+    (json_lines (a ++ b)) ++ gap_text n m
 both_is a b n m =
     sym (append_assoc (embedded (json_lines a)) (embedded (json_lines b)) (gap_text n m))
     ∙ ap (λ l. l ++ gap_text n m) (sym (embedded-append (json_lines a) (json_lines b)) ∙ ap embedded (sym (lines-append a b)))
@@ -237,7 +245,8 @@ chosen_read : (b : Bool) (states : List Data) → AllByRecursion ReadsBack state
 chosen_read true states h = h
 chosen_read false states h = tt
 
-module _ (facts : List Data) (told : AreRead facts) (back : AllByRecursion ReadsBack facts) (few : length facts < 2 ^ 64) (states : List Data)
+module _ (facts : List Data) (told : AreRead facts) (back : AllByRecursion ReadsBack facts) (few : length facts < 2 ^ 64)
+    (states : List Data)
     (told_states : AreRead states) (back_states : AllByRecursion ReadsBack states) where
   abbrev has_state : (from to : ℕ) → Bool
   has_state from to = nat_lt from to && nat_le (length (embedded (json_lines states))) state_room
@@ -260,7 +269,8 @@ module _ (facts : List Data) (told : AreRead facts) (back : AllByRecursion Reads
       let count = line_count (drop from (json_lines facts)) - line_count (drop to (json_lines facts)) in
       ap₂ (λ l r. both_text l (state_shown (json_lines states) from to) r count) first.front last.back
       ∙ ap (λ s. both_text (json_lines (take a facts)) s (json_lines (drop k facts)) count) (chosen_lines (has_state from to) states)
-      ∙ ap₂ (λ x y. embedded (json_lines (take a facts)) ++ (embedded (json_lines (those from to)) ++ (embedded (json_lines (drop k facts)) ++ gap_text x y)))
+      ∙ ap₂ (λ x y. embedded (json_lines (take a facts)) ++
+          (embedded (json_lines (those from to)) ++ (embedded (json_lines (drop k facts)) ++ gap_text x y)))
       firsts (ap₂ (λ x y. x - y) others lasts ∙ left)
       ∙ ap (λ t. embedded (json_lines (take a facts)) ++ t) (both_is (those from to) (drop k facts) a (k - a))
       ∙ both_is (take a facts) (those from to ++ drop k facts) a (k - a)
@@ -322,10 +332,12 @@ module _ (facts : List Data) (told : AreRead facts) (back : AllByRecursion Reads
       by (inl below) = cut.last.begins below
       by (inr over) =
           let inside : to ≤ length (json_lines facts) = cut.last.within in
-          let e : length (json_lines facts) ≡ to = omega (arith, inside, over) in subst (BeginsLine (json_lines facts)) e (whole_begins facts)
+          let e : length (json_lines facts) ≡ to = omega (arith, inside, over) in subst (BeginsLine (json_lines facts)) e
+              (whole_begins facts)
 
   none_between : (from : ℕ) → those from from ≡ []
-  none_between from = ap (λ b. if b && nat_le (length (embedded (json_lines states))) state_room then states else []) (le-ltb from from (omega arith))
+  none_between from = ap (λ b. if b && nat_le (length (embedded (json_lines states))) state_room then states else [])
+      (le-ltb from from (omega arith))
 
   all_read : (from to : ℕ) → IsCut (json_lines facts) from to → length (embedded (json_lines facts)) ≤ room →
       (a : ℕ) × (read (codes "[" ++ facts_text (json_lines facts) (json_lines states) from to) ≡ Some (list (facts ++ gap_fact a 0 ∷ [])))
@@ -341,7 +353,8 @@ module _ (facts : List Data) (told : AreRead facts) (back : AllByRecursion Reads
         ap (λ t. read (91 ∷ facts_text (json_lines facts) (json_lines states) from t)) (sym e)
             ∙ (shown_is from from a a w.2 w.2 (omega arith)).reads
             ∙ ap₂ (λ s n. Some (list (take a facts ++ (s ++ (drop a facts ++ gap_fact a n ∷ []))))) (none_between from) none
-            ∙ ap (λ l. Some (list l)) (sym (append_assoc (take a facts) (drop a facts) gap) ∙ ap (λ l. l ++ gap) (take-append-drop a facts)),
+            ∙ ap (λ l. Some (list l)) (sym (append_assoc (take a facts) (drop a facts) gap) ∙ ap (λ l. l ++ gap)
+                (take-append-drop a facts)),
       )
 
 told_read : (facts : List Data) (text : List ℕ) → AreTold facts → IsJson facts text → AreRead facts
@@ -357,7 +370,8 @@ cut_facts_are_read facts states text state from to told told_states says also fe
 
 pub facts_are_read : FactsAreRead
 facts_are_read facts states text state from to told told_states says also few cut =
-    subst (λ s. length (embedded text) ≤ room → (a : ℕ) × (read (codes "[" ++ facts_text text s from to) ≡ Some (list (facts ++ gap_fact a 0 ∷ []))))
+    subst (λ s. length (embedded text) ≤ room → (a : ℕ) × (read (codes "[" ++ facts_text text s from to) ≡ Some
+        (list (facts ++ gap_fact a 0 ∷ []))))
     (sym also.whole)
     (subst (λ t. IsCut t from to → length (embedded t) ≤ room →
     (a : ℕ) × (read (codes "[" ++ facts_text t (json_lines states) from to) ≡ Some (list (facts ++ gap_fact a 0 ∷ [])))) (sym says.whole)

@@ -1,7 +1,9 @@
 -- The cut of a text is found in what is kept of it.
-use Rattle.std.proofs.Common.{◌≡◌, ◌<◌, ◌≤◌, ◌+◌, ◌-◌, ◌∙◌, List, ℕ, zero, suc, ap, arith, drop, get_or, inl, inr, length, refl, subst, sym, take}
+use Rattle.std.proofs.Common.{◌≡◌, ◌<◌, ◌≤◌, ◌+◌, ◌-◌, ◌∙◌, List, ℕ, zero, suc, ap, arith, drop, get_or, inl, inr, length, refl, subst, sym}
+use Rattle.std.proofs.Common.{take}
 use Rattle.std.proofs.lemmas.Bool.{cases_lt}
-use Rattle.std.proofs.lemmas.List.{drop-drop, get_or-drop, get_or-take, length-append, length-drop, length-take-le, take-append-drop, take-take, take_all}
+use Rattle.std.proofs.lemmas.List.{drop-drop, get_or-drop, get_or-take, length-append, length-drop, length-take-le, take-append-drop}
+use Rattle.std.proofs.lemmas.List.{take-take, take_all}
 use Rattle.std.specs.Prelude.{◌⊎◌}
 use Rattle.step_pages.specs.Cut.{AreFirst, AreLast, IsBack, IsCut, IsFront, IsLastLine, half, room}
 use Rattle.step_pages.specs.Facts.{BeginsLine, embedded}

@@ -1,5 +1,6 @@
 -- Facts that are written byte by byte, and what stands in them.
-use Rattle.std.proofs.Common.{◌≡◌, ◌<◌, ◌≤◌, ◌+◌, ◌++◌, ◌∷◌, ◌∙◌, [], Bool, true, false, List, ℕ, ap, append_assoc, arith, codes, drop, get_or}
+use Rattle.std.proofs.Common.{◌≡◌, ◌<◌, ◌≤◌, ◌+◌, ◌++◌, ◌∷◌, ◌∙◌, [], Bool, true, false, List, ℕ, ap, append_assoc, arith, codes, drop}
+use Rattle.std.proofs.Common.{get_or}
 use Rattle.std.proofs.Common.{if◌then◌else◌, ◌==◌, length, length-append, refl, sym}
 use Rattle.std.proofs.lemmas.Bool.{eqb-false}
 use Rattle.std.proofs.lemmas.List.{drop_more}
@@ -34,7 +35,8 @@ no_tag_byte b = by (b == 60) refl
     by : (c : Bool) → (b == 60) ≡ c → HasNoTag (if c then codes "\\u003c" else (if b == 10 then codes "," else b ∷ []))
     by true is = (
       (λ h. omega (arith, h)),
-      ((λ h. omega (arith, h)), ((λ h. omega (arith, h)), ((λ h. omega (arith, h)), ((λ h. omega (arith, h)), ((λ h. omega (arith, h)), tt))))),
+      ((λ h. omega (arith, h)), ((λ h. omega (arith, h)),
+          ((λ h. omega (arith, h)), ((λ h. omega (arith, h)), ((λ h. omega (arith, h)), tt))))),
     )
     by false is = other (b == 10) (eqb-false b 60 is)
 

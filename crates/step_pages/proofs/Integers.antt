@@ -1,5 +1,6 @@
 -- Data that was read has integers in the reader's range; so facts that read back, and hold no float, have such integers alone.
-use Rattle.std.proofs.Common.{◌≡◌, ◌<◌, ◌≤◌, ◌^◌, ◌∷◌, [], Bool, true, false, List, Option, None, Some, ℕ, pos, negsuc, zero, suc, arith, drop}
+use Rattle.std.proofs.Common.{◌≡◌, ◌<◌, ◌≤◌, ◌^◌, ◌∷◌, [], Bool, true, false, List, Option, None, Some, ℕ, pos, negsuc, zero, suc, arith}
+use Rattle.std.proofs.Common.{drop}
 use Rattle.std.proofs.Common.{Ordering, Less, Equal, Greater, refl, subst, option_map, option_and_then}
 use Rattle.std.specs.Prelude.{⊤, ◌==◌, ◌&&◌, if◌then◌else◌, nat_le, nat_lt, slice_index}
 use Rattle.std.specs.Float.{binary64, float_is_finite}
@@ -10,7 +11,8 @@ use Rattle.std.proofs.lemmas.Bool.{leb-true, ltb-true, or_parts, true≢false}
 use Rattle.fast_float.specs.Text.{Parts, digits_of, minus, nearest, scan, with_sign}
 use Rattle.json.specs.Json as json
 use Rattle.json.specs.Lex.{tokens}
-use Rattle.serde_json.specs.Data.{Num, unsigned, negative, float, Data, null, boolean, number, string, array, object, Items, no_items, item, Members}
+use Rattle.serde_json.specs.Data.{Num, unsigned, negative, float, Data, null, boolean, number, string, array, object, Items, no_items, item}
+use Rattle.serde_json.specs.Data.{Members}
 use Rattle.serde_json.specs.Data.{no_members, member, depth, put}
 use Rattle.serde_json.specs.Find.{is_float}
 use Rattle.serde_json.specs.Read.{float_of, is_integer, max_depth, number_from, number_of, of_items, of_json, of_members, read}

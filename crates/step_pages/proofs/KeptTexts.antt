@@ -88,7 +88,8 @@ trimmed_held k n text over fits first last before count h =
 all_kept : (k : KeptLines) (text : List ℕ) → k.before ≡ 0 → Holds k text → k.last.items ≡ text
 all_kept k text none h = h.last ∙ ap (λ m. drop m text) none
 
-pub all_behind_held : (k n : KeptLines) (head text : List ℕ) → k.before ≡ 0 → Holds n (head ++ k.last.items) → Holds k text → Holds n (head ++ text)
+pub all_behind_held : (k n : KeptLines) (head text : List ℕ) → k.before ≡ 0 → Holds n (head ++ k.last.items) → Holds k text → Holds n
+    (head ++ text)
 all_behind_held k n head text none is h = subst (λ l. Holds n (head ++ l)) (all_kept k text none h) is
 
 -- or some

@@ -1,5 +1,6 @@
 -- The text of tokens, as it stands in a page, has these tokens.
-use Rattle.std.proofs.Common.{◌≡◌, ◌∙◌, ◌<◌, ◌^◌, ◌+◌, ◌%◌, ◌&&◌, ◌++◌, ◌∷◌, [], Bool, true, false, cond, List, ℕ, ap, ap₂, append_assoc, arith}
+use Rattle.std.proofs.Common.{◌≡◌, ◌∙◌, ◌<◌, ◌^◌, ◌+◌, ◌%◌, ◌&&◌, ◌++◌, ◌∷◌, [], Bool, true, false, cond, List, ℕ, ap, ap₂, append_assoc}
+use Rattle.std.proofs.Common.{arith}
 use Rattle.std.proofs.Common.{decimal, refl, sym}
 use Rattle.std.proofs.lemmas.Bool.{ne_eqb}
 use Rattle.std.proofs.lemmas.Fmt.{decimal_by_steps}
@@ -100,10 +101,12 @@ token_same (number s) r h k e f same =
     ap (lex between) (embedded-append s r ∙ ap (λ l. l ++ embedded r) k) ∙ lex-number s (embedded r) h (f refl)
     ∙ ap (λ l. token (number s) ∷ l) same ∙ sym (lex-number s r h (e refl))
 token_same (boolean true) r h k e f same =
-    ap₂ (λ b l. token (cond b (boolean true) bad) ∷ l) (f refl) (in_word-ended (embedded r) (f refl)) ∙ ap (λ l. token (boolean true) ∷ l) same
+    ap₂ (λ b l. token (cond b (boolean true) bad) ∷ l) (f refl) (in_word-ended (embedded r) (f refl)) ∙ ap
+        (λ l. token (boolean true) ∷ l) same
     ∙ sym (ap₂ (λ b l. token (cond b (boolean true) bad) ∷ l) (e refl) (in_word-ended r (e refl)))
 token_same (boolean false) r h k e f same =
-    ap₂ (λ b l. token (cond b (boolean false) bad) ∷ l) (f refl) (in_word-ended (embedded r) (f refl)) ∙ ap (λ l. token (boolean false) ∷ l) same
+    ap₂ (λ b l. token (cond b (boolean false) bad) ∷ l) (f refl) (in_word-ended (embedded r) (f refl)) ∙ ap
+        (λ l. token (boolean false) ∷ l) same
     ∙ sym (ap₂ (λ b l. token (cond b (boolean false) bad) ∷ l) (e refl) (in_word-ended r (e refl)))
 token_same null r h k e f same =
     ap₂ (λ b l. token (cond b null bad) ∷ l) (f refl) (in_word-ended (embedded r) (f refl)) ∙ ap (λ l. token null ∷ l) same
@@ -116,7 +119,8 @@ unfolding lex
 separated true r same = ap (λ l. comma ∷ l) same
 separated false r same = same
 
-print_same : (c : Bool) (ts : List Token) → ArePrintable ts → AreKept ts → lex between (embedded (print_from c ts)) ≡ lex between (print_from c ts)
+print_same : (c : Bool) (ts : List Token) → ArePrintable ts → AreKept ts → lex between (embedded (print_from c ts)) ≡ lex between
+    (print_from c ts)
 unfolding lex print_from ArePrintable AreKept
 print_same c [] h k = refl
 print_same c (t ∷ ts) h k =

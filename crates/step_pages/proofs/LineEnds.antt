@@ -1,14 +1,17 @@
 -- The text of facts has the ends of its lines, and no others: so a front of whole lines is the text of the first facts.
-use Rattle.std.proofs.Common.{◌≡◌, ◌∙◌, ◌+◌, ◌-◌, ◌<◌, ◌≤◌, ◌^◌, ◌%◌, ◌++◌, ◌∷◌, [], true, false, Bool, List, ℕ, zero, suc, ap, append-nil, arith, decimal, drop}
+use Rattle.std.proofs.Common.{◌≡◌, ◌∙◌, ◌+◌, ◌-◌, ◌<◌, ◌≤◌, ◌^◌, ◌%◌, ◌++◌, ◌∷◌, [], true, false, Bool, List, ℕ, zero, suc, ap, append-nil}
+use Rattle.std.proofs.Common.{arith, decimal, drop}
 use Rattle.std.proofs.Common.{append_assoc, get_or, inl, inr, length, refl, subst, sym, take}
 use Rattle.std.specs.Prelude.{◌⊎◌, negsuc, pos}
 use Rattle.std.proofs.lemmas.Bool.{cases_eq, cases_lt, ne_eqb}
 use Rattle.std.proofs.lemmas.Fmt.{decimal_by_steps}
-use Rattle.std.proofs.lemmas.List.{drop_all, drop_at, get_or_append_left, length-append, length-take-le, take-append-drop, take-take, take_all, take_at}
+use Rattle.std.proofs.lemmas.List.{drop_all, drop_at, get_or_append_left, length-append, length-take-le, take-append-drop, take-take}
+use Rattle.std.proofs.lemmas.List.{take_all, take_at}
 use Rattle.json.specs.Print.{escape, escape_byte, quoted}
 use Rattle.json.proofs.Printed.Strings.{escape_byte_plain}
 use Rattle.json.specs.Text.{code_unit, short_escape}
-use Rattle.serde_json.specs.Data.{unsigned, negative, float, Data, null, boolean, number, string, array, object, Items, no_items, item, Members}
+use Rattle.serde_json.specs.Data.{unsigned, negative, float, Data, null, boolean, number, string, array, object, Items, no_items, item}
+use Rattle.serde_json.specs.Data.{Members}
 use Rattle.serde_json.specs.Data.{no_members, member}
 use Rattle.serde_json.specs.Written.{comma_if, compact_text, items_text, members_text}
 use Rattle.json_lines.specs.Lines.{json_line, json_lines}
@@ -155,7 +158,8 @@ digit_stays n below = plain_byte (48 + n) (λ e. omega (arith, e))
 
 decimal_stays : (n : ℕ) → n < 2 ^ 64 → line_count (decimal n) ≡ 0
 decimal_stays = decimal_by_steps (λ n ds. line_count ds ≡ 0) digit_stays
-    (λ n ds low h. let a = line_count-append ds ((48 + n % 10) ∷ []) in let b = digit_stays (n % 10) (omega arith) in omega (arith, a, b, h))
+    (λ n ds low h. let a = line_count-append ds ((48 + n % 10) ∷ []) in let b = digit_stays (n % 10) (omega arith) in omega
+        (arith, a, b, h))
 
 comma_stays : (later : Bool) → line_count (comma_if later) ≡ 0
 comma_stays true = refl
@@ -251,7 +255,8 @@ one_more d ds kept j k e c = record {
 }
 
 -- inside a line no line begins
-not_inside : (d : Data) (ds : List Data) (at : ℕ) → HasIntegers d → BeginsLine (json_lines (d ∷ ds)) (suc at) → suc at < length (json_line d) → ⊥
+not_inside : (d : Data) (ds : List Data) (at : ℕ) → HasIntegers d → BeginsLine (json_lines (d ∷ ds)) (suc at) → suc at < length
+    (json_line d) → ⊥
 not_inside d ds at h b l =
     let e = length-append (compact_text d) (10 ∷ []) in
     inside (compact_text d) (10 ∷ json_lines ds) at (omega (arith, e, l)) (stays d h)
@@ -277,7 +282,8 @@ cut_at (d ∷ ds) (suc at) h b l = by (cut_at ds j h.1) (cases_lt (suc at) (leng
 -- ---- where lines begin
 
 -- a line that begins behind another, or right at its end
-begins_past : (line r : List ℕ) (n j : ℕ) → n ≡ length line + j → (j ≡ 0 → BeginsLine (line ++ r) n) → BeginsLine r j → BeginsLine (line ++ r) n
+begins_past : (line r : List ℕ) (n j : ℕ) → n ≡ length line + j → (j ≡ 0 → BeginsLine (line ++ r) n) → BeginsLine r j → BeginsLine
+    (line ++ r) n
 begins_past line r zero j e z b = tt
 begins_past line r (suc at) zero e z b = z refl
 begins_past line r (suc at) (suc i) e z b = get_past line r at i (omega (arith, e)) ∙ b

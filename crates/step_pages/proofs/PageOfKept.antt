@@ -11,7 +11,8 @@ use Rattle.step_pages.proofs.CutOfKept.{last_is, length_take_most}
 use Rattle.step_pages.proofs.LineEnds.{line_count-append}
 
 -- the first ones
-first_is : (k : KeptLines) (text : List ℕ) (front : ℕ) → Holds k text → front ≤ length k.first.items → take front k.first.items ≡ take front text
+first_is : (k : KeptLines) (text : List ℕ) (front : ℕ) → Holds k text → front ≤ length k.first.items → take front k.first.items ≡ take
+    front text
 first_is k text front h le =
     let e : length k.first.items ≡ length (take room text) = ap length h.first in
     let s = length_take_most room text in

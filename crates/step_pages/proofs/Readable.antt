@@ -5,7 +5,8 @@ use Rattle.std.specs.Prelude.{ℤ, codes, map}
 use Rattle.serde_json.specs.Data.{Data}
 use Rattle.json_lines.specs.Facts.{list}
 use Rattle.json_lines.specs.Small.{IsReadable, IsSmall}
-use Rattle.json_lines.proofs.Small.{AreSmall, HasSmall, has_all, small_count, small_letters, small_list, small_map, small_object, small_value}
+use Rattle.json_lines.proofs.Small.{AreSmall, HasSmall, has_all, small_count, small_letters, small_list, small_map, small_object}
+use Rattle.json_lines.proofs.Small.{small_value}
 use Rattle.json_lines.proofs.Small.{small_values, small_word, smaller}
 use Rattle.pram_model.specs.declared.rule.Rule.{Rule}
 use Rattle.pram_trees.specs.declared.tree.Declaration.{Declaration}
@@ -37,7 +38,8 @@ small_each : (f : Declaration → List Data) → ((d : Declaration) → AreSmall
 small_each f each [] = tt
 small_each f each (d ∷ ds) = small-append 1 (f d) (flat_map f ds) (each d) (small_each f each ds)
 
-source_small : (file text : List ℕ) (rule : Rule) (input : List ℤ) (statements : ℕ) → HasSmall 3 (source_fields file text rule input statements)
+source_small : (file text : List ℕ) (rule : Rule) (input : List ℤ) (statements : ℕ) → HasSmall 3
+    (source_fields file text rule input statements)
 source_small file text rule input statements =
     (small_letters 3 file, (small_letters 3 text, (small_word 3 _, (small_values 2 input, (small_count 3 statements, tt)))))
 
@@ -46,7 +48,8 @@ small_pardo p = small_object 1 ((codes "line", _) ∷ (codes "offset", _) ∷ (c
   small_count 1 p.begins.line,
   (
     small_count 1 p.begins.offset,
-    (small_letters 1 p.index.text, (small_list 0 (map name_fact p.locals) (small_map 0 name_fact (λ x. small_letters 0 x.text) p.locals), tt)),
+    (small_letters 1 p.index.text, (small_list 0 (map name_fact p.locals) (small_map 0 name_fact (λ x. small_letters 0 x.text)
+        p.locals), tt)),
   ),
 )
 

@@ -1,5 +1,6 @@
 -- How large a page is.
-use Rattle.std.proofs.Common.{◌≡◌, ◌<◌, ◌≤◌, ◌+◌, ◌-◌, ◌++◌, ◌^◌, List, ℕ, arith, codes, decimal, drop, length, length-append, length-drop, refl}
+use Rattle.std.proofs.Common.{◌≡◌, ◌<◌, ◌≤◌, ◌+◌, ◌-◌, ◌++◌, ◌^◌, List, ℕ, arith, codes, decimal, drop, length, length-append, length-drop}
+use Rattle.std.proofs.Common.{refl}
 use Rattle.std.proofs.Common.{Bool, true, false, if◌then◌else◌, take, ◌&&◌, [], nat_le, nat_lt}
 use Rattle.std.proofs.lemmas.Bool.{leb-true}
 use Rattle.std.proofs.lemmas.Fmt.{length-decimal-le}
@@ -88,7 +89,8 @@ gap_size behind left one other =
     let c : length (codes "}]") ≡ 2 = refl in
     omega (arith, first, second, w, x, y, z, a, b, c)
 
-state_size : (b : Bool) (state : List ℕ) → length (embedded (if b && nat_le (length (embedded state)) state_room then state else [])) ≤ state_room
+state_size : (b : Bool) (state : List ℕ) → length (embedded (if b && nat_le (length (embedded state)) state_room then state else [])) ≤
+    state_room
 state_size false state = omega arith
 state_size true state = by (nat_le (length (embedded state)) state_room) refl
   where

@@ -1,5 +1,6 @@
 -- Strings whose `<` are written by their number are read as they are without that.
-use Rattle.std.proofs.Common.{◌≡◌, ◌∙◌, ◌<◌, ◌≤◌, ◌++◌, ◌∷◌, [], Bool, true, false, cond, List, Some, ℕ, zero, suc, ap, append_assoc, arith, refl, subst, sym}
+use Rattle.std.proofs.Common.{◌≡◌, ◌∙◌, ◌<◌, ◌≤◌, ◌++◌, ◌∷◌, [], Bool, true, false, cond, List, Some, ℕ, zero, suc, ap, append_assoc, arith}
+use Rattle.std.proofs.Common.{refl, subst, sym}
 use Rattle.std.proofs.Common.{inl, inr}
 use Rattle.std.proofs.lemmas.Bool.{cases_eq, cases_lt, le-ltb, ne_eqb}
 use Rattle.std.specs.Prelude.{◌⊎◌}
@@ -142,7 +143,8 @@ tag_passes : Passes 60
 unfolding escape_byte content lex code_unit short_escape encode
 tag_passes = record { read = λ r. refl; lexed = λ r. refl }
 
-stays_inside : (o s : Bool) (x : ℕ) (r : List ℕ) (k : Mode → List Lexeme) → lex_byte in_string (cond o operator (cond s space other)) x r k ≡ k in_string
+stays_inside : (o s : Bool) (x : ℕ) (r : List ℕ) (k : Mode → List Lexeme) → lex_byte in_string (cond o operator (cond s space other)) x r k
+    ≡ k in_string
 stays_inside true s x r k = refl
 stays_inside false true x r k = refl
 stays_inside false false x r k = refl
@@ -171,7 +173,8 @@ passes x = go (cases_eq x 34) (cases_eq x 92) (cases_eq x 60) (cases_lt x 32)
 
 in_front : (x : ℕ) (s r : List ℕ) → embedded (escape (x ∷ s)) ++ 34 ∷ r ≡ embedded (escape_byte x) ++ (embedded (escape s) ++ 34 ∷ r)
 in_front x s r =
-    ap (λ l. l ++ 34 ∷ r) (embedded-append (escape_byte x) (escape s)) ∙ append_assoc (embedded (escape_byte x)) (embedded (escape s)) (34 ∷ r)
+    ap (λ l. l ++ 34 ∷ r) (embedded-append (escape_byte x) (escape s)) ∙ append_assoc (embedded (escape_byte x))
+        (embedded (escape s)) (34 ∷ r)
 
 pub content_embedded : (s r : List ℕ) → content plain (embedded (escape s) ++ 34 ∷ r) ≡ Some s
 unfolding content

@@ -1,5 +1,6 @@
 -- How far the facts were looked at, from their end, for the last lines that have room.
-use Rattle.std.proofs.Common.{◌≡◌, ◌<◌, ◌≤◌, ◌+◌, ◌-◌, ◌++◌, ◌∙◌, List, ℕ, true, false, Bool, ap, arith, drop, get_or, length, length-append, refl, sym}
+use Rattle.std.proofs.Common.{◌≡◌, ◌<◌, ◌≤◌, ◌+◌, ◌-◌, ◌++◌, ◌∙◌, List, ℕ, true, false, Bool, ap, arith, drop, get_or, length}
+use Rattle.std.proofs.Common.{length-append, refl, sym}
 use Rattle.std.proofs.Common.{subst, take, inl, inr}
 use Rattle.std.proofs.lemmas.List.{drop_all, drop-drop, take-append-drop}
 use Rattle.std.specs.Prelude.{◌⊎◌}
@@ -76,7 +77,8 @@ limit_most false = omega arith
 
 -- the byte before `at` has no room any more
 pub tailing_full : (facts : List ℕ) (before size whole taken d : ℕ) (has_line : Bool) → Tailing facts (before + 1) size whole taken →
-    limit has_line < size + width (get_or facts before d) → (has_line ≡ false → whole ≡ length facts) → (has_line ≡ true → whole < length facts) →
+    limit has_line < size + width (get_or facts before d) → (has_line ≡ false → whole ≡ length facts) →
+        (has_line ≡ true → whole < length facts) →
     IsBack facts whole
 tailing_full facts before size whole taken d has_line c full none some = record {
   within = c.inside;

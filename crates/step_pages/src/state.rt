@@ -128,7 +128,8 @@ fn state_value(alloc: Global, state: &RunState, behind: usize) -> Result<Value, 
 }
 
 /// What cells and uniform variables hold behind the statement of this number, on a line: the values of the first cells and variables, of
-/// which all others are 0, and how many numbers were printed up to there. A page takes it where statements up to that one are left out. `AllocError`: memory was refused.
+/// which all others are 0, and how many numbers were printed up to there. A page takes it where statements up to that one are left out.
+/// `AllocError`: memory was refused.
 pub fn state_line(alloc: Global, state: &RunState, behind: usize) -> Result<String, AllocError>
     // The line is exactly the facts of cells, uniform variables and number of printed items behind a statement, and
     // read as JSON it is them again.

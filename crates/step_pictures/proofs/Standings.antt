@@ -139,7 +139,8 @@ pub column_stands : (layout : List SharedEntry) (text : List ℕ) (part : Part) 
     StandsIn (column (frame_of layout text part es) (column_of layout text part es j d) d.entry) (picture layout text part es)
 column_stands layout text part es j d at =
     let f = frame_of layout text part es in
-    stands_within (stands_behind (front_of f j) (stands (column f (column_at f j d.number) d.entry))) (with_front_stands layout text part es j d at)
+    stands_within (stands_behind (front_of f j) (stands (column f (column_at f j d.number) d.entry)))
+        (with_front_stands layout text part es j d at)
 
 -- ---- the last statement
 
@@ -272,7 +273,8 @@ box_stands layout text part es j d a i at one is has =
     ap (λ p. act_drawn_by layout rows c a p) is ∙ boxed layout rows c (place_of rows i) a (is_found rows i has) in
     let stands_there = acts_hold layout rows c (acts_in d.entry) one.0 a one.1 one.2 in
     let in_column : StandsIn (act_drawn layout rows c a) (column f c d.entry) =
-    stands_behind (heading text c (line_of d.entry)) (stands_before (all_met rows c (met_in d.entry) ++ missing_text rows c (acts_in d.entry)) stands_there) in
+    stands_behind (heading text c (line_of d.entry))
+        (stands_before (all_met rows c (met_in d.entry) ++ missing_text rows c (acts_in d.entry)) stands_there) in
     stands_within (subst (λ t. StandsIn t (column f c d.entry)) drawn_is in_column) (column_stands layout text part es j d at)
 
 -- the one outside pardo has no index, and the row of number 0
@@ -309,7 +311,8 @@ ending_stands layout text part es e =
     (subst (λ t. StandsIn (ending_of layout y e) (t ++ codes "</svg>\n")) (sym is)
     (stands_first (ending_of layout y e) (codes "</svg>\n")))))
 
-pub outline_stands : (layout : List SharedEntry) (text : List ℕ) (part : Part) (es : List Entry) (j : ℕ) (d : Numbered) (i : ℤ) → StandsAt es j d →
+pub outline_stands : (layout : List SharedEntry) (text : List ℕ) (part : Part) (es : List Entry) (j : ℕ) (d : Numbered) (i : ℤ) →
+    StandsAt es j d →
     Contains (met_in d.entry) i → Contains (rows_of es) i →
     StandsIn (outline (column_left j) (row_top (top_of layout text es j) (place_of (rows_of es) i + 1)) i) (picture layout text part es)
 outline_stands layout text part es j d i at one has =
@@ -328,7 +331,8 @@ more_is rows c n some = grind (arith, common_steps)
 
 pub more_told : (layout : List SharedEntry) (text : List ℕ) (part : Part) (es : List Entry) (j : ℕ) (d : Numbered) → StandsAt es j d →
     0 < missing (rows_of es) (acts_in d.entry) →
-    StandsIn (more_at (column_left j) (row_top (top_of layout text es j) (length (rows_of es) + 1) + 13) (missing (rows_of es) (acts_in d.entry)))
+    StandsIn (more_at (column_left j) (row_top (top_of layout text es j) (length (rows_of es) + 1) + 13)
+        (missing (rows_of es) (acts_in d.entry)))
     (picture layout text part es)
 more_told layout text part es j d at some =
     let f = frame_of layout text part es in
@@ -385,7 +389,8 @@ labels_hold : (rows : List ℤ) (i : ℤ) (top row : ℕ) → Contains rows i �
 labels_hold [] i top row c = let within = c.1 in absurd (omega (arith, within))
 labels_hold (x ∷ xs) i top row c = labels_by top row x xs i (int_eq x i) c.0 (labels_hold xs i top (row + 1)) refl c.1 c.2
 
-pub name_stands : (layout : List SharedEntry) (text : List ℕ) (part : Part) (es : List Entry) (j : ℕ) (d : Numbered) (i : ℤ) → StandsAt es j d →
+pub name_stands : (layout : List SharedEntry) (text : List ℕ) (part : Part) (es : List Entry) (j : ℕ) (d : Numbered) (i : ℤ) →
+    StandsAt es j d →
     Contains (rows_of es) i →
     StandsIn (label (label_line (top_of layout text es j) (place_of (rows_of es) i + 1)) i) (picture layout text part es)
 name_stands layout text part es j d i at has =

@@ -25,8 +25,8 @@ pub fn each_statement_has_a_column()
     ensures page { (j : ℕ) → column_left j + 64 ≤ 1200 }
 {}
 
-/// A processor that acts in a statement that is drawn, and has a row, has a box in that row of the column. A statement outside pardo has its
-/// box in the row of number 0.
+/// A processor that acts in a statement that is drawn, and has a row, has a box in that row of the column. A statement outside pardo has
+/// its box in the row of number 0.
 pub fn each_processor_has_a_box()
     // A processor that acts in a statement that is drawn, and has a row, has a box in that row of the column.
     ensures stands { (layout : List SharedEntry) (text : List ℕ) (part : Part) (es : List Entry) (j : ℕ) (d : Numbered) (a : Act) (i : ℤ) →
@@ -89,7 +89,8 @@ pub fn what_is_left_out_is_told()
     // Where not all statements are drawn, the number that stands there is that of all that aren't.
     ensures count { (es : List Entry) → length (drawn es) < length es → length (drawn es) + (length es - 112) ≡ length es }
     // Below each column stands how many of those that act in its statement have no row, where any has none.
-    ensures processors { (layout : List SharedEntry) (text : List ℕ) (part : Part) (es : List Entry) (j : ℕ) (d : Numbered) → StandsAt es j d →
+    ensures processors { (layout : List SharedEntry) (text : List ℕ) (part : Part) (es : List Entry) (j : ℕ) (d : Numbered) →
+        StandsAt es j d →
         0 < missing (rows_of es) (acts_in d.entry) →
         StandsIn (more_at (column_left j) (row_top (top_of layout text es j) (length (rows_of es) + 1) + 13)
         (missing (rows_of es) (acts_in d.entry))) (picture layout text part es) }

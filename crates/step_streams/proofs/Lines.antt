@@ -17,7 +17,8 @@ pub line_told : (a : Asked) (c : ℕ) (e : Entry) → is_told a.first a.last c �
 line_told a c e h = line_by a c e true h
 
 -- it isn't, and passes
-pub passes_by : (a : Asked) (c late : ℕ) (s t : Printing) (e : Entry) → is_told a.first a.last c ≡ false → late ≡ one_more a.last c → t ≡ s →
+pub passes_by : (a : Asked) (c late : ℕ) (s t : Printing) (e : Entry) → is_told a.first a.last c ≡ false → late ≡ one_more a.last
+    c → t ≡ s →
     Streams a c late s t (e ∷ [])
 passes_by a c late s t e h l same = record {
   counted = l;

@@ -1,10 +1,12 @@
 -- The parts of an expression have room where the whole has.
-use Rattle.std.proofs.Common.{◌≡◌, ℕ, List, [], ◌∷◌, ◌++◌, ◌+◌, ◌^◌, ◌<◌, ◌≤◌, refl, ap, sym, subst, ◌∙◌, Global, Box, Vec, take, drop, length, get_or, arith}
+use Rattle.std.proofs.Common.{◌≡◌, ℕ, List, [], ◌∷◌, ◌++◌, ◌+◌, ◌^◌, ◌<◌, ◌≤◌, refl, ap, sym, subst, ◌∙◌, Global, Box, Vec, take, drop}
+use Rattle.std.proofs.Common.{length, get_or, arith}
 use Rattle.std.proofs.lemmas.List.{take-append-drop}
 use Rattle.pram_names.specs.declared.body.Expression.{Chain, Expression}
 use Rattle.pram_names.specs.declared.body.Link.{Link}
 use Rattle.pram_tokens.specs.declared.token.Binary.{Binary}
-use Rattle.plain_form.specs.Formulas.{Formula, Zero, Number, Variable, Index, Local, Read, Before, Between, Pair, reads, positions, nesting, formula_of}
+use Rattle.plain_form.specs.Formulas.{Formula, Zero, Number, Variable, Index, Local, Read, Before, Between, Pair, reads, positions, nesting}
+use Rattle.plain_form.specs.Formulas.{formula_of}
 use Rattle.straight_lowering.specs.declared.cursor.Cursor.{Cursor}
 use Rattle.straight_lowering.specs.Cursors.{behind, chain_of, first_of, so_far}
 use Rattle.straight_lowering.specs.Room.{HasRoom, HasShortNames, height}
@@ -60,7 +62,8 @@ link_part e first links items i l is all h at =
 pub first_part : (e x : Expression) (first : Box Expression Global) (links : Vec Link Global) → e ≡ Chain first links → x ≡ first.value →
     IsPart (formula_of x) (formula_of e)
 first_part e x first links is at =
-    subst (λ f. IsPart f (formula_of e)) (first_is e first links is ∙ ap formula_of (sym at)) (so_far_part e first links links.items 0 is refl)
+    subst (λ f. IsPart f (formula_of e)) (first_is e first links is ∙ ap formula_of (sym at))
+        (so_far_part e first links links.items 0 is refl)
 
 pub part_room : (f g : Formula) (t b q : ℕ) → IsPart f g → HasRoom g t b q → HasRoom f t b q
 part_room f g t b q part room = record {

@@ -4,7 +4,8 @@ use Rattle.pram_names.specs.declared.body.Target.{Target}
 use Rattle.pram_names.specs.declared.body.Target.TheVariants as target
 use Rattle.pram_names.specs.declared.body.StepTarget.{StepTarget}
 use Rattle.pram_names.specs.declared.body.StepTarget.TheVariants as inner
-use Rattle.plain_form.specs.Formulas.{Formula, Zero, Number, Variable, Index, Local, Read, Before, Between, Pair, reads, positions, formula_of}
+use Rattle.plain_form.specs.Formulas.{Formula, Zero, Number, Variable, Index, Local, Read, Before, Between, Pair, reads, positions}
+use Rattle.plain_form.specs.Formulas.{formula_of}
 use Rattle.plain_form.specs.Groups.{stack}
 
 -- at most so many registers of the stack

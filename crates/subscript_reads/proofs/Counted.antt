@@ -1,5 +1,6 @@
 -- How many cells are read along the trails of attempts.
-use Rattle.std.proofs.Common.{◌≡◌, ℕ, ◌+◌, [], ◌∷◌, ◌++◌, length, length-append, Bool, true, false, Ok, Err, Option, Some, None, ℤ, pos, refl, ap, arith}
+use Rattle.std.proofs.Common.{◌≡◌, ℕ, ◌+◌, [], ◌∷◌, ◌++◌, length, length-append, Bool, true, false, Ok, Err, Option, Some, None, ℤ, pos}
+use Rattle.std.proofs.Common.{refl, ap, arith}
 use Rattle.pram_model.specs.Layout.{cell_of}
 use Rattle.pram_values.specs.Value.{Value}
 use Rattle.pram_names.specs.declared.body.Expression.{Expression, Number, Uniform, Index, Local, Cell, Element', Prefix', Chain'}
@@ -8,7 +9,8 @@ use Rattle.pram_names.specs.declared.body.Target.TheVariants as target
 use Rattle.pram_names.specs.declared.body.StepTarget.TheVariants as step
 use Rattle.pram_meaning.specs.Operation.{operate, operate_before}
 use Rattle.pram_meaning.specs.Store.{View}
-use Rattle.pram_meaning.specs.Attempt.{Attempt, Effect, Gives, Fails, Trail, and_then, attempt, attempt_links, attempt_value, operation, read}
+use Rattle.pram_meaning.specs.Attempt.{Attempt, Effect, Gives, Fails, Trail, and_then, attempt, attempt_links, attempt_value, operation}
+use Rattle.pram_meaning.specs.Attempt.{read}
 use Rattle.pram_meaning.specs.Attempt.{unwritten, write}
 use Rattle.subscript_reads.specs.Asides.{asides, row_asides}
 use Rattle.subscript_reads.specs.Told.{EachOfAssignments, EachOfBounds, EachOfExpressions, EachOfSteps, reads_in}

@@ -9,7 +9,8 @@ use Rattle.pram_names.specs.declared.body.Step.{Step, Row_of-Step, end_of-Step, 
 use Rattle.pram_names.specs.declared.body.Step.{items_hidden-the_row-Step-0}
 use Rattle.pram_names.specs.declared.body.Step.TheBlock.{hidden-the_row-Step-0}
 use Rattle.pram_names.specs.declared.body.Statement as statement
-use Rattle.pram_names.specs.declared.body.Statement.{Statement, Row_of-Statement, end_of-Statement, more_of-Statement, items-the_row-Statement}
+use Rattle.pram_names.specs.declared.body.Statement.{Statement, Row_of-Statement, end_of-Statement, more_of-Statement}
+use Rattle.pram_names.specs.declared.body.Statement.{items-the_row-Statement}
 use Rattle.pram_names.specs.declared.body.Statement.{items_hidden-the_row-Statement-0}
 use Rattle.pram_names.specs.declared.body.Statement.TheBlock.{hidden-the_row-Statement-0}
 use Rattle.subscript_reads.specs.Asides.{asides, bounds_asides, here_or_none, row_at, statement_at, statements_at, step_at, step_row_at}

@@ -1,5 +1,6 @@
 -- A block that is told to be open has no end.
-use Rattle.std.proofs.Common.{◌≡◌, ◌∙◌, ◌++◌, ◌∷◌, ◌-◌, [], true, false, Bool, List, ℕ, zero, suc, ap, append_assoc, arith, cond, inl, inr, length, refl, subst, sym, take, ⊎_elim}
+use Rattle.std.proofs.Common.{◌≡◌, ◌∙◌, ◌++◌, ◌∷◌, ◌-◌, [], true, false, Bool, List, ℕ, zero, suc, ap, append_assoc, arith, cond, inl, inr}
+use Rattle.std.proofs.Common.{length, refl, subst, sym, take, ⊎_elim}
 use Rattle.std.specs.Prelude.{◌⊎◌, Option, Some, None, Result, Ok, Err, position}
 use Rattle.std.specs.List.{slice_get}
 use Rattle.std.specs.Option.{option_map, option_or}
@@ -18,7 +19,8 @@ use Rattle.syntax_hints.specs.declared.hint.Hint.TheVariants.{Nothing, Habit, Op
 use Rattle.syntax_hints.specs.declared.sign.Sign.TheVariants as sign
 use Rattle.syntax_hints.specs.Blocks.{behind, behind_all, closed, open_blocks}
 use Rattle.syntax_hints.specs.Habits.{before_habit, habit_of}
-use Rattle.syntax_hints.specs.Hints.{IsAt, IsBy, IsHint, IsHintOf, IsKnownOr, before, begin_hint, block_hint, closed_last, is_begin, known, last_of}
+use Rattle.syntax_hints.specs.Hints.{IsAt, IsBy, IsHint, IsHintOf, IsKnownOr, before, begin_hint, block_hint, closed_last, is_begin, known}
+use Rattle.syntax_hints.specs.Hints.{last_of}
 use Rattle.syntax_hints.specs.Hints.{program_hint}
 use Rattle.syntax_hints.specs.OpenBlocks.{IsOpenBlock, IsOpenIn, Turn, Opens, Closes, Keeps, ends_among, ends_by, turn, turn_of}
 use Rattle.syntax_hints.specs.Signs.{could}
@@ -100,7 +102,8 @@ record WasThere (blocks : List Block) (front above : List Block) (b : Block) : T
 abbrev IsNewOrOld : (blocks front above : List Block) → (new b : Block) → Type 0
 IsNewOrOld blocks front above new b = ((above ≡ []) × (b ≡ new)) ⊎ WasThere blocks front above b
 
-new_or_old : (front blocks above : List Block) (new b : Block) → blocks ++ new ∷ [] ≡ front ++ b ∷ above → IsNewOrOld blocks front above new b
+new_or_old : (front blocks above : List Block) (new b : Block) → blocks ++ new ∷ [] ≡ front ++ b ∷ above → IsNewOrOld blocks front
+    above new b
 new_or_old [] [] above new b e = inl (cc e, cc e)
 new_or_old [] (x ∷ blocks) above new b e =
     let rest : blocks ++ new ∷ [] ≡ above = cc e in
@@ -112,7 +115,8 @@ new_or_old (f ∷ front) (x ∷ blocks) above new b e =
     let rest : blocks ++ new ∷ [] ≡ front ++ b ∷ above = cc e in
     let same : x ≡ f = cc e in
     ⊎_elim (λ new. inl new)
-    (λ old. inr (record { earlier = old.earlier; whole = ap (λ l. x ∷ l) old.whole ∙ ap (λ z. z ∷ front ++ b ∷ old.earlier) same; one_more = old.one_more }))
+    (λ old. inr (record { earlier = old.earlier; whole = ap (λ l. x ∷ l) old.whole ∙ ap (λ z. z ∷ front ++ b ∷ old.earlier) same; one_more =
+        old.one_more }))
     (new_or_old front blocks above new b rest)
 
 -- ---- over tokens
@@ -210,7 +214,8 @@ module _ (c : Cut) (found : List Choice) (o : Opening) (begins : ℕ) where
   no_begin None e = no_program (position is_begin c.tokens) e
   no_begin (Some b) e = cc e
 
-  by_block : (last : Option Block) → last_of (open_blocks c.tokens) ≡ last → Open o begins ≡ block_hint c last → IsOpenBlock c.tokens o begins
+  by_block : (last : Option Block) → last_of (open_blocks c.tokens) ≡ last → Open o begins ≡ block_hint c last → IsOpenBlock
+      c.tokens o begins
   by_block None is e = absurd (no_begin (closed_last c.tokens) e)
   by_block (Some b) is e =
       let kind : b.opening ≡ o = cc e in
@@ -240,7 +245,8 @@ module _ (c : Cut) (found : List Choice) (o : Opening) (begins : ℕ) where
   by_count zero e = absurd (cc e)
   by_count (suc n) e = at_place (suc n) (slice_get c.tokens n) (slice_get c.tokens (suc n)) e
 
-of_cut : (r : Result Cut ℕ) (at : ℕ) (found : List Choice) (o : Opening) (begins : ℕ) → IsHintOf r at found (Open o begins) → IsOpenIn r o begins
+of_cut : (r : Result Cut ℕ) (at : ℕ) (found : List Choice) (o : Opening) (begins : ℕ) → IsHintOf r at found (Open o begins) → IsOpenIn
+    r o begins
 of_cut (Ok c) at found o begins e = by_count c found o begins (before at c.offsets) e
 of_cut (Err bad) at found o begins e = cc e
 

@@ -73,7 +73,8 @@ IsMissingHint c n found (Missing k behind) =
     IsWhatIsMissing (take n c.tokens) (take tried (drop n c.tokens)) found (Some k) × (behind ≡ slice_index c.offsets (n - 1))
 IsMissingHint c n found _ = ⊥
 
--- of a token behind another one, with the offsets of both: behind a whole program nothing could stand; and else what is written so elsewhere
+-- of a token behind another one, with the offsets of both: behind a whole program nothing could stand; and else what is written so
+-- elsewhere
 abbrev pub known : (before t : Token) → List Choice → (at_before at : ℕ) → Option Hint
 known b t [] at_before at = Some (Ended at_before)
 known b t (k ∷ found) at_before at =

@@ -215,7 +215,8 @@ fn token_hint(
     requires real { AreReal tokens.old.items }
     requires within { count < length tokens.old.items }
     requires some { 0 < count }
-    ensures { IfOk result (λ hint. (b t : Token) → slice_get tokens.old.items (count - 1) ≡ Some b → slice_get tokens.old.items count ≡ Some t →
+    ensures { IfOk result (λ hint. (b t : Token) → slice_get tokens.old.items (count - 1) ≡ Some b → slice_get tokens.old.items count
+        ≡ Some t →
         spec.IsAmong (cut tokens.old.items offsets.now) count b t found.now hint) }
 {
     let (at_before, at) = (offset_at(offsets, count - 1), offset_at(offsets, count));

@@ -1,5 +1,6 @@
 -- Names that are escaped byte by byte, and that no control byte is left in them.
-use Rattle.std.proofs.Common.{◌≡◌, ◌∙◌, ◌<◌, ◌≤◌, ◌+◌, ◌/◌, ◌%◌, ◌++◌, ◌∷◌, ◌||◌, [], Bool, true, false, List, ℕ, ap, arith, codes, drop, get_or}
+use Rattle.std.proofs.Common.{◌≡◌, ◌∙◌, ◌<◌, ◌≤◌, ◌+◌, ◌/◌, ◌%◌, ◌++◌, ◌∷◌, ◌||◌, [], Bool, true, false, List, ℕ, ap, arith, codes, drop}
+use Rattle.std.proofs.Common.{get_or}
 use Rattle.std.proofs.Common.{if◌then◌else◌, ◌==◌, length, nat_lt, refl, sym}
 use Rattle.std.proofs.lemmas.Bool.{eqb-true, le-ltb, ltb-true, ne_eqb}
 use Rattle.std.proofs.lemmas.Nat.{div_below, mod_below}

@@ -6,7 +6,8 @@ use Rattle.text_out.specs.Out.{OutState, StopsIn, Writes, with_bytes}
 use Rattle.text_out.proofs.Writing.{stops_before, stops_behind, writes_stopped, writes_then}
 
 -- the writer stopped in the first of the two pieces of a text, by an error that is handed on
-pub stops_in_first : {E : Type 0} (old new : OutState) (all a b : List ℕ) (r : Result Unit E) (P : E → Type 0) → all ≡ a ++ b → IsErrAnd r P →
+pub stops_in_first : {E : Type 0} (old new : OutState) (all a b : List ℕ) (r : Result Unit E) (P : E → Type 0) → all ≡ a ++ b →
+    IsErrAnd r P →
     StopsIn old new a → Writes old new all r
 stops_in_first old new all a b r P whole is stops =
     writes_stopped old new all r P is (subst (StopsIn old new) (sym whole) (stops_before b stops))

@@ -14,7 +14,8 @@ use Rattle.pram_trees.specs.declared.level.Level.{Level}
 use Rattle.pram_trees.specs.declared.level.Level.TheVariants as level
 use Rattle.pram_trees.specs.Machine.{Accepted, SyntaxAt, TooDeepAt, may_end, on_move, step, verdict}
 use Rattle.pram_trees.specs.Symbols.{Stack, Operand, Rest, Subscript, Want, WantRule, WantName, WantNumber, WantAtMost, Declarations}
-use Rattle.pram_trees.specs.Symbols.{AfterShared, Statements, AfterName, ForHead, ForName, Else, Locals, Move, Next, Refused, TooDeep, enter}
+use Rattle.pram_trees.specs.Symbols.{AfterShared, Statements, AfterName, ForHead, ForName, Else, Locals, Move, Next, Refused, TooDeep}
+use Rattle.pram_trees.specs.Symbols.{enter}
 
 -- two names of which both are rules' words or neither is, two numbers, or one word at two places
 pub data Alike : Token → Token → Type 0 where
@@ -45,7 +46,8 @@ number_enters level.Term d m n k = refl
 number_enters level.Unary d m n k = refl
 number_enters level.Atom d m n k = refl
 
-opening_enters : (l : Level) (d : ℕ) (o : Opening) (a b : Location) (k : Stack) → enter l d (token.Opening o a) k ≡ enter l d (token.Opening o b) k
+opening_enters : (l : Level) (d : ℕ) (o : Opening) (a b : Location) (k : Stack) → enter l d (token.Opening o a) k ≡ enter l d
+    (token.Opening o b) k
 unfolding enter
 opening_enters level.Expression d o a b k = refl
 opening_enters level.Conjunction d o a b k = refl
@@ -56,7 +58,8 @@ opening_enters level.Term d o a b k = refl
 opening_enters level.Unary d o a b k = refl
 opening_enters level.Atom d o a b k = refl
 
-name_step : (k : Stack) (x y : Name) → is_one_of rule_words x.text ≡ is_one_of rule_words y.text → step k (token.Name x) ≡ step k (token.Name y)
+name_step : (k : Stack) (x y : Name) → is_one_of rule_words x.text ≡ is_one_of rule_words y.text → step k (token.Name x) ≡ step k
+    (token.Name y)
 name_step [] x y is = refl
 name_step (Operand l d ∷ k) x y is = name_enters l d x y k
 name_step (Rest l d ∷ k) x y is = name_step k x y is

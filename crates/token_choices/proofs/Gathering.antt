@@ -20,7 +20,8 @@ gathered_told front all found i d below could g =
     record {
       goes_on = λ more t.
           subst (Told front all) (sym (append_assoc found (k ∷ []) more))
-          (g.goes_on (k ∷ more) (subst (λ l. Told front l (k ∷ more)) (sym (drop_more all i d below)) (told k (drop (i + 1) all) more could t)));
+          (g.goes_on (k ∷ more) (subst (λ l. Told front l (k ∷ more)) (sym (drop_more all i d below))
+              (told k (drop (i + 1) all) more could t)));
     }
 
 pub gathered_left_out : (front : List Token) (all found : List Choice) (i : ℕ) (d : Choice) → i < length all →
@@ -40,6 +41,7 @@ pub is_not_so : (b : Bool) (P : Type 0) → Decides b P → b ≡ false → P �
 is_not_so true P so is = absurd (cc is)
 is_not_so false P so is = so
 
-pub gathered_all : (front : List Token) (all found : List Choice) (i : ℕ) → length all ≤ i → Gathered front all found i → Told front all found
+pub gathered_all : (front : List Token) (all found : List Choice) (i : ℕ) → length all ≤ i → Gathered front all found i → Told
+    front all found
 gathered_all front all found i past g =
     subst (Told front all) (append-nil found) (g.goes_on [] (subst (λ l. Told front l []) (sym (drop_all i all past)) over))

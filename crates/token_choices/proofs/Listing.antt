@@ -22,7 +22,8 @@ pub listed_next : (ks : List Choice) (i others after : ℕ) (d : Choice) → i <
     listed (drop i ks) ≡ among (get_or ks i d) after ++ listed (drop (i + 1) ks)
 listed_next ks i others after d below counted less = listed_at ks i after d below (omega (arith, counted, less))
 
-pub listed_more : (old now new : OutState) (ks : List Choice) (i others after : ℕ) (d : Choice) → Listing old now ks i others → i < length ks →
+pub listed_more : (old now new : OutState) (ks : List Choice) (i others after : ℕ) (d : Choice) → Listing old now ks i others → i <
+    length ks →
     after + 1 ≡ others → new ≡ with_bytes now (among (get_or ks i d) after) → Listing old new ks (i + 1) after
 listed_more old now new ks i others after d l below less written =
     let c : others + i ≡ length ks = l.counted in

@@ -23,9 +23,11 @@ pub columns_at : (workers most : ℕ) (lines : List ℕ) (es : List Exchange) (i
     column workers most (i + 1) line (exchange_at es (i + 1)) ++ columns_from workers most lines (i + 1 + 1) (drop (i + 1) (drawn es))
 columns_at workers most lines es i line below is =
     ap (columns_from workers most lines (i + 1)) (drop_more (drawn es) i no_exchange below)
-    ∙ ap (λ e. column workers most (i + 1) (line_of lines (i + 1)) e ++ columns_from workers most lines (i + 1 + 1) (drop (i + 1) (drawn es)))
+    ∙ ap (λ e. column workers most (i + 1) (line_of lines (i + 1)) e ++ columns_from workers most lines (i + 1 + 1)
+        (drop (i + 1) (drawn es)))
     (same_exchange es i (few_drawn es i below))
-    ∙ ap (λ l. column workers most (i + 1) l (exchange_at es (i + 1)) ++ columns_from workers most lines (i + 1 + 1) (drop (i + 1) (drawn es)))
+    ∙ ap (λ l. column workers most (i + 1) l (exchange_at es (i + 1)) ++ columns_from workers most lines (i + 1 + 1)
+        (drop (i + 1) (drawn es)))
     (sym is)
 
 at_most : (es : List Exchange) (i : ℕ) → i < length es → relation_of (get_or es i no_exchange) ≤ most_words es
@@ -41,7 +43,8 @@ column_fits es i below =
     omega (arith, h, same)
 
 -- with the exchanges that are left, the most so far comes to the most of all
-pub most_more : (es : List Exchange) (i now next h : ℕ) → i < length (drawn es) → max now (most_words (drop i (drawn es))) ≡ most_words (drawn es) →
+pub most_more : (es : List Exchange) (i now next h : ℕ) → i < length (drawn es) → max now (most_words (drop i (drawn es))) ≡ most_words
+    (drawn es) →
     h ≡ relation_of (exchange_at es (i + 1)) → next ≡ max now h → max next (most_words (drop (i + 1) (drawn es))) ≡ most_words (drawn es)
 most_more es i now next h below all is more =
     let step = ap most_words (drop_more (drawn es) i no_exchange below) in
@@ -57,7 +60,8 @@ pub no_workers : (es : List Exchange) → length es ≡ 0 → 0 ≡ workers_of e
 no_workers [] h = refl
 no_workers (e ∷ es) h = omega (arith, h)
 
-pub first_workers : (es : List Exchange) (n : ℕ) → ¬ (length es ≡ 0) → ((k : ℕ) → 1 ≤ k → k ≤ length es → length (exchange_at es k).sent ≡ n) →
+pub first_workers : (es : List Exchange) (n : ℕ) → ¬ (length es ≡ 0) →
+    ((k : ℕ) → 1 ≤ k → k ≤ length es → length (exchange_at es k).sent ≡ n) →
     n ≡ workers_of es
 first_workers [] n h is = absurd (h refl)
 first_workers (e ∷ es) n h is = sym (is 1 (omega arith) (omega arith))

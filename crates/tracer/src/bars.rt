@@ -95,7 +95,8 @@ fn write_bar<W: Out>(
 
 fn write_sent_bar<W: Out>(out: &mut W, scale: Scale, share: Share) -> Result<(), WriteFault>
     requires words { share.words ≤ scale.most }
-    ensures written { Writes (W.Out.state out.old) (W.Out.state out.new) (spec.sent_bar scale.most scale.x share.worker share.words) result }
+    ensures written { Writes (W.Out.state out.old) (W.Out.state out.new) (spec.sent_bar scale.most scale.x share.worker
+        share.words) result }
 {
     let height = bar_height(scale.most, share.words);
     let bar = Bar {

@@ -191,8 +191,8 @@ fn write_measured<W: Out>(
 /// Writes a picture of a run's exchanges, as SVG 1.1: a column for each of the first 200, with its number from 1, what it was for, the line
 /// of the statement that it serves where `lines` has one for it, and its h, the most words that one worker sent or received in it. In it
 /// each worker has a full bar up for the words that it sent, and a striped one down for those that it received, in proportion to the most
-/// of all, by a scale on the left; below stands its number. The last line of text is `outcome`, in which a byte that is no printed letter of
-/// ASCII is a question mark. `WriteFault` (E17) says that the writer failed; what it took is a beginning of the picture.
+/// of all, by a scale on the left; below stands its number. The last line of text is `outcome`, in which a byte that is no printed letter
+/// of ASCII is a question mark. `WriteFault` (E17) says that the writer failed; what it took is a beginning of the picture.
 pub fn write_picture<W: Out>(
     counts: &Counts,
     lines: &[u32],

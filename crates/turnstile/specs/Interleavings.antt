@@ -11,7 +11,8 @@ use Rattle.turnstile.specs.declared.views.Message.{Message}
 use Rattle.turnstile.specs.declared.views.Worker.{Worker}
 use Rattle.turnstile.specs.declared.views.View.{View}
 use Rattle.turnstile.specs.Blocks.{TwoBlocks}
-use Rattle.turnstile.specs.Turns.{message, message_of, blank, entry, slot, saw, phase, HasTaken, Homes, Carried, Sound, seated, looked, finished}
+use Rattle.turnstile.specs.Turns.{message, message_of, blank, entry, slot, saw, phase, HasTaken, Homes, Carried, Sound, seated, looked}
+use Rattle.turnstile.specs.Turns.{finished}
 use Rattle.turnstile.specs.Turns.{looks_at, finishes}
 use Rattle.turnstile.specs.Loads.{RowPlaced, ColumnPlaced, loaded, homes_with}
 

@@ -125,7 +125,8 @@ module _ (code : SuperstepCode) (m : Shape) (bound : ℕ) (is_code : IsCode code
 
   module _ (t : Setting) (s : machine.State) (place : ℕ) (z : Worker) (way : s.way ≡ way_is a.way)
       (worker : ShowsWorker t a.steps.bank.worker moved z) where
-    at_ready : (stop : StretchEnd) → IsAtReady t a.steps.bank.worker (stopped_at stop moved) (machine.ready_at s (At (stop_is stop) y.place z))
+    at_ready : (stop : StretchEnd) → IsAtReady t a.steps.bank.worker (stopped_at stop moved)
+        (machine.ready_at s (At (stop_is stop) y.place z))
     at_ready ends.Send = record {
       purpose = refl;
       way = way;
@@ -160,7 +161,8 @@ module _ (code : SuperstepCode) (m : Shape) (bound : ℕ) (is_code : IsCode code
       omega (arith, within, held)
 
   -- the state at the exchange
-  at_next : (stop : StretchEnd) → ArrivesAt code bound (stop_is stop) a.steps y → IsSameBank a.steps.bank y.bank → (n : ℕ) (s : machine.State) →
+  at_next : (stop : StretchEnd) → ArrivesAt code bound (stop_is stop) a.steps y → IsSameBank a.steps.bank y.bank → (n : ℕ)
+      (s : machine.State) →
       most_instructions code bound < n → IsShown (setting code m bound n) a.steps.bank.worker a s →
       IsAtExchange (setting code m bound n) a.steps.bank.worker (stopped_at stop moved) s
   at_next stop arrives same n s enough sh =
@@ -188,7 +190,8 @@ module _ (code : SuperstepCode) (m : Shape) (bound : ℕ) (is_code : IsCode code
         taken = λ j. ap (λ l. slice_index_or l j []) k.carried.taken ∙ sh.worker.taken j;
       }) stop)
 
-  pub arrived : (stop : StretchEnd) → ArrivesAt code bound (stop_is stop) a.steps y → StandsAt code bound (stop_is stop) y → IsFitted code y →
+  pub arrived : (stop : StretchEnd) → ArrivesAt code bound (stop_is stop) a.steps y → StandsAt code bound (stop_is stop) y →
+      IsFitted code y →
       IsVerifiedAt code y → y.uniform.count ≤ bound → IsSameBank a.steps.bank y.bank →
       rank code bound y ≤ rank code bound a.steps →
       HasArrived code m bound a (stopped_at stop moved)

@@ -1,5 +1,6 @@
 -- A worker before the first instruction.
-use Rattle.std.proofs.Common.{◌≡◌, ℕ, suc, ◌+◌, ◌-◌, ◌*◌, ◌/◌, ◌^◌, ◌<◌, ◌≤◌, List, [], ◌∷◌, map, length, get_or, refl, sym, ap, subst, ◌∙◌, arith, ℤ, pos, FitsSigned}
+use Rattle.std.proofs.Common.{◌≡◌, ℕ, suc, ◌+◌, ◌-◌, ◌*◌, ◌/◌, ◌^◌, ◌<◌, ◌≤◌, List, [], ◌∷◌, map, length, get_or, refl, sym, ap, subst, ◌∙◌}
+use Rattle.std.proofs.Common.{arith, ℤ, pos, FitsSigned}
 use Rattle.std.specs.Prelude.{slice_index_or}
 use Rattle.std.specs.List.{range_with_len}
 use Rattle.std.specs.Int.{w64}
@@ -56,7 +57,8 @@ module _ (code : SuperstepCode) (m : Shape) (input : List ℤ) (x : Local) (valu
     place = sym place;
     clear = refl;
     worker = record {
-      shows = shows (map (λ c. slice_index_or input c (pos 0)) (map (m.cell x.steps.bank.worker) (range_with_len 0 (m.width x.steps.bank.worker))));
+      shows = shows (map (λ c. slice_index_or input c (pos 0))
+          (map (m.cell x.steps.bank.worker) (range_with_len 0 (m.width x.steps.bank.worker))));
       cells = sym cells;
       sent = sent;
       taken = λ j. none_asked m x.steps.bank.worker (column (words_of x.asked.items) j) (asked j);

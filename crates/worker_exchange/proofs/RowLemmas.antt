@@ -21,7 +21,8 @@ one_filled message row after j x l e is h i k =
     (λ (same : i ≡ j). ap (message_at (slice_set row j x)) same ∙ get_or-set_same row j x unwritten l ∙ is ∙ ap message (sym same))
     (λ (apart : i ≡ j → ⊥). get_or-set_other row j i x unwritten apart ∙ h i (omega (arith, k, apart))) (cases_eq i j)
 
-pub still_long : (row after : List WrittenMessage) (j p : ℕ) (x : WrittenMessage) → after ≡ slice_set row j x → length row ≡ p → length after ≡ p
+pub still_long : (row after : List WrittenMessage) (j p : ℕ) (x : WrittenMessage) → after ≡ slice_set row j x → length row ≡ p →
+    length after ≡ p
 still_long row after j p x e l = ap length e ∙ length-set row j x ∙ l
 
 -- a message that has room is filled in

@@ -32,7 +32,8 @@ one_cleared columns j w l none h i k =
     (λ (apart : j ≡ i → ⊥). changed_elsewhere items columns j i w [] apart ∙ h i (omega (arith, k, apart))) (cases_eq j i)
 
 -- the words of a list are those of its place
-pub words_at : (columns : List Words) (j : ℕ) (v : Words) → j < length columns → v ≡ get_or columns j v → column (words_of columns) j ≡ v.items
+pub words_at : (columns : List Words) (j : ℕ) (v : Words) → j < length columns → v ≡ get_or columns j v → column (words_of columns)
+    j ≡ v.items
 words_at columns j v l is = item_of items columns j v [] l is
 
 some_words : (rule : Rule) → 0 < put_length rule

@@ -1,5 +1,6 @@
 -- The conflicts that a module notes.
-use Rattle.std.proofs.Common.{◌≡◌, ℕ, suc, ◌+◌, ◌<◌, ◌≤◌, List, [], ◌∷◌, map, length, get_or, drop, take, true, false, Option, Some, None, refl, sym, ap, ◌∙◌, arith}
+use Rattle.std.proofs.Common.{◌≡◌, ℕ, suc, ◌+◌, ◌<◌, ◌≤◌, List, [], ◌∷◌, map, length, get_or, drop, take, true, false, Option, Some, None}
+use Rattle.std.proofs.Common.{refl, sym, ap, ◌∙◌, arith}
 use Rattle.std.proofs.lemmas.List.{drop_more}
 use Rattle.std.specs.Prelude.{if◌then◌else◌, ◌&&◌}
 use Rattle.pram_values.specs.Total.{total}
@@ -44,7 +45,8 @@ uniform_silent column (c ∷ cells) k read e = λ i.
 -- one read more
 pub more_reads : (column : List Message) (cells : List ℕ) (reads : List HeldRead) (k : ℕ) (d : HeldRead) → k < length reads →
     read_conflicts column cells k (map read_is (drop k reads))
-    ≡ least (read_conflict column cells k (read_is (get_or reads k d))) (read_conflicts column cells (k + 1) (map read_is (drop (k + 1) reads)))
+    ≡ least (read_conflict column cells k (read_is (get_or reads k d)))
+        (read_conflicts column cells (k + 1) (map read_is (drop (k + 1) reads)))
 more_reads column cells reads k d l = ap (λ rs. read_conflicts column cells k (map read_is rs)) (drop_more reads k d l)
 
 -- the parts of all messages
@@ -104,7 +106,8 @@ none_noted column cells k (read ∷ rest) none =
     none_noted column cells (k + 1) rest none ∙ sym (ap (λ q. least q (read_conflicts column cells (k + 1) rest)) (none k read))
 
 -- one read more is noted
-pub more_noted : (column : List Message) (cells : List ℕ) (reads : List HeldRead) (k above : ℕ) (d : HeldRead) (key noted result : Option Key) →
+pub more_noted : (column : List Message) (cells : List ℕ) (reads : List HeldRead) (k above : ℕ) (d : HeldRead)
+    (key noted result : Option Key) →
     above ≡ k + 1 → k < length reads → result ≡ least key noted → key ≡ read_conflict column cells k (read_is (get_or reads k d)) →
     noted ≡ read_conflicts column cells above (map read_is (drop above reads)) →
     result ≡ read_conflicts column cells k (map read_is (drop k reads))

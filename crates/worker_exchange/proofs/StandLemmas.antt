@@ -59,7 +59,8 @@ abbrev Decides : Purpose → UniformPart → Option Key → Way → Way → Type
 Decides purpose u key way new = way_is new ≡ machine.decided (purpose_is purpose) u key (way_is way)
 
 -- what goes on went on
-went_on : (purpose : Purpose) (u : UniformPart) (key : Option Key) (way new : Way) → Decides purpose u key way new → new ≡ ways.On → way ≡ ways.On
+went_on : (purpose : Purpose) (u : UniformPart) (key : Option Key) (way new : Way) → Decides purpose u key way new → new ≡ ways.On →
+    way ≡ ways.On
 went_on purpose u key way new d e =
     on_is way (decided_same machine.On (λ k ended q. cc) (purpose_is purpose) u key (way_is way) (sym d ∙ ap way_is e))
   where

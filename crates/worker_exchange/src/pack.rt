@@ -46,7 +46,8 @@ pub fn pack_send<R: WriteRule, M: AddressMap>(
     requires counts { length counts.old ≡ (M.shape map.now).parts }
     // Each module's list has the words of what is held for it, the puts and then the asks, and the number of its puts
     // is told.
-    ensures written { AreWritten (R.WriteRule.rule rule.now) (M.shape map.now) puts.now.held asks.now.held (words_of columns.new) counts.new }
+    ensures written { AreWritten (R.WriteRule.rule rule.now) (M.shape map.now) puts.now.held asks.now.held (words_of columns.new)
+        counts.new }
     ensures rooms { each vec_capacity columns.new ≡ each vec_capacity columns.old }
 {
     clear_all(columns);

@@ -60,9 +60,11 @@ pub(crate) fn send_worker(steps: &mut WorkerState, sent: &mut Asks, noted: Optio
 /// Keeps the words of the asks of each message.
 pub(crate) fn keep_asks<R: WriteRule, C: Column>(rule: &R, column: &C, asked: &mut [Vec<u64>])
     requires workers { length (C.came column.now) ≡ length asked.old }
-    requires room { (j : ℕ) → j < length asked.old → length (message_at (C.came column.now) j).words ≤ room_at (each vec_capacity asked.old) j }
+    requires room { (j : ℕ) → j < length asked.old → length (message_at (C.came column.now) j).words ≤ room_at
+        (each vec_capacity asked.old) j }
     ensures words { (j : ℕ) → j < length asked.old → column_at (words_of asked.new) j
-        ≡ ask_part (R.WriteRule.rule rule.now) (read_header (message_at (C.came column.now) j).header) (message_at (C.came column.now) j).words }
+        ≡ ask_part (R.WriteRule.rule rule.now) (read_header (message_at (C.came column.now) j).header)
+            (message_at (C.came column.now) j).words }
     ensures rooms { each vec_capacity asked.new ≡ each vec_capacity asked.old }
 {
     'messages: for j in 0..asked.len() {

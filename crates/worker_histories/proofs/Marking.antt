@@ -40,7 +40,8 @@ any_more : (x : WrittenMessage) (xs : List WrittenMessage) → any_mark (x ∷ x
 any_more x xs = marked_worse (read_header x.header).mark (mark_heard xs)
 
 -- one of them has it
-pub found : (xs : List WrittenMessage) → any_mark xs ≡ true → (k : ℕ) × (x : WrittenMessage) × (slice_get xs k ≡ Some x) × (has_mark x ≡ true)
+pub found : (xs : List WrittenMessage) → any_mark xs ≡ true → (k : ℕ) × (x : WrittenMessage) × (slice_get xs k ≡ Some x) ×
+    (has_mark x ≡ true)
 found [] e = absurd (cc e)
 found (x ∷ xs) e =
     ⊎_elim (λ h. (zero, x, refl, h)) (λ h. let r = found xs h in (suc r.0, r.1, r.2, r.3))

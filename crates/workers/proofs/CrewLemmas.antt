@@ -123,7 +123,8 @@ module _ {T : Type 0} (done : T → RowState × CountedWorker → Type 0) where
   module _ (l : LineShape) (tasks : List T) (s : StarterState T) (reports : List (Report T)) (unsaid : Option (Vec T Global))
       (e : IsEnded done l tasks s reports unsaid) (many : length tasks ≡ l.runners) (runners : List (RunnerState T))
       (are : runners ≡ map (λ (r : Report T). r.runner) reports) where
-    report_at : (k : ℕ) (r : RunnerState T) → slice_get runners k ≡ Some r → (a : Report T) × (slice_get reports k ≡ Some a) × (a.runner ≡ r)
+    report_at : (k : ℕ) (r : RunnerState T) → slice_get runners k ≡ Some r → (a : Report T) × (slice_get reports k ≡ Some a) ×
+        (a.runner ≡ r)
     report_at k r g = mapped_at (λ (q : Report T). q.runner) reports k r (subst (λ xs. slice_get xs k ≡ Some r) are g)
 
     pub tables_are : (k : ℕ) (r : RunnerState T) → slice_get runners k ≡ Some r → r.table ≡ l.table
@@ -155,7 +156,8 @@ module _ {T : Type 0} (done : T → RowState × CountedWorker → Type 0) where
           let said = subst (λ b. IsSaid b tasks s.said unsaid) is e.said in
           all_done tasks reports (e.all is ∙ sym many) (λ k r g.
           let rep = e.reported k r g in
-          let hears = heard k r.runner (subst (λ xs. slice_get xs k ≡ Some r.runner) (sym are) (map_get (λ (q : Report T). q.runner) reports k r g)) in
+          let hears = heard k r.runner (subst (λ xs. slice_get xs k ≡ Some r.runner) (sym are) (map_get (λ (q : Report T). q.runner) reports
+              k r g)) in
           told_of tasks k r.runner r.played rep.2
           (subst (λ (z : Told (List T) × ℕ). Hears z.0 z.1 r.runner.heard) (λ i. (said.0 i, rep.1 i)) hears))
       done_by false is none =

@@ -58,7 +58,8 @@ all_last P [] x h = h.0
 all_last P (y ∷ xs) x h = all_last P xs x h.1
 
 -- one exchange more
-marks_more : (t : Setting) (w : ℕ) (q : Reserve) (made : ℕ) (s : State) (cs rows : List (List WrittenMessage)) (c row : List WrittenMessage) →
+marks_more : (t : Setting) (w : ℕ) (q : Reserve) (made : ℕ) (s : State) (cs rows : List (List WrittenMessage))
+    (c row : List WrittenMessage) →
     MarksWherePast t w q made s cs rows →
     IsMarked (is_past q (items_at t w (end_by (in_words t) w s cs)) (made + length cs)) row →
     MarksWherePast t w q made s (cs ++ c ∷ []) (rows ++ row ∷ [])
@@ -122,7 +123,8 @@ module _ (code : SuperstepCode) (m : Shape) (bound : ℕ) (states : ℕ → Stat
 
   row_is_marked : IsMarked (is_stopped mid.local.way) row
   row_is_marked = all_at (λ x. has_mark x ≡ is_stopped mid.local.way) row
-      (λ j l. row_marked code m bound states told w mid row at (suc (most_instructions code bound)) j (omega arith) (omega (arith, l, long)))
+      (λ j l. row_marked code m bound states told w mid row at (suc (most_instructions code bound)) j (omega arith)
+          (omega (arith, l, long)))
 
   pub behind_exchange : IsBehindExchange code m bound states told w row came new
   behind_exchange = record {

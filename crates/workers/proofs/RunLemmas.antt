@@ -33,7 +33,8 @@ module _ {A B : Type 0} where
       (slice_get xs k ≡ Some p.0) × (slice_get ys k ≡ Some p.1)
   zip_at [] ys k p e = absurd (cc)
   zip_at (x ∷ xs) [] k p e = absurd (cc)
-  zip_at (x ∷ xs) (y ∷ ys) zero p e = (let s : Option.Some (x, y) ≡ Some p = e in let q : (x, y) ≡ p = cc in (ap (λ z. Some z.0) q, ap (λ z. Some z.1) q))
+  zip_at (x ∷ xs) (y ∷ ys) zero p e = (let s : Option.Some (x, y) ≡ Some p = e in let q : (x, y) ≡ p = cc in
+      (ap (λ z. Some z.0) q, ap (λ z. Some z.1) q))
   zip_at (x ∷ xs) (y ∷ ys) (suc k) p e = zip_at xs ys k p e
 
   zip_long : (xs : List A) (ys : List B) → length ys ≡ length xs → length (zip xs ys) ≡ length xs
@@ -108,7 +109,8 @@ module _ {M : Type 0} (shape : M → Shape) (run : RunState M) (seats : List Row
   -- ---- behind the last one
 
   module _ (played : List (RowState × CountedWorker))
-      (all : Pairwise (λ (x : TaskState M) (y : RowState × CountedWorker). HasPlayed shape x y.0 y.1) (tasks_for run seats workers) played) where
+      (all : Pairwise (λ (x : TaskState M) (y : RowState × CountedWorker). HasPlayed shape x y.0 y.1) (tasks_for run seats workers)
+          played) where
     -- what came back from a place was made of the task of this place
     record MadeOf (k : ℕ) (y : RowState × CountedWorker) : Type 0 where
       pub seat : RowState
@@ -168,7 +170,8 @@ module _ {M : Type 0} (shape : M → Shape) (run : RunState M) (seats : List Row
             let told : ℕ → List Share = λ n. [] in
             record {
               workers = t.made.owner.workers ∙ (begin.fresh w t.seat t.seat_at).workers ∙ begin.parts;
-              worked = subst (λ v. HasWorked run.code m run.bound (λ n. opening (setting run.code m run.bound n) input w) told v y.0 y.1) order
+              worked = subst (λ v. HasWorked run.code m run.bound (λ n. opening (setting run.code m run.bound n) input w) told v y.0
+                  y.1) order
                   (t.made.worked (λ n. opening (setting run.code m run.bound n) input w) told
                   (subst (λ v. IsBetween run.code m run.bound (λ n. opening (setting run.code m run.bound n) input w) told v t.worker)
                   (sym order) (began input fresh w t.worker t.worker_at)));

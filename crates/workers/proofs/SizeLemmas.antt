@@ -1,5 +1,6 @@
 -- What a run that comes past a reserve comes to.
-use Rattle.std.proofs.Common.{◌≡◌, ℕ, zero, suc, ◌+◌, ◌-◌, ◌*◌, ◌<◌, ◌≤◌, ◌⊎◌, inl, inr, ⊎_elim, List, [], ◌∷◌, length, map, Bool, true, false}
+use Rattle.std.proofs.Common.{◌≡◌, ℕ, zero, suc, ◌+◌, ◌-◌, ◌*◌, ◌<◌, ◌≤◌, ◌⊎◌, inl, inr, ⊎_elim, List, [], ◌∷◌, length, map, Bool, true}
+use Rattle.std.proofs.Common.{false}
 use Rattle.std.proofs.Common.{Option, Some, None, ℤ, refl, sym, ap, ◌∙◌, subst, arith}
 use Rattle.std.specs.Prelude.{◌||◌, nat_lt, nat_le, if◌then◌else◌, slice_index_or}
 use Rattle.std.specs.List.{range_with_len, filter}
@@ -20,8 +21,10 @@ use Rattle.superstep_machine.specs.Worker.{Worker}
 use Rattle.superstep_machine.specs.Stretch.{ToSend, ToReply, ToVote, ToClose, Arrival, Nowhere, At}
 use Rattle.superstep_machine.specs.Machine.{Machine, phase, phases, run, column}
 use Rattle.superstep_machine.specs.Run as machine
-use Rattle.superstep_machine.specs.Run.{Sends, Replies, Votes, Closes, Purpose, Way, On, Ending, Past, Refused, Lost, State, Ready, ready, ready_at}
-use Rattle.superstep_machine.specs.Run.{ready_by, stretch, after, after_with, after_exchange, is_over, verdict_by, items_below, state_of, outcome_of}
+use Rattle.superstep_machine.specs.Run.{Sends, Replies, Votes, Closes, Purpose, Way, On, Ending, Past, Refused, Lost, State, Ready, ready}
+use Rattle.superstep_machine.specs.Run.{ready_at}
+use Rattle.superstep_machine.specs.Run.{ready_by, stretch, after, after_with, after_exchange, is_over, verdict_by, items_below, state_of}
+use Rattle.superstep_machine.specs.Run.{outcome_of}
 use Rattle.superstep_machine.specs.Run.{outcome_by, bsp, opening, setting, mark_now, mark_of, marks_later, cell_in, no_state}
 use Rattle.superstep_machine.specs.Trace.{Exchange, exchange_of, exchanges_from, exchanges_by, AreBspExchanges}
 use Rattle.bsp_verify.specs.Runs.{worker_after}

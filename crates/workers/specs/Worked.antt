@@ -49,8 +49,8 @@ module _ (code : SuperstepCode) (m : Shape) (bound : ℕ) where
   -- ---- one exchange
 
   -- From such states worker w sent this row, and this column came: it stops by a mark, or shows the states behind, and has counted it. A
-  -- worker with a reserve marks its row exactly where it is past that. It sends no mark but its own; and where no other came, it was stopped
-  -- by that.
+  -- worker with a reserve marks its row exactly where it is past that. It sends no mark but its own; and where no other came, it was
+  -- stopped by that.
   pub record IsBehindExchange (states : ℕ → State) (told : ℕ → List Share) (w : ℕ) (row column : List WrittenMessage)
       (x : CountedWorker) : Type 0 where
     pub marks : StopsByMarks row column (is_stopped x.local.way)

@@ -21,8 +21,9 @@ use turnstile::{RowSeat, Turnstile};
 use write_rules::Outcome;
 
 /// What the workers of one run come to, in their order, each with the seat at which it has played its part, and the exchanges that
-/// they counted, if each has kept those. It closes the turnstile in any case, and takes no memory. An error comes only where the workers have stopped, all of them at
-/// one exchange: `OutOfReserve` where they came past the reserve that they were given, `OutOfMemory` where memory was refused to one.
+/// they counted, if each has kept those. It closes the turnstile in any case, and takes no memory. An error comes only where the workers
+/// have stopped, all of them at one exchange: `OutOfReserve` where they came past the reserve that they were given, `OutOfMemory` where
+/// memory was refused to one.
 pub fn gather<M: AddressMap>(
     code: &Code,
     map: &M,

@@ -187,7 +187,8 @@ pub fn run_on_terms<R: Threads + Wait + Sync, M: AddressMap + Sync, G: Gate + Sy
     // The outcome is that of the machine's definition, whatever the threads' schedule.
     ensures outcome { IfOk result (λ found. IsBspOutcome verified.now (M.shape map.now) input.now terms.bound (verdict_of found.0)) }
     // The exchanges are those of the machine's definition, with the words that each worker sent and received.
-    ensures counts { IfOk result (λ found. AreBspExchanges verified.now (M.shape map.now) input.now terms.bound (verdict_of found.0) found.1) }
+    ensures counts { IfOk result (λ found. AreBspExchanges verified.now (M.shape map.now) input.now terms.bound (verdict_of found.0)
+        found.1) }
 {
     let (outcome, counts) = run_keeping(rt, alloc, verified, map, input, terms, true, gate)?;
     Ok((outcome, counts.unwrap()))
@@ -196,8 +197,8 @@ pub fn run_on_terms<R: Threads + Wait + Sync, M: AddressMap + Sync, G: Gate + Sy
 /// Runs verified code on an input by so many workers, within a bound on statements: what the run comes to, and its exchanges with the words
 /// of each. They are those of the machine of so many workers, in whatever order the threads get on. The first refusal that holds comes,
 /// before anything of the run is done; `OutOfMemory` comes where memory was refused, here, to any worker on the way, or for the start of a
-/// thread. What no clause says: a thread is started for each worker, each passes the gate before each exchange, and where a start is refused
-/// no worker begins.
+/// thread. What no clause says: a thread is started for each worker, each passes the gate before each exchange, and where a start is
+/// refused no worker begins.
 pub fn run_workers<R: Threads + Wait + Sync, M: AddressMap + Sync, G: Gate + Sync>(
     rt: &R,
     alloc: Global,

@@ -1,7 +1,8 @@
 // What each step tells. These types are for the proofs alone.
 ghost use Rattle.std.specs.Prelude.{[], false};
 ghost use Rattle.turnstile.specs.declared.start.told.Told.TheVariants.{Nothing};
-ghost use Rattle.turnstile.specs.Lines.{Line, starter, spent, holds_all, says_go, says_stop, listens, comes_back, next_starter, next_runner, takes_in};
+ghost use Rattle.turnstile.specs.Lines.{Line, starter, spent, holds_all, says_go, says_stop, listens, comes_back, next_starter};
+ghost use Rattle.turnstile.specs.Lines.{next_runner, takes_in};
 
 use crate::start::told::Part;
 use atomic_table::{Join, Play, Split, TableRule};

@@ -20,6 +20,7 @@ returns g c =
         between = c.receive.ensures.behind s.states s.told 0 _ (c.until_exchange.ensures.at s.states s.told 0 s.between);
       };
       two = f.two;
-      enough = subst (λ n. most_words c.args.code.now (g.M.AddressMap.shape c.args.map.now) ≤ n) (sym c.until_exchange.ensures.room) f.enough;
+      enough = subst (λ n. most_words c.args.code.now (g.M.AddressMap.shape c.args.map.now) ≤ n)
+          (sym c.until_exchange.ensures.room) f.enough;
       few = f.few;
     }

@@ -6,7 +6,8 @@ use Rattle.combining.specs.Held.{paired}
 use Rattle.combining.proofs.Ascents.{ascend_more}
 use Rattle.combining.proofs.AscendingAsks.{asks_next_cell, asks_next_none, none_of, asked_above, asked_last, above_more}
 use Rattle.combining.proofs.ascending.append_ascending.Goals as goal
-use Rattle.combining.proofs.ascending.append_ascending.Goals.{in-Some+then-least-next, in-Some+else-least-next+then-least-next-2, in_default}
+use Rattle.combining.proofs.ascending.append_ascending.Goals.{in-Some+then-least-next, in-Some+else-least-next+then-least-next-2}
+use Rattle.combining.proofs.ascending.append_ascending.Goals.{in_default}
 
 pub processors-preserved : goal.processors-preserved
 processors-preserved c =

@@ -1,4 +1,5 @@
-use Rattle.std.proofs.Common.{rules, ◌≡◌, ◌<◌, ◌+◌, ℕ, ℤ, FitsSigned, w64, to_z, of_z, Some, None, get_or, pos, length, length-set, ap, ◌∙◌, arith}
+use Rattle.std.proofs.Common.{rules, ◌≡◌, ◌<◌, ◌+◌, ℕ, ℤ, FitsSigned, w64, to_z, of_z, Some, None, get_or, pos, length, length-set, ap, ◌∙◌}
+use Rattle.std.proofs.Common.{arith}
 use Rattle.std.proofs.lemmas.Int.{to_z-of_z}
 use Rattle.combining.specs.Asked.{ask_key, value_by}
 use Rattle.combining.proofs.Chains.{place_found}

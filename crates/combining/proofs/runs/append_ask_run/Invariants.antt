@@ -13,5 +13,6 @@ invariant-asks g l =
       room : vec_capacity l.list ≡ vec_capacity l.fn.list;
       got : l.list.items ++ packed words_of (is_for at l.home) (drop l.i held)
           ≡ l.fn.list.items ++ packed words_of (is_for at l.home) (drop l.from held);
-      others : (j : ℕ) → (l.home ≡ j → ⊥) → packed words_of (is_for at j) (drop l.i held) ≡ packed words_of (is_for at j) (drop l.from held);
+      others : (j : ℕ) → (l.home ≡ j → ⊥) → packed words_of (is_for at j) (drop l.i held) ≡ packed words_of (is_for at j)
+          (drop l.from held);
     }

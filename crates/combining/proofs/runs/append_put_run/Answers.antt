@@ -1,4 +1,5 @@
-use Rattle.std.proofs.Common.{ℕ, subst, ◌≡◌, ◌<◌, ◌+◌, ◌++◌, ◌∷◌, [], length, drop, sym, ◌∙◌, arith, true, get_or, pos, length-append, refl, eqb}
+use Rattle.std.proofs.Common.{ℕ, subst, ◌≡◌, ◌<◌, ◌+◌, ◌++◌, ◌∷◌, [], length, drop, sym, ◌∙◌, arith, true, get_or, pos, length-append, refl}
+use Rattle.std.proofs.Common.{eqb}
 use Rattle.std.proofs.lemmas.List.{get_or_default}
 use Rattle.std.proofs.lemmas.Bool.{eq-eqb, ne_eqb}
 use Rattle.superstep_machine.specs.Words.{CellPut, put_words}

@@ -20,7 +20,8 @@ asks-init g c =
       room = refl;
       long = refl;
       rest = refl;
-      held = λ taken replies known there is words. ap (λ ts. take c.args.from held ++ all_replied at 0 (left_of_all ts 0 replies) (drop c.args.from held))
+      held = λ taken replies known there is words. ap (λ ts. take c.args.from held ++ all_replied at 0 (left_of_all ts 0 replies)
+          (drop c.args.from held))
           (ap (set taken c.args.home) (sym is) ∙ set-get_or taken c.args.home 0);
     }
 
@@ -83,7 +84,8 @@ asks-preserved g c =
                 ∙ ap (λ us. before ++ ask_at k (record { again = x0.again; value = cast_signed w64 (get_or reply n 0) })
                 ∷ all_replied at 0 (left_of_all us 0 replies) behind) (sym (set_again taken home n (n + 1)))
                 ∙ sym (ap (λ z. before ++ z) (ap (all_replied at 0 (left_of_all ts 0 replies)) more
-                ∙ one_taken at home ts n (get_or-set_same taken home n 0 known) q here as_long replies 0 home (omega arith) there some behind))
+                ∙ one_taken at home ts n (get_or-set_same taken home n 0 known) q here as_long replies 0 home (omega arith) there
+                    some behind))
                 ∙ inv.held taken replies known there is same;
           }))
       | else-n-words w ↦

@@ -28,5 +28,6 @@ returns c =
     let f = common_named c.args.first.now c.args.second.now in
     let rs = c.loop-part.ranges.items in
     sym (append-nil rs)
-    ∙ sym (ap (λ (xs : List CommonRange). rs ++ xs) (at_drop_all (filter_map f) (parts c.args.word.now) (length c.loop-part.yielded) (omega (arith, t.1))))
+    ∙ sym (ap (λ (xs : List CommonRange). rs ++ xs) (at_drop_all (filter_map f) (parts c.args.word.now) (length c.loop-part.yielded)
+        (omega (arith, t.1))))
     ∙ c.loop-part.invariant

@@ -10,7 +10,8 @@ loop-size-preserved g c =
     let file = c.args.file.now in
     let word = c.args.word.now in
     let row = row_held now before c.loop-size.invariant.1 file word c.args.words _ c.in_ok-row.row c.in_ok-row.ensures.row in (
-      next_row (IsRow before file word c.args.words) c.args.sizes.now c.loop-size.size-index _ c.loop-size.rows.items c.add_row.new.rows.items
+      next_row (IsRow before file word c.args.words) c.args.sizes.now c.loop-size.size-index _ c.loop-size.rows.items
+          c.add_row.new.rows.items
           c.in_ok-row.row c.loop-size-test.true c.loop-size.invariant.0 row c.in_ok-add_row.ensures,
       same_through before now (g.S.Sources.holds c.row_at.new.sources) c.row_at.ensures.same c.loop-size.invariant.1,
     )

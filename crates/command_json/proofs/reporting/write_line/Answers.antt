@@ -4,7 +4,8 @@ use Rattle.command_json.proofs.reporting.write_line.Goals as goal
 
 pub returns-then-is_ok : goal.returns-then-is_ok
 returns-then-is_ok g c = record {
-  written = reported _ _ _ _ _ c.write_all.result c.flush.result refl c.write_all.ensures.written c.if-is_ok.ensures.value c.flush.ensures.ok
+  written = reported _ _ _ _ _ c.write_all.result c.flush.result refl c.write_all.ensures.written c.if-is_ok.ensures.value
+      c.flush.ensures.ok
       c.flush.ensures.failed;
 }
 

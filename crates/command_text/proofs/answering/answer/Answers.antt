@@ -8,6 +8,7 @@ use Rattle.command_text.proofs.answering.answer.Goals as goal
 pub returns-in-Err : goal.returns-in-Err
 returns-in-Err g c = record {
   leaves = Stopped c.from.result
-      (subst (λ (a : Result Request Stop). IsStop (g.S.Sources.holds c.args.sources.now) a c.from.result) (sym c.in-Err.is) c.from.ensures) refl
+      (subst (λ (a : Result Request Stop). IsStop (g.S.Sources.holds c.args.sources.now) a c.from.result) (sym c.in-Err.is)
+          c.from.ensures) refl
       c.report.ensures.written;
 }

@@ -9,7 +9,8 @@ returns-then-is_ok g c =
       written = record {
         text = w.0;
         told = w.1;
-        reported = reported _ _ _ _ _ c.write_halt.result c.flush.result refl w.2 c.if-is_ok.ensures.value c.flush.ensures.ok c.flush.ensures.failed;
+        reported = reported _ _ _ _ _ c.write_halt.result c.flush.result refl w.2 c.if-is_ok.ensures.value c.flush.ensures.ok
+            c.flush.ensures.failed;
       };
     }
 

@@ -12,7 +12,8 @@ pub returns-then-is_ok : goal.returns-then-is_ok
 returns-then-is_ok g c =
     let run = c.args.run.now in
     let found = c.find_reason-reason.result in
-    let same = ap (λ (l : List SharedEntry). fault_said run.loaded.source l c.args.fault.now (option_map reason_is found)) c.layout.ensures in
+    let same = ap (λ (l : List SharedEntry). fault_said run.loaded.source l c.args.fault.now (option_map reason_is found))
+        c.layout.ensures in
     record {
       written = (
         _,
@@ -28,7 +29,8 @@ pub returns : goal.returns
 returns g c =
     let run = c.args.run.now in
     let found = c.find_reason-reason.result in
-    let same = ap (λ (l : List SharedEntry). fault_said run.loaded.source l c.args.fault.now (option_map reason_is found)) c.layout.ensures in
+    let same = ap (λ (l : List SharedEntry). fault_said run.loaded.source l c.args.fault.now (option_map reason_is found))
+        c.layout.ensures in
     record {
       written = (
         _,

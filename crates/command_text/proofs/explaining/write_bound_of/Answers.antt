@@ -8,13 +8,15 @@ use Rattle.command_text.proofs.explaining.write_bound_of.Goals as goal
 
 pub returns-in_err-write_bound : goal.returns-in_err-write_bound
 returns-in_err-write_bound g c = record {
-  written = stops_in_first _ _ _ (bound_sentence c.args.bound) (cycle_text c.args.cycle) c.from_residual.result _ refl c.from_residual.ensures.1
+  written = stops_in_first _ _ _ (bound_sentence c.args.bound) (cycle_text c.args.cycle) c.from_residual.result _ refl
+      c.from_residual.ensures.1
       c.in_err-write_bound.ensures.written;
 }
 
 pub returns-in-Some : goal.returns-in-Some
 returns-in-Some g c =
-    let behind = subst (λ (o : Option Cycle). Writes (g.E.Out.state c.write_bound.new.err) (g.E.Out.state c.write_cycle.new.err) (cycle_text o)
+    let behind = subst (λ (o : Option Cycle). Writes (g.E.Out.state c.write_bound.new.err) (g.E.Out.state c.write_cycle.new.err)
+        (cycle_text o)
     c.write_cycle.result) (sym c.in-Some.is) c.write_cycle.ensures.written in
     record {
       written = both _ _ _ _ (bound_sentence c.args.bound) (cycle_text c.args.cycle) c.write_cycle.result refl

@@ -18,5 +18,6 @@ returns g c =
     let told = fault_diagnosis c.args.source.now c.args.layout.now c.args.fault.now in
     record {
       written = both _ _ _ _ (told (reason_is c.unknown-reason.result)) no_reason c.write_all.result
-          (ap (λ r. told r ++ no_reason) (sym c.unknown-reason.ensures)) c.in_ok-write_run_fault.ensures.written c.write_all.ensures.written;
+          (ap (λ r. told r ++ no_reason) (sym c.unknown-reason.ensures)) c.in_ok-write_run_fault.ensures.written
+              c.write_all.ensures.written;
     }

@@ -8,5 +8,6 @@ returns-in_err-write_numbers_and_outcome g c = record {
 
 pub returns : goal.returns
 returns g c = record {
-  written = wrote _ _ _ _ _ _ c.finish.result c.of.ensures c.in_ok-write_numbers_and_outcome.ensures.written c.finish.ensures.ok c.finish.ensures.failed;
+  written = wrote _ _ _ _ _ _ c.finish.result c.of.ensures c.in_ok-write_numbers_and_outcome.ensures.written c.finish.ensures.ok
+      c.finish.ensures.failed;
 }

@@ -12,7 +12,8 @@ returns-in_err-write_cost g c =
     let cost = c.args.cost.now in
     let words = c.args.words in
     record {
-      written = breaks_off _ _ _ _ _ (cost_text (verdict_of c.args.outcome.now) cost words.schedule) (if_asked words.lines (lines_text cost.lines.items))
+      written = breaks_off _ _ _ _ _ (cost_text (verdict_of c.args.outcome.now) cost words.schedule)
+          (if_asked words.lines (lines_text cost.lines.items))
           c.from_residual.result _ c.from_residual.ensures.1 (starts _ _) refl c.in_err-write_cost.ensures.written;
     }
 
@@ -20,7 +21,8 @@ pub returns-then-words : goal.returns-then-words
 returns-then-words g c =
     let cost = c.args.cost.now in
     let words = c.args.words in
-    let told = goes_on _ _ _ _ _ (cost_text (verdict_of c.args.outcome.now) cost words.schedule) (if_asked words.lines (lines_text cost.lines.items))
+    let told = goes_on _ _ _ _ _ (cost_text (verdict_of c.args.outcome.now) cost words.schedule)
+        (if_asked words.lines (lines_text cost.lines.items))
     (starts _ _) refl c.in_ok-write_cost.ensures.written in
     let P : List LineCost → Type 0 = λ ls. Writes (g.O.Out.state c.write_cost.new.out) (g.O.Out.state c.write_lines.new.out) (lines_text ls)
     c.write_lines.result in

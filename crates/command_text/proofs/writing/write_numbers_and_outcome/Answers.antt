@@ -10,7 +10,8 @@ returns-in_err-write_numbers g c =
     let words = c.args.words in
     let outcome = shown c.args.layout.now (verdict_of c.args.outcome.now) in
     record {
-      written = breaks_off _ _ _ _ _ (costs_text (verdict_of c.args.outcome.now) c.args.cost.now words.schedule words.lines) outcome c.from_residual.result _
+      written = breaks_off _ _ _ _ _ (costs_text (verdict_of c.args.outcome.now) c.args.cost.now words.schedule words.lines) outcome
+          c.from_residual.result _
           c.from_residual.ensures.1 (starts _ _) refl c.in_err-write_numbers.ensures.written;
     }
 
@@ -19,6 +20,7 @@ returns g c =
     let words = c.args.words in
     let outcome = shown c.args.layout.now (verdict_of c.args.outcome.now) in
     record {
-      written = closes _ _ _ _ _ c.show.result (goes_on _ _ _ _ _ (costs_text (verdict_of c.args.outcome.now) c.args.cost.now words.schedule words.lines)
+      written = closes _ _ _ _ _ c.show.result (goes_on _ _ _ _ _ (costs_text (verdict_of c.args.outcome.now) c.args.cost.now words.schedule
+          words.lines)
           outcome (starts _ _) refl c.in_ok-write_numbers.ensures.written) c.show.ensures.written;
     }

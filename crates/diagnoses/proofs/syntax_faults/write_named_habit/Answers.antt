@@ -10,5 +10,6 @@ returns-in_err-write_quoted g c = record {
 
 pub returns : goal.returns
 returns g c = record {
-  written = both _ _ _ _ _ _ c.write_all.result (ap (λ t. quoted c.args.word.now ++ t) (sym c.habit_text.ensures)) c.in_ok-write_quoted.ensures.written c.write_all.ensures.written;
+  written = both _ _ _ _ _ _ c.write_all.result (ap (λ t. quoted c.args.word.now ++ t) (sym c.habit_text.ensures))
+      c.in_ok-write_quoted.ensures.written c.write_all.ensures.written;
 }

@@ -1,5 +1,6 @@
 use denote.Param.Send.{sendable}
-use Rattle.std.proofs.Common.{◌≡◌, ◌+◌, ◌*◌, ◌<◌, ◌∷◌, ◌++◌, [], Result, Ok, IfOk, get_or, rules, ◌∙◌, ap, sym, subst, length, length-append, append_assoc, take, drop, arith}
+use Rattle.std.proofs.Common.{◌≡◌, ◌+◌, ◌*◌, ◌<◌, ◌∷◌, ◌++◌, [], Result, Ok, IfOk, get_or, rules, ◌∙◌, ap, sym, subst, length}
+use Rattle.std.proofs.Common.{length-append, append_assoc, take, drop, arith}
 use Rattle.std.proofs.Crossing.{crosses}
 use Rattle.std.proofs.alloc.Global.TheSendSync as global
 use Rattle.std.specs.Vec.Iter.{into_iter_items}

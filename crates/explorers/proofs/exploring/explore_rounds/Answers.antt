@@ -10,7 +10,8 @@ rounds-preserved g c =
     let told = c.in_ok-found.ensures.found
     ∙ ap (λ n. found c.args.program.now c.args.bound (take n (drop done (inputs_of c.args.scope)))) (sym c.rounds.invariant.step) in
     record {
-      so_far = one_more c.args.program.now c.args.bound (inputs_of c.args.scope) c.rounds.round (c.rounds.round + 1) (c.from.result * c.args.size)
+      so_far = one_more c.args.program.now c.args.bound (inputs_of c.args.scope) c.rounds.round (c.rounds.round + 1)
+          (c.from.result * c.args.size)
           (found_is c.rounds.all) (found_is c.in_ok-found.found) (found_is c.append.new.self) c.rounds.invariant.so_far told
           c.in_ok-append.ensures refl;
       step = c.rounds.invariant.step;

@@ -12,7 +12,8 @@ returns-in_err-write_heading g c =
     let part2 = marks_text c.args.rows.now c.args.column (column_is c.args.drawn.now) in
     let part3 = column_fault c.args.layout.now c.args.rows.now c.args.column (entry_is c.args.drawn.now.entry) in
     record {
-      written = breaks_off _ _ _ _ _ part1 (part2 ++ part3) c.from_residual.result _ c.from_residual.ensures.1 (starts _ _) refl c.in_err-write_heading.ensures.written;
+      written = breaks_off _ _ _ _ _ part1 (part2 ++ part3) c.from_residual.result _ c.from_residual.ensures.1 (starts _ _) refl
+          c.in_err-write_heading.ensures.written;
     }
 
 pub returns-in_err-write_marks : goal.returns-in_err-write_marks
@@ -22,7 +23,8 @@ returns-in_err-write_marks g c =
     let part3 = column_fault c.args.layout.now c.args.rows.now c.args.column (entry_is c.args.drawn.now.entry) in
     let after1 = goes_on _ _ _ _ _ part1 (part2 ++ part3) (starts _ _) refl c.in_ok-write_heading.ensures.written in
     record {
-      written = breaks_off _ _ _ _ _ part2 part3 c.from_residual-in_err-write_marks.result _ c.from_residual-in_err-write_marks.ensures.1 after1 refl c.in_err-write_marks.ensures.written;
+      written = breaks_off _ _ _ _ _ part2 part3 c.from_residual-in_err-write_marks.result _ c.from_residual-in_err-write_marks.ensures.1
+          after1 refl c.in_err-write_marks.ensures.written;
     }
 
 pub returns : goal.returns

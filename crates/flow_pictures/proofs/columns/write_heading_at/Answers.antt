@@ -9,7 +9,8 @@ returns-in_err-write_place g c =
     let part1 = place_text c.args.x c.args.number (entry_is c.args.entry.now) in
     let part2 = line_source c.args.text.now c.args.x (entry_is c.args.entry.now) in
     record {
-      written = breaks_off _ _ _ _ _ part1 part2 c.from_residual.result _ c.from_residual.ensures.1 (starts _ _) refl c.in_err-write_place.ensures.written;
+      written = breaks_off _ _ _ _ _ part1 part2 c.from_residual.result _ c.from_residual.ensures.1 (starts _ _) refl
+          c.in_err-write_place.ensures.written;
     }
 
 pub returns : goal.returns

@@ -10,5 +10,7 @@ returns g c =
     let line = c.as_bytes-2.ensures.value ∙ c.format-3.ensures.text in
     record {
       written = subst (λ (t : List ℕ). Writes (g.W.Out.state c.args.out.now) (g.W.Out.state c.write_parts.new.self) t c.write_parts.result)
-          (λ i. codes "<text x='" ++ (x i ++ (codes "' y='272' text-anchor='middle' font-weight='bold'>" ++ (number i ++ (codes "</text>\n<text x='" ++ (x i ++ (codes "' y='286' text-anchor='middle'>line " ++ (line i ++ (codes "</text>\n"))))))))) c.write_parts.ensures.written;
+          (λ i. codes "<text x='" ++ (x i ++ (codes "' y='272' text-anchor='middle' font-weight='bold'>" ++
+              (number i ++ (codes "</text>\n<text x='" ++
+              (x i ++ (codes "' y='286' text-anchor='middle'>line " ++ (line i ++ (codes "</text>\n"))))))))) c.write_parts.ensures.written;
     }

@@ -9,7 +9,8 @@ returns-in_err-write_line_front g c =
     let part1 = line_front c.args.y in
     let part2 = fault_rest c.args.layout.now c.args.fault.now in
     record {
-      written = breaks_off _ _ _ _ _ part1 part2 c.from_residual.result _ c.from_residual.ensures.1 (starts _ _) refl c.in_err-write_line_front.ensures.written;
+      written = breaks_off _ _ _ _ _ part1 part2 c.from_residual.result _ c.from_residual.ensures.1 (starts _ _) refl
+          c.in_err-write_line_front.ensures.written;
     }
 
 pub returns : goal.returns

@@ -10,7 +10,8 @@ returns-in_err-write_head_frame g c =
     let part3 = fault_line c.args.layout.now c.args.y c.args.fault.now in
     let part4 = met_text (c.args.y + 18) c.args.met.now in
     record {
-      written = breaks_off _ _ _ _ _ part1 (part2 ++ (part3 ++ part4)) c.from_residual.result _ c.from_residual.ensures.1 (starts _ _) refl c.in_err-write_head_frame.ensures.written;
+      written = breaks_off _ _ _ _ _ part1 (part2 ++ (part3 ++ part4)) c.from_residual.result _ c.from_residual.ensures.1 (starts _ _) refl
+          c.in_err-write_head_frame.ensures.written;
     }
 
 pub returns-in_err-write_place_frame : goal.returns-in_err-write_place_frame
@@ -21,7 +22,8 @@ returns-in_err-write_place_frame g c =
     let part4 = met_text (c.args.y + 18) c.args.met.now in
     let after1 = goes_on _ _ _ _ _ part1 (part2 ++ (part3 ++ part4)) (starts _ _) refl c.in_ok-write_head_frame.ensures.written in
     record {
-      written = breaks_off _ _ _ _ _ part2 (part3 ++ part4) c.from_residual-in_err-write_place_frame.result _ c.from_residual-in_err-write_place_frame.ensures.1 after1 refl c.in_err-write_place_frame.ensures.written;
+      written = breaks_off _ _ _ _ _ part2 (part3 ++ part4) c.from_residual-in_err-write_place_frame.result _
+          c.from_residual-in_err-write_place_frame.ensures.1 after1 refl c.in_err-write_place_frame.ensures.written;
     }
 
 pub returns-in_err-write_fault_line : goal.returns-in_err-write_fault_line
@@ -33,7 +35,8 @@ returns-in_err-write_fault_line g c =
     let after1 = goes_on _ _ _ _ _ part1 (part2 ++ (part3 ++ part4)) (starts _ _) refl c.in_ok-write_head_frame.ensures.written in
     let after2 = goes_on _ _ _ _ _ part2 (part3 ++ part4) after1 refl c.in_ok-write_place_frame.ensures.written in
     record {
-      written = breaks_off _ _ _ _ _ part3 part4 c.from_residual-in_err-write_fault_line.result _ c.from_residual-in_err-write_fault_line.ensures.1 after2 refl c.in_err-write_fault_line.ensures.written;
+      written = breaks_off _ _ _ _ _ part3 part4 c.from_residual-in_err-write_fault_line.result _
+          c.from_residual-in_err-write_fault_line.ensures.1 after2 refl c.in_err-write_fault_line.ensures.written;
     }
 
 pub returns : goal.returns

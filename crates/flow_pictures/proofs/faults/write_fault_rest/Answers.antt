@@ -9,7 +9,8 @@ returns-in_err-write_fault_text g c =
     let part1 = fault_text c.args.layout.now c.args.fault.now in
     let part2 = codes "</text>\n" in
     record {
-      written = breaks_off _ _ _ _ _ part1 part2 c.from_residual.result _ c.from_residual.ensures.1 (starts _ _) refl c.in_err-write_fault_text.ensures.written;
+      written = breaks_off _ _ _ _ _ part1 part2 c.from_residual.result _ c.from_residual.ensures.1 (starts _ _) refl
+          c.in_err-write_fault_text.ensures.written;
     }
 
 pub returns : goal.returns

@@ -8,6 +8,7 @@ pub returns-else-is_empty : goal.returns-else-is_empty
 returns-else-is_empty g c =
     let some : 0 < length c.args.met.now = grind (arith, common_steps) in
     record {
-      written = subst (λ (t : List ℕ). Writes (g.W.Out.state c.args.out.now) (g.W.Out.state c.write_some_met.new.out) t c.write_some_met.result)
+      written = subst (λ (t : List ℕ). Writes (g.W.Out.state c.args.out.now) (g.W.Out.state c.write_some_met.new.out) t
+          c.write_some_met.result)
           (sym (some_named c.args.y c.args.met.now some)) c.write_some_met.ensures.written;
     }

@@ -13,7 +13,8 @@ returns-in_err-write_line_front g c =
     let part3 = spaced (take 12 c.args.met.now) in
     let part4 = met_cut c.args.met.now in
     record {
-      written = breaks_off _ _ _ _ _ part1 (part2 ++ (part3 ++ part4)) c.from_residual.result _ c.from_residual.ensures.1 (starts _ _) refl c.in_err-write_line_front.ensures.written;
+      written = breaks_off _ _ _ _ _ part1 (part2 ++ (part3 ++ part4)) c.from_residual.result _ c.from_residual.ensures.1 (starts _ _) refl
+          c.in_err-write_line_front.ensures.written;
     }
 
 pub returns-in_err-write_all : goal.returns-in_err-write_all
@@ -24,7 +25,8 @@ returns-in_err-write_all g c =
     let part4 = met_cut c.args.met.now in
     let after1 = goes_on _ _ _ _ _ part1 (part2 ++ (part3 ++ part4)) (starts _ _) refl c.in_ok-write_line_front.ensures.written in
     record {
-      written = breaks_off _ _ _ _ _ part2 (part3 ++ part4) c.from_residual-in_err-write_all.result _ c.from_residual-in_err-write_all.ensures.1 after1 refl c.in_err-write_all.ensures.written;
+      written = breaks_off _ _ _ _ _ part2 (part3 ++ part4) c.from_residual-in_err-write_all.result _
+          c.from_residual-in_err-write_all.ensures.1 after1 refl c.in_err-write_all.ensures.written;
     }
 
 pub returns-in_err-write_named : goal.returns-in_err-write_named
@@ -36,7 +38,8 @@ returns-in_err-write_named g c =
     let after1 = goes_on _ _ _ _ _ part1 (part2 ++ (part3 ++ part4)) (starts _ _) refl c.in_ok-write_line_front.ensures.written in
     let after2 = goes_on _ _ _ _ _ part2 (part3 ++ part4) after1 refl c.in_ok-write_all.ensures.written in
     record {
-      written = breaks_off _ _ _ _ _ part3 part4 c.from_residual-in_err-write_named.result _ c.from_residual-in_err-write_named.ensures.1 after2 refl c.in_err-write_named.ensures.written;
+      written = breaks_off _ _ _ _ _ part3 part4 c.from_residual-in_err-write_named.result _ c.from_residual-in_err-write_named.ensures.1
+          after2 refl c.in_err-write_named.ensures.written;
     }
 
 pub returns : goal.returns

@@ -12,5 +12,7 @@ returns g c =
     let ended = append-nil c.cell_cut-cut.result.now ∙ c.cell_cut-cut.ensures in
     record {
       written = subst (λ (t : List ℕ). Writes (g.W.Out.state c.args.out.now) (g.W.Out.state c.write_parts.new.self) t c.write_parts.result)
-          (λ i. codes "<text x='12' y='38'>" ++ (all i ++ (codes " cells, " ++ (some i ++ (codes " of them drawn, " ++ (others i ++ (codes " not: " ++ ended i))))))) c.write_parts.ensures.written;
+          (λ i. codes "<text x='12' y='38'>" ++ (all i ++
+              (codes " cells, " ++ (some i ++ (codes " of them drawn, " ++ (others i ++ (codes " not: " ++ ended i)))))))
+              c.write_parts.ensures.written;
     }

@@ -9,7 +9,8 @@ returns-in_err-write_statement_line g c =
     let part2 = cells_text c.args.layout.now c.args.only.now c.args.rows c.args.found in
     let part3 = key_text in
     record {
-      written = breaks_off _ _ _ _ _ part1 (part2 ++ part3) c.from_residual.result _ c.from_residual.ensures.1 (starts _ _) refl c.in_err-write_statement_line.ensures.written;
+      written = breaks_off _ _ _ _ _ part1 (part2 ++ part3) c.from_residual.result _ c.from_residual.ensures.1 (starts _ _) refl
+          c.in_err-write_statement_line.ensures.written;
     }
 
 pub returns-in_err-write_cells : goal.returns-in_err-write_cells
@@ -19,7 +20,8 @@ returns-in_err-write_cells g c =
     let part3 = key_text in
     let after1 = goes_on _ _ _ _ _ part1 (part2 ++ part3) (starts _ _) refl c.in_ok-write_statement_line.ensures.written in
     record {
-      written = breaks_off _ _ _ _ _ part2 part3 c.from_residual-in_err-write_cells.result _ c.from_residual-in_err-write_cells.ensures.1 after1 refl c.in_err-write_cells.ensures.written;
+      written = breaks_off _ _ _ _ _ part2 part3 c.from_residual-in_err-write_cells.result _ c.from_residual-in_err-write_cells.ensures.1
+          after1 refl c.in_err-write_cells.ensures.written;
     }
 
 pub returns : goal.returns

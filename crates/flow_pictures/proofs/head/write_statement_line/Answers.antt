@@ -9,7 +9,8 @@ returns-in_err-write_statements g c =
     let part2 = range_text c.args.from c.args.to c.args.statements in
     let part3 = statement_cut c.args.columns c.args.touching in
     record {
-      written = breaks_off _ _ _ _ _ part1 (part2 ++ part3) c.from_residual.result _ c.from_residual.ensures.1 (starts _ _) refl c.in_err-write_statements.ensures.written;
+      written = breaks_off _ _ _ _ _ part1 (part2 ++ part3) c.from_residual.result _ c.from_residual.ensures.1 (starts _ _) refl
+          c.in_err-write_statements.ensures.written;
     }
 
 pub returns-in_err-write_range : goal.returns-in_err-write_range
@@ -19,7 +20,8 @@ returns-in_err-write_range g c =
     let part3 = statement_cut c.args.columns c.args.touching in
     let after1 = goes_on _ _ _ _ _ part1 (part2 ++ part3) (starts _ _) refl c.in_ok-write_statements.ensures.written in
     record {
-      written = breaks_off _ _ _ _ _ part2 part3 c.from_residual-in_err-write_range.result _ c.from_residual-in_err-write_range.ensures.1 after1 refl c.in_err-write_range.ensures.written;
+      written = breaks_off _ _ _ _ _ part2 part3 c.from_residual-in_err-write_range.result _ c.from_residual-in_err-write_range.ensures.1
+          after1 refl c.in_err-write_range.ensures.written;
     }
 
 pub returns : goal.returns

@@ -10,7 +10,8 @@ returns-in_err-write_source_front g c =
     let part2 = letters (take 24 c.args.source.now) in
     let part3 = source_cut c.args.source.now in
     record {
-      written = breaks_off _ _ _ _ _ part1 (part2 ++ part3) c.from_residual.result _ c.from_residual.ensures.1 (starts _ _) refl c.in_err-write_source_front.ensures.written;
+      written = breaks_off _ _ _ _ _ part1 (part2 ++ part3) c.from_residual.result _ c.from_residual.ensures.1 (starts _ _) refl
+          c.in_err-write_source_front.ensures.written;
     }
 
 pub returns-in_err-write_shown : goal.returns-in_err-write_shown
@@ -20,7 +21,8 @@ returns-in_err-write_shown g c =
     let part3 = source_cut c.args.source.now in
     let after1 = goes_on _ _ _ _ _ part1 (part2 ++ part3) (starts _ _) refl c.in_ok-write_source_front.ensures.written in
     record {
-      written = breaks_off _ _ _ _ _ part2 part3 c.from_residual-in_err-write_shown.result _ c.from_residual-in_err-write_shown.ensures.1 after1 refl c.in_err-write_shown.ensures.written;
+      written = breaks_off _ _ _ _ _ part2 part3 c.from_residual-in_err-write_shown.result _ c.from_residual-in_err-write_shown.ensures.1
+          after1 refl c.in_err-write_shown.ensures.written;
     }
 
 pub returns : goal.returns

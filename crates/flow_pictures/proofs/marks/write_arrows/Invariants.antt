@@ -7,4 +7,8 @@ use Rattle.flow_pictures.specs.Texts.{arrow_text}
 use Rattle.flow_pictures.proofs.marks.write_arrows.Given as goal
 
 abbrev pub invariant-loop-to : goal.invariant-loop-to
-invariant-loop-to g l = Progress (g.W.Out.state l.fn.out) (g.W.Out.state l.out) (flat_map (arrow_text l.fn.rows) (flat_map (arrows_to l.fn.rows l.fn.column l.fn.aside (map act_is l.fn.acts)) (filter (writes (map act_is l.fn.acts)) l.fn.rows))) (flat_map (arrow_text l.fn.rows) (flat_map (arrows_to l.fn.rows l.fn.column l.fn.aside (map act_is l.fn.acts)) (filter (writes (map act_is l.fn.acts)) (drop l.to-index l.fn.rows))))
+invariant-loop-to g l = Progress (g.W.Out.state l.fn.out) (g.W.Out.state l.out)
+    (flat_map (arrow_text l.fn.rows) (flat_map (arrows_to l.fn.rows l.fn.column l.fn.aside (map act_is l.fn.acts))
+    (filter (writes (map act_is l.fn.acts)) l.fn.rows)))
+    (flat_map (arrow_text l.fn.rows) (flat_map (arrows_to l.fn.rows l.fn.column l.fn.aside (map act_is l.fn.acts))
+    (filter (writes (map act_is l.fn.acts)) (drop l.to-index l.fn.rows))))

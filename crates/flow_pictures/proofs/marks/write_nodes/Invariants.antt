@@ -7,4 +7,8 @@ use Rattle.flow_pictures.specs.Texts.{node_text}
 use Rattle.flow_pictures.proofs.marks.write_nodes.Given as goal
 
 abbrev pub invariant-loop-cell : goal.invariant-loop-cell
-invariant-loop-cell g l = Progress (g.W.Out.state l.fn.out) (g.W.Out.state l.out) (flat_map (node_text l.fn.rows) (map (node l.fn.column (value_in (map act_is l.fn.acts) l.fn.written)) (filter (writes (map act_is l.fn.acts)) l.fn.rows))) (flat_map (node_text l.fn.rows) (map (node l.fn.column (value_in (map act_is l.fn.acts) l.fn.written)) (filter (writes (map act_is l.fn.acts)) (drop l.cell-index l.fn.rows))))
+invariant-loop-cell g l = Progress (g.W.Out.state l.fn.out) (g.W.Out.state l.out)
+    (flat_map (node_text l.fn.rows) (map (node l.fn.column (value_in (map act_is l.fn.acts) l.fn.written))
+    (filter (writes (map act_is l.fn.acts)) l.fn.rows)))
+    (flat_map (node_text l.fn.rows) (map (node l.fn.column (value_in (map act_is l.fn.acts) l.fn.written))
+    (filter (writes (map act_is l.fn.acts)) (drop l.cell-index l.fn.rows))))

@@ -8,4 +8,7 @@ use Rattle.flow_pictures.specs.Texts.{reading_text}
 use Rattle.flow_pictures.proofs.marks.write_readings.Given as goal
 
 abbrev pub invariant-loop-cell : goal.invariant-loop-cell
-invariant-loop-cell g l = Progress (g.W.Out.state l.fn.out) (g.W.Out.state l.out) (flat_map (reading_text l.fn.rows) (map (reading l.fn.column) (filter (λ cell. carries (map act_is l.fn.acts) cell None) l.fn.rows))) (flat_map (reading_text l.fn.rows) (map (reading l.fn.column) (filter (λ cell. carries (map act_is l.fn.acts) cell None) (drop l.cell-index l.fn.rows))))
+invariant-loop-cell g l = Progress (g.W.Out.state l.fn.out) (g.W.Out.state l.out)
+    (flat_map (reading_text l.fn.rows) (map (reading l.fn.column) (filter (λ cell. carries (map act_is l.fn.acts) cell None) l.fn.rows)))
+    (flat_map (reading_text l.fn.rows) (map (reading l.fn.column) (filter (λ cell. carries (map act_is l.fn.acts) cell None)
+    (drop l.cell-index l.fn.rows))))

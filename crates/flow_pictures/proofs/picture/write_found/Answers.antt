@@ -10,7 +10,8 @@ returns-in_err-write_size g c =
     let part2 = counts_text c.args.layout.now c.args.only.now (drawing_is c.args.drawing.now) c.args.found.now in
     let part3 = drawn_text c.args.layout.now c.args.text.now (drawing_is c.args.drawing.now) c.args.found.now in
     record {
-      written = breaks_off _ _ _ _ _ part1 (part2 ++ part3) c.from_residual.result _ c.from_residual.ensures.1 (starts _ _) refl c.in_err-write_size.ensures.written;
+      written = breaks_off _ _ _ _ _ part1 (part2 ++ part3) c.from_residual.result _ c.from_residual.ensures.1 (starts _ _) refl
+          c.in_err-write_size.ensures.written;
     }
 
 pub returns-in_err-write_counts : goal.returns-in_err-write_counts
@@ -20,7 +21,8 @@ returns-in_err-write_counts g c =
     let part3 = drawn_text c.args.layout.now c.args.text.now (drawing_is c.args.drawing.now) c.args.found.now in
     let after1 = goes_on _ _ _ _ _ part1 (part2 ++ part3) (starts _ _) refl c.in_ok-write_size.ensures.written in
     record {
-      written = breaks_off _ _ _ _ _ part2 part3 c.from_residual-in_err-write_counts.result _ c.from_residual-in_err-write_counts.ensures.1 after1 refl c.in_err-write_counts.ensures.written;
+      written = breaks_off _ _ _ _ _ part2 part3 c.from_residual-in_err-write_counts.result _ c.from_residual-in_err-write_counts.ensures.1
+          after1 refl c.in_err-write_counts.ensures.written;
     }
 
 pub returns : goal.returns

@@ -14,7 +14,8 @@ returns-in_err-write_wire g c =
     let part4 = codes "</text>\n" in
     let part5 = value_text 192 (c.args.y + 4) (codes "end") c.args.value.now in
     record {
-      written = breaks_off _ _ _ _ _ part1 (part2 ++ (part3 ++ (part4 ++ part5))) c.from_residual.result _ c.from_residual.ensures.1 (starts _ _) refl c.in_err-write_wire.ensures.written;
+      written = breaks_off _ _ _ _ _ part1 (part2 ++ (part3 ++ (part4 ++ part5))) c.from_residual.result _ c.from_residual.ensures.1
+          (starts _ _) refl c.in_err-write_wire.ensures.written;
     }
 
 pub returns-in_err-write_line_front : goal.returns-in_err-write_line_front
@@ -26,7 +27,8 @@ returns-in_err-write_line_front g c =
     let part5 = value_text 192 (c.args.y + 4) (codes "end") c.args.value.now in
     let after1 = goes_on _ _ _ _ _ part1 (part2 ++ (part3 ++ (part4 ++ part5))) (starts _ _) refl c.in_ok-write_wire.ensures.written in
     record {
-      written = breaks_off _ _ _ _ _ part2 (part3 ++ (part4 ++ part5)) c.from_residual-in_err-write_line_front.result _ c.from_residual-in_err-write_line_front.ensures.1 after1 refl c.in_err-write_line_front.ensures.written;
+      written = breaks_off _ _ _ _ _ part2 (part3 ++ (part4 ++ part5)) c.from_residual-in_err-write_line_front.result _
+          c.from_residual-in_err-write_line_front.ensures.1 after1 refl c.in_err-write_line_front.ensures.written;
     }
 
 pub returns-in_err-write_cell : goal.returns-in_err-write_cell
@@ -39,7 +41,8 @@ returns-in_err-write_cell g c =
     let after1 = goes_on _ _ _ _ _ part1 (part2 ++ (part3 ++ (part4 ++ part5))) (starts _ _) refl c.in_ok-write_wire.ensures.written in
     let after2 = goes_on _ _ _ _ _ part2 (part3 ++ (part4 ++ part5)) after1 refl c.in_ok-write_line_front.ensures.written in
     record {
-      written = breaks_off _ _ _ _ _ part3 (part4 ++ part5) c.from_residual-in_err-write_cell.result _ c.from_residual-in_err-write_cell.ensures.1 after2 refl c.in_err-write_cell.ensures.written;
+      written = breaks_off _ _ _ _ _ part3 (part4 ++ part5) c.from_residual-in_err-write_cell.result _
+          c.from_residual-in_err-write_cell.ensures.1 after2 refl c.in_err-write_cell.ensures.written;
     }
 
 pub returns-in_err-write_all : goal.returns-in_err-write_all
@@ -53,7 +56,8 @@ returns-in_err-write_all g c =
     let after2 = goes_on _ _ _ _ _ part2 (part3 ++ (part4 ++ part5)) after1 refl c.in_ok-write_line_front.ensures.written in
     let after3 = goes_on _ _ _ _ _ part3 (part4 ++ part5) after2 refl c.in_ok-write_cell.ensures.written in
     record {
-      written = breaks_off _ _ _ _ _ part4 part5 c.from_residual-in_err-write_all.result _ c.from_residual-in_err-write_all.ensures.1 after3 refl c.in_err-write_all.ensures.written;
+      written = breaks_off _ _ _ _ _ part4 part5 c.from_residual-in_err-write_all.result _ c.from_residual-in_err-write_all.ensures.1 after3
+          refl c.in_err-write_all.ensures.written;
     }
 
 pub returns : goal.returns

@@ -12,7 +12,8 @@ returns-in_err-write_row_heads g c =
     let part2 = columns c.args.layout.now c.args.text.now c.args.rows.now 1 (map column_is c.args.columns.now) in
     let part3 = codes "</svg>\n" in
     record {
-      written = breaks_off _ _ _ _ _ part1 (part2 ++ part3) c.from_residual.result _ c.from_residual.ensures.1 (starts _ _) refl c.in_err-write_row_heads.ensures.written;
+      written = breaks_off _ _ _ _ _ part1 (part2 ++ part3) c.from_residual.result _ c.from_residual.ensures.1 (starts _ _) refl
+          c.in_err-write_row_heads.ensures.written;
     }
 
 pub returns-in_err-write_columns : goal.returns-in_err-write_columns
@@ -22,7 +23,8 @@ returns-in_err-write_columns g c =
     let part3 = codes "</svg>\n" in
     let after1 = goes_on _ _ _ _ _ part1 (part2 ++ part3) (starts _ _) refl c.in_ok-write_row_heads.ensures.written in
     record {
-      written = breaks_off _ _ _ _ _ part2 part3 c.from_residual-in_err-write_columns.result _ c.from_residual-in_err-write_columns.ensures.1 after1 refl c.in_err-write_columns.ensures.written;
+      written = breaks_off _ _ _ _ _ part2 part3 c.from_residual-in_err-write_columns.result _
+          c.from_residual-in_err-write_columns.ensures.1 after1 refl c.in_err-write_columns.ensures.written;
     }
 
 pub returns : goal.returns

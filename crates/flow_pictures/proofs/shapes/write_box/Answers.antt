@@ -9,7 +9,8 @@ returns-in_err-write_outline g c =
     let part1 = outline c.args.x c.args.y c.args.wide in
     let part2 = value_text c.args.x (c.args.y + 4) (codes "middle") c.args.value.now in
     record {
-      written = breaks_off _ _ _ _ _ part1 part2 c.from_residual.result _ c.from_residual.ensures.1 (starts _ _) refl c.in_err-write_outline.ensures.written;
+      written = breaks_off _ _ _ _ _ part1 part2 c.from_residual.result _ c.from_residual.ensures.1 (starts _ _) refl
+          c.in_err-write_outline.ensures.written;
     }
 
 pub returns : goal.returns

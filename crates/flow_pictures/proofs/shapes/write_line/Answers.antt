@@ -13,5 +13,6 @@ returns g c =
     let ended = append-nil c.args.how.now in
     record {
       written = subst (λ (t : List ℕ). Writes (g.W.Out.state c.args.out.now) (g.W.Out.state c.write_parts.new.self) t c.write_parts.result)
-          (λ i. codes "<path d='M" ++ (x i ++ (codes " " ++ (y i ++ (codes "L" ++ (to_x i ++ (codes " " ++ (to_y i ++ ended i)))))))) c.write_parts.ensures.written;
+          (λ i. codes "<path d='M" ++ (x i ++ (codes " " ++ (y i ++ (codes "L" ++ (to_x i ++ (codes " " ++ (to_y i ++ ended i))))))))
+              c.write_parts.ensures.written;
     }

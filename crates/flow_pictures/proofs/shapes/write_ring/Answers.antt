@@ -9,5 +9,6 @@ returns g c =
     let y = c.as_bytes-2.ensures.value ∙ c.format-2.ensures.text in
     record {
       written = subst (λ (t : List ℕ). Writes (g.W.Out.state c.args.out.now) (g.W.Out.state c.write_parts.new.self) t c.write_parts.result)
-          (λ i. codes "<circle cx='" ++ (x i ++ (codes "' cy='" ++ (y i ++ (codes "' r='4' fill='#ffffff' stroke='#000000'/>\n"))))) c.write_parts.ensures.written;
+          (λ i. codes "<circle cx='" ++ (x i ++ (codes "' cy='" ++ (y i ++ (codes "' r='4' fill='#ffffff' stroke='#000000'/>\n")))))
+              c.write_parts.ensures.written;
     }

@@ -8,7 +8,8 @@ returns-in_err-write_value_front g c =
     let part1 = value_front c.args.x c.args.y c.args.anchor.now in
     let part2 = digits c.args.value.now in
     record {
-      written = breaks_off _ _ _ _ _ part1 part2 c.from_residual.result _ c.from_residual.ensures.1 (starts _ _) refl c.in_err-write_value_front.ensures.written;
+      written = breaks_off _ _ _ _ _ part1 part2 c.from_residual.result _ c.from_residual.ensures.1 (starts _ _) refl
+          c.in_err-write_value_front.ensures.written;
     }
 
 pub returns : goal.returns

@@ -61,7 +61,8 @@ steps-step-requires t c =
       search (rules, the_lemmas),
       (
         room_of_each c.args.base items all i s same here c.s-item.is c.requires.room,
-        each_short c.args.vote c.args.base items all i s c.args.out.now c.loop-s.out same c.loop-s.invariant here c.s-item.is c.requires.short,
+        each_short c.args.vote c.args.base items all i s c.args.out.now c.loop-s.out same c.loop-s.invariant here c.s-item.is
+            c.requires.short,
       ),
     )
 

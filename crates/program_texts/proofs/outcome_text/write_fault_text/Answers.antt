@@ -22,7 +22,8 @@ returns-in_err-write_place g c =
     let kind = goes_on _ _ _ _ _ _ _ (starts _ _) at c.in_ok-write_parts.ensures.written in
     record {
       written = breaks_off _ _ _ _ _ _ (codes " line " ++
-          (decimal f.line ++ [])) c.from_residual-in_err-write_place.result _ c.from_residual-in_err-write_place.ensures.1 kind refl c.in_err-write_place.ensures.written;
+          (decimal f.line ++ [])) c.from_residual-in_err-write_place.result _ c.from_residual-in_err-write_place.ensures.1 kind refl
+              c.in_err-write_place.ensures.written;
     }
 
 pub returns : goal.returns

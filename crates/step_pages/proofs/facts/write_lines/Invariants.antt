@@ -4,4 +4,5 @@ use Rattle.step_pages.specs.Facts.{embedded}
 use Rattle.step_pages.proofs.facts.write_lines.Given as goal
 
 abbrev pub invariant-loop-byte : goal.invariant-loop-byte
-invariant-loop-byte g l = Progress (g.W.Out.state l.fn.out) (g.W.Out.state l.out) (embedded l.fn.facts) (embedded (drop l.byte-index l.fn.facts))
+invariant-loop-byte g l = Progress (g.W.Out.state l.fn.out) (g.W.Out.state l.out) (embedded l.fn.facts)
+    (embedded (drop l.byte-index l.fn.facts))

@@ -6,4 +6,5 @@ use Rattle.step_pictures.proofs.columns.write_all_met.Given as goal
 
 abbrev pub invariant-loop-index : goal.invariant-loop-index
 invariant-loop-index g l =
-    Progress (g.W.Out.state l.fn.out) (g.W.Out.state l.out) (all_met l.fn.rows (column_is l.fn.at) l.fn.met) (all_met l.fn.rows (column_is l.fn.at) (drop l.index-index l.fn.met))
+    Progress (g.W.Out.state l.fn.out) (g.W.Out.state l.out) (all_met l.fn.rows (column_is l.fn.at) l.fn.met)
+        (all_met l.fn.rows (column_is l.fn.at) (drop l.index-index l.fn.met))

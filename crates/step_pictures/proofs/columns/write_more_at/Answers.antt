@@ -10,5 +10,6 @@ returns g c =
     let count = c.as_bytes-3.ensures.value ∙ c.format-3.ensures.text in
     record {
       written = subst (λ (t : List ℕ). Writes (g.W.Out.state c.args.out.now) (g.W.Out.state c.write_parts.new.self) t c.write_parts.result)
-          (λ i. codes "<text x='" ++ (x i ++ (codes "' y='" ++ (y i ++ (codes "'>+" ++ (count i ++ (codes "</text>\n"))))))) c.write_parts.ensures.written;
+          (λ i. codes "<text x='" ++ (x i ++ (codes "' y='" ++ (y i ++ (codes "'>+" ++ (count i ++ (codes "</text>\n")))))))
+              c.write_parts.ensures.written;
     }

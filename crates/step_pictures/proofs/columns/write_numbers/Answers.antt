@@ -12,5 +12,8 @@ returns g c =
     let line = c.as_bytes-4.ensures.value ∙ c.format-5.ensures.text in
     record {
       written = subst (λ (t : List ℕ). Writes (g.W.Out.state c.args.out.now) (g.W.Out.state c.write_parts.new.self) t c.write_parts.result)
-          (λ i. codes "<text x='" ++ (x i ++ (codes "' y='" ++ (upper i ++ (codes "'>" ++ (number i ++ (codes "</text>\n<text x='" ++ (x i ++ (codes "' y='" ++ (lower i ++ (codes "'>line " ++ (line i ++ (codes "</text>\n"))))))))))))) c.write_parts.ensures.written;
+          (λ i. codes "<text x='" ++ (x i ++ (codes "' y='" ++
+              (upper i ++ (codes "'>" ++ (number i ++ (codes "</text>\n<text x='" ++
+              (x i ++ (codes "' y='" ++ (lower i ++ (codes "'>line " ++ (line i ++ (codes "</text>\n")))))))))))))
+              c.write_parts.ensures.written;
     }

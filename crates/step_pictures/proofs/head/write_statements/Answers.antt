@@ -8,7 +8,8 @@ returns-in_err-write_statements_front g c =
     let part1 = statements_front c.args.part c.args.statements in
     let part2 = rest_text c.args.part c.args.statements in
     record {
-      written = breaks_off _ _ _ _ _ part1 part2 c.from_residual.result _ c.from_residual.ensures.1 (starts _ _) refl c.in_err-write_statements_front.ensures.written;
+      written = breaks_off _ _ _ _ _ part1 part2 c.from_residual.result _ c.from_residual.ensures.1 (starts _ _) refl
+          c.in_err-write_statements_front.ensures.written;
     }
 
 pub returns : goal.returns

@@ -9,7 +9,8 @@ returns-in_err-write_all g c =
     let part1 = codes "<text x='12' y='20'>statements " in
     let part2 = count_text c.args.part c.args.statements in
     record {
-      written = breaks_off _ _ _ _ _ part1 part2 c.from_residual.result _ c.from_residual.ensures.1 (starts _ _) refl c.in_err-write_all.ensures.written;
+      written = breaks_off _ _ _ _ _ part1 part2 c.from_residual.result _ c.from_residual.ensures.1 (starts _ _) refl
+          c.in_err-write_all.ensures.written;
     }
 
 pub returns : goal.returns

@@ -4,4 +4,5 @@ use Rattle.step_pictures.specs.Marks.{cells_text}
 use Rattle.step_pictures.proofs.marks.write_cells.Given as goal
 
 abbrev pub invariant-loop-cell : goal.invariant-loop-cell
-invariant-loop-cell g l = Progress (g.W.Out.state l.fn.out) (g.W.Out.state l.out) (cells_text l.fn.layout l.fn.cells) (cells_text l.fn.layout (drop l.cell-index l.fn.cells))
+invariant-loop-cell g l = Progress (g.W.Out.state l.fn.out) (g.W.Out.state l.out) (cells_text l.fn.layout l.fn.cells)
+    (cells_text l.fn.layout (drop l.cell-index l.fn.cells))

@@ -12,5 +12,7 @@ returns g c =
     let index = c.as_bytes-3.ensures.value ∙ c.format-3.ensures.text ∙ ap signed_decimal (to_z-of_z w64 c.args.index c.ranges.index) in
     record {
       written = subst (λ (t : List ℕ). Writes (g.W.Out.state c.args.out.now) (g.W.Out.state c.write_parts.new.self) t c.write_parts.result)
-          (λ i. codes "<rect x='" ++ (x i ++ (codes "' y='" ++ (y i ++ (codes "' width='60' height='18' fill='none' stroke='#000000' stroke-width='3'><title>processor " ++ (index i ++ (codes " met</title></rect>\n"))))))) c.write_parts.ensures.written;
+          (λ i. codes "<rect x='" ++ (x i ++ (codes "' y='" ++
+              (y i ++ (codes "' width='60' height='18' fill='none' stroke='#000000' stroke-width='3'><title>processor " ++
+              (index i ++ (codes " met</title></rect>\n"))))))) c.write_parts.ensures.written;
     }

@@ -11,5 +11,8 @@ returns g c =
     let line = c.as_bytes-4.ensures.value ∙ c.format-4.ensures.text in
     record {
       written = subst (λ (t : List ℕ). Writes (g.W.Out.state c.args.out.now) (g.W.Out.state c.write_parts.new.self) t c.write_parts.result)
-          (λ i. codes "<rect x='" ++ (left i ++ (codes "' y='" ++ (top i ++ (codes "' width='26' height='14' fill='" ++ (c.args.colour.now ++ (codes "'/>\n<text x='" ++ (letter i ++ (codes "' y='" ++ (line i ++ (append-nil c.args.letter.now i))))))))))) c.write_parts.ensures.written;
+          (λ i. codes "<rect x='" ++ (left i ++ (codes "' y='" ++
+              (top i ++ (codes "' width='26' height='14' fill='" ++
+              (c.args.colour.now ++ (codes "'/>\n<text x='" ++
+              (letter i ++ (codes "' y='" ++ (line i ++ (append-nil c.args.letter.now i))))))))))) c.write_parts.ensures.written;
     }

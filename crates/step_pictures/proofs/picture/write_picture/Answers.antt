@@ -14,6 +14,7 @@ returns g c =
     let those = ap (map entry_is) c.chosen.ensures ∙ sym (take-map entry_is count (drop skipped es))
     ∙ ap (take count) (sym (drop-map entry_is skipped es)) in
     record {
-      written = subst (λ (t : List ℕ). Writes (g.W.Out.state c.args.out.now) (g.W.Out.state c.write_excerpt.new.out) t c.write_excerpt.result)
+      written = subst (λ (t : List ℕ). Writes (g.W.Out.state c.args.out.now) (g.W.Out.state c.write_excerpt.new.out) t
+          c.write_excerpt.result)
           (λ i. picture c.args.layout.now c.args.text.now (part i) (those i)) c.write_excerpt.ensures.written;
     }

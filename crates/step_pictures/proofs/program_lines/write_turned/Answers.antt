@@ -9,5 +9,7 @@ returns g c =
     let y = c.as_bytes-2.ensures.value ∙ c.format-2.ensures.text in
     record {
       written = subst (λ (t : List ℕ). Writes (g.W.Out.state c.args.out.now) (g.W.Out.state c.write_parts.new.self) t c.write_parts.result)
-          (λ i. codes "<text transform='translate(" ++ (x i ++ (codes " " ++ (y i ++ (codes ") rotate(-90)' font-family='monospace' font-size='11'>"))))) c.write_parts.ensures.written;
+          (λ i. codes "<text transform='translate(" ++
+              (x i ++ (codes " " ++ (y i ++ (codes ") rotate(-90)' font-family='monospace' font-size='11'>")))))
+              c.write_parts.ensures.written;
     }

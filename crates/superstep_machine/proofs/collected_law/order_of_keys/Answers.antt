@@ -1,4 +1,5 @@
-use Rattle.superstep_machine.proofs.KeyOrder.{by_earlier_statement, by_lesser_position, by_lesser_class, by_earlier_place, first_same, first_total}
+use Rattle.superstep_machine.proofs.KeyOrder.{by_earlier_statement, by_lesser_position, by_lesser_class, by_earlier_place, first_same}
+use Rattle.superstep_machine.proofs.KeyOrder.{first_total}
 use Rattle.superstep_machine.proofs.collected_law.order_of_keys.Goals as goal
 
 pub returns : goal.returns

@@ -10,7 +10,8 @@ returns-in_err-write_line g c =
     let part2 = marks c.args.name.now c.args.frame c.args.rows.now in
     let part3 = all_labels c.args.frame c.args.rows.now in
     record {
-      written = breaks_off _ _ _ _ _ part1 (part2 ++ part3) c.from_residual.result _ c.from_residual.ensures.1 (starts _ _) refl c.in_err-write_line.ensures.written;
+      written = breaks_off _ _ _ _ _ part1 (part2 ++ part3) c.from_residual.result _ c.from_residual.ensures.1 (starts _ _) refl
+          c.in_err-write_line.ensures.written;
     }
 
 pub returns-in_err-write_marks : goal.returns-in_err-write_marks

@@ -9,7 +9,8 @@ returns-in_err-write_ticks g c =
     let part2 = axes c.args.frame in
     let part3 = name_text c.args.name.now c.args.frame in
     record {
-      written = breaks_off _ _ _ _ _ part1 (part2 ++ part3) c.from_residual.result _ c.from_residual.ensures.1 (starts _ _) refl c.in_err-write_ticks.ensures.written;
+      written = breaks_off _ _ _ _ _ part1 (part2 ++ part3) c.from_residual.result _ c.from_residual.ensures.1 (starts _ _) refl
+          c.in_err-write_ticks.ensures.written;
     }
 
 pub returns-in_err-write_axes : goal.returns-in_err-write_axes

@@ -11,7 +11,8 @@ returns-in_err-write_name_front g c =
     let part2 = letters c.args.name.now in
     let part3 = codes "</text>\n" in
     record {
-      written = breaks_off _ _ _ _ _ part1 (part2 ++ part3) c.from_residual.result _ c.from_residual.ensures.1 (starts _ _) refl c.in_err-write_name_front.ensures.written;
+      written = breaks_off _ _ _ _ _ part1 (part2 ++ part3) c.from_residual.result _ c.from_residual.ensures.1 (starts _ _) refl
+          c.in_err-write_name_front.ensures.written;
     }
 
 pub returns-in_err-write_letters : goal.returns-in_err-write_letters

@@ -9,7 +9,8 @@ returns-in_err-write_opening g c =
     let part2 = cut_text c.args.count in
     let part3 = panels c.args.name.now c.args.rows.now in
     record {
-      written = breaks_off _ _ _ _ _ part1 (part2 ++ part3) c.from_residual.result _ c.from_residual.ensures.1 (starts _ _) refl c.in_err-write_opening.ensures.written;
+      written = breaks_off _ _ _ _ _ part1 (part2 ++ part3) c.from_residual.result _ c.from_residual.ensures.1 (starts _ _) refl
+          c.in_err-write_opening.ensures.written;
     }
 
 pub returns-in_err-write_cut : goal.returns-in_err-write_cut

@@ -11,7 +11,8 @@ returns-in_err-write_measured g c =
     let part2 = panel c.args.name.now (frame_of Work 450 c.args.rows.now) c.args.rows.now in
     let part3 = codes "</svg>\n" in
     record {
-      written = breaks_off _ _ _ _ _ part1 (part2 ++ part3) c.from_residual.result _ c.from_residual.ensures.1 (starts _ _) refl c.in_err-write_measured.ensures.written;
+      written = breaks_off _ _ _ _ _ part1 (part2 ++ part3) c.from_residual.result _ c.from_residual.ensures.1 (starts _ _) refl
+          c.in_err-write_measured.ensures.written;
     }
 
 pub returns-in_err-write_measured-2 : goal.returns-in_err-write_measured-2

@@ -10,7 +10,8 @@ returns-in_err-write_all g c =
     let part2 = title_text c.args.name.now c.args.measure c.args.row.now in
     let part3 = codes "</title>" in
     record {
-      written = breaks_off _ _ _ _ _ part1 (part2 ++ part3) c.from_residual.result _ c.from_residual.ensures.1 (starts _ _) refl c.in_err-write_all.ensures.written;
+      written = breaks_off _ _ _ _ _ part1 (part2 ++ part3) c.from_residual.result _ c.from_residual.ensures.1 (starts _ _) refl
+          c.in_err-write_all.ensures.written;
     }
 
 pub returns-in_err-write_title : goal.returns-in_err-write_title

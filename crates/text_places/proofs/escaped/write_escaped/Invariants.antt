@@ -4,4 +4,5 @@ use Rattle.text_places.specs.Escaped.{escaped}
 use Rattle.text_places.proofs.escaped.write_escaped.Given as goal
 
 abbrev pub invariant-loop-byte : goal.invariant-loop-byte
-invariant-loop-byte g l = Progress (g.W.Out.state l.fn.out) (g.W.Out.state l.out) (escaped l.fn.name) (escaped (drop l.byte-index l.fn.name))
+invariant-loop-byte g l = Progress (g.W.Out.state l.fn.out) (g.W.Out.state l.out) (escaped l.fn.name)
+    (escaped (drop l.byte-index l.fn.name))

@@ -16,13 +16,16 @@ loop-choice-preserved c =
       same = c.in_ok-is_told.ensures.same ∙ c.loop-choice.invariant.same;
       all = c.loop-choice.invariant.all;
       gathered = elim c.if-branch.branch [
-        | then-branch+in_ok-push w ↦ subst (λ l. Gathered front all l (i + 1)) (sym w.in_ok-push.ensures.items ∙ sym (ap (λ v. v.items) w.found-is))
+        | then-branch+in_ok-push w ↦ subst (λ l. Gathered front all l (i + 1))
+            (sym w.in_ok-push.ensures.items ∙ sym (ap (λ v. v.items) w.found-is))
             (gathered_told front all _ i choice.Name c.loop-choice-test.true
-            (subst (λ l. IsTold l one) c.loop-choice.invariant.same (is_so _ (IsTold now one) c.in_ok-is_told.ensures.decides w.if-branch.true))
+            (subst (λ l. IsTold l one) c.loop-choice.invariant.same (is_so _ (IsTold now one) c.in_ok-is_told.ensures.decides
+                w.if-branch.true))
             c.loop-choice.invariant.gathered)
         | else-branch w ↦ subst (λ l. Gathered front all l (i + 1)) (sym (ap (λ v. v.items) w.found-is))
             (gathered_left_out front all _ i choice.Name c.loop-choice-test.true
-            (subst (λ l. IsTold l one → ⊥) c.loop-choice.invariant.same (is_not_so _ (IsTold now one) c.in_ok-is_told.ensures.decides w.if-branch.false))
+            (subst (λ l. IsTold l one → ⊥) c.loop-choice.invariant.same (is_not_so _ (IsTold now one) c.in_ok-is_told.ensures.decides
+                w.if-branch.false))
             c.loop-choice.invariant.gathered)
       ];
     }

@@ -12,5 +12,9 @@ returns g c =
     let count = c.as_bytes-5.ensures.value ∙ c.format-5.ensures.text in
     record {
       written = subst (λ (t : List ℕ). Writes (g.W.Out.state c.args.out.now) (g.W.Out.state c.write_parts.new.self) t c.write_parts.result)
-          (λ i. codes "<rect x='" ++ (x i ++ (codes "' y='" ++ (y i ++ (codes "' width='12' height='" ++ (height i ++ (codes "' " ++ (c.args.paint.now ++ (codes "><title>worker " ++ (number i ++ (c.args.did.now ++ (count i ++ (codes "</title></rect>\n"))))))))))))) c.write_parts.ensures.written;
+          (λ i. codes "<rect x='" ++ (x i ++ (codes "' y='" ++
+              (y i ++ (codes "' width='12' height='" ++
+              (height i ++ (codes "' " ++ (c.args.paint.now ++
+              (codes "><title>worker " ++ (number i ++ (c.args.did.now ++ (count i ++ (codes "</title></rect>\n")))))))))))))
+              c.write_parts.ensures.written;
     }

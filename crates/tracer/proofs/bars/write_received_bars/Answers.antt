@@ -22,7 +22,8 @@ returns-in_err-write_received_bar g c =
     let below : c.workers.w < length e.received = omega (arith, as_many, test) in
     record {
       written = writes_stopped _ _ _ c.from_residual.result _ c.from_residual.ensures.1
-          (stops _ _ _ _ _ _ _ c.workers.invariant.progress (received_at c.args.scale.most c.args.scale.x c.workers.w e.received c.received.result below c.received.ensures)
+          (stops _ _ _ _ _ _ _ c.workers.invariant.progress (received_at c.args.scale.most c.args.scale.x c.workers.w e.received
+              c.received.result below c.received.ensures)
           c.in_err-write_received_bar.ensures.written);
     }
 
@@ -34,5 +35,6 @@ workers-preserved g c =
     let below : c.workers.w < length e.received = omega (arith, as_many, test) in
     record {
       progress = goes_on _ _ _ _ _ _ _ c.workers.invariant.progress
-          (received_at c.args.scale.most c.args.scale.x c.workers.w e.received c.received.result below c.received.ensures) c.in_ok-write_received_bar.ensures.written;
+          (received_at c.args.scale.most c.args.scale.x c.workers.w e.received c.received.result below c.received.ensures)
+              c.in_ok-write_received_bar.ensures.written;
     }

@@ -8,7 +8,8 @@ returns-in_err-write_relation g c =
     let part1 = relation_text c.args.h in
     let part2 = line_text c.args.line in
     record {
-      written = breaks_off _ _ _ _ _ part1 part2 c.from_residual.result _ c.from_residual.ensures.1 (starts _ _) refl c.in_err-write_relation.ensures.written;
+      written = breaks_off _ _ _ _ _ part1 part2 c.from_residual.result _ c.from_residual.ensures.1 (starts _ _) refl
+          c.in_err-write_relation.ensures.written;
     }
 
 pub returns : goal.returns

@@ -10,7 +10,8 @@ returns-in_err-write_all g c =
     let part1 = codes " received" in
     let part2 = spaced (exchange_at c.args.counts.now c.args.k).received in
     record {
-      written = breaks_off _ _ _ _ _ part1 part2 c.from_residual.result _ c.from_residual.ensures.1 (starts _ _) refl c.in_err-write_all.ensures.written;
+      written = breaks_off _ _ _ _ _ part1 part2 c.from_residual.result _ c.from_residual.ensures.1 (starts _ _) refl
+          c.in_err-write_all.ensures.written;
     }
 
 pub returns : goal.returns

@@ -9,7 +9,8 @@ returns-in_err-write_sent g c =
     let part1 = spaced (exchange_at c.args.counts.now c.args.k).sent in
     let part2 = received_text (exchange_at c.args.counts.now c.args.k).received in
     record {
-      written = breaks_off _ _ _ _ _ part1 part2 c.from_residual.result _ c.from_residual.ensures.1 (starts _ _) refl c.in_err-write_sent.ensures.written;
+      written = breaks_off _ _ _ _ _ part1 part2 c.from_residual.result _ c.from_residual.ensures.1 (starts _ _) refl
+          c.in_err-write_sent.ensures.written;
     }
 
 pub returns : goal.returns

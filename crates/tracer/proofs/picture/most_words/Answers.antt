@@ -9,6 +9,7 @@ exchanges-preserved c =
     let long = c.drawn-i-end.ensures.drawn in
     let below : c.exchanges.i < length (drawn c.args.counts.now) = omega (arith, test, long) in
     record {
-      all = most_more c.args.counts.now c.exchanges.i c.exchanges.most c.max-most.result c.exchange-purpose.result.1 below c.exchanges.invariant.all
+      all = most_more c.args.counts.now c.exchanges.i c.exchanges.most c.max-most.result c.exchange-purpose.result.1 below
+          c.exchanges.invariant.all
           c.exchange-purpose.ensures.relation c.max-most.ensures;
     }

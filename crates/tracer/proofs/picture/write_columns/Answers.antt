@@ -23,7 +23,8 @@ returns-in_err-write_column g c =
     record {
       written = writes_stopped _ _ _ c.from_residual.result _ c.from_residual.ensures.1
           (stops _ _ _ _ _ _ _ c.exchanges.invariant.progress
-          (columns_at c.args.measure.workers c.args.measure.most c.args.lines.now c.args.counts.now c.exchanges.i c.line_of.result below c.line_of.ensures) c.in_err-write_column.ensures.written);
+          (columns_at c.args.measure.workers c.args.measure.most c.args.lines.now c.args.counts.now c.exchanges.i c.line_of.result below
+              c.line_of.ensures) c.in_err-write_column.ensures.written);
     }
 
 pub exchanges-preserved : goal.exchanges-preserved
@@ -33,5 +34,6 @@ exchanges-preserved g c =
     let below : c.exchanges.i < length (drawn c.args.counts.now) = omega (arith, test, long) in
     record {
       progress = goes_on _ _ _ _ _ _ _ c.exchanges.invariant.progress
-          (columns_at c.args.measure.workers c.args.measure.most c.args.lines.now c.args.counts.now c.exchanges.i c.line_of.result below c.line_of.ensures) c.in_ok-write_column.ensures.written;
+          (columns_at c.args.measure.workers c.args.measure.most c.args.lines.now c.args.counts.now c.exchanges.i c.line_of.result below
+              c.line_of.ensures) c.in_ok-write_column.ensures.written;
     }

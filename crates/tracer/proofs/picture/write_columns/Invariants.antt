@@ -5,6 +5,7 @@ use Rattle.tracer.proofs.picture.write_columns.Given as goal
 
 abbrev pub invariant-exchanges : goal.invariant-exchanges
 invariant-exchanges g l = record {
-  progress : Progress (g.W.Out.state l.fn.out) (g.W.Out.state l.out) (columns_from l.measure.workers l.measure.most l.lines 1 (drawn l.counts))
+  progress : Progress (g.W.Out.state l.fn.out) (g.W.Out.state l.out) (columns_from l.measure.workers l.measure.most l.lines 1
+      (drawn l.counts))
       (columns_from l.measure.workers l.measure.most l.lines (l.i + 1) (drop l.i (drawn l.counts)));
 }

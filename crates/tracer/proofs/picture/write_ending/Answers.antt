@@ -8,7 +8,8 @@ returns-in_err-write_scale g c =
     let part1 = scale c.args.width c.args.most in
     let part2 = outcome_text c.args.outcome.now in
     record {
-      written = breaks_off _ _ _ _ _ part1 part2 c.from_residual.result _ c.from_residual.ensures.1 (starts _ _) refl c.in_err-write_scale.ensures.written;
+      written = breaks_off _ _ _ _ _ part1 part2 c.from_residual.result _ c.from_residual.ensures.1 (starts _ _) refl
+          c.in_err-write_scale.ensures.written;
     }
 
 pub returns : goal.returns

@@ -8,7 +8,8 @@ returns-in_err-write_head g c =
     let part1 = head_text c.args.workers c.args.exchanges in
     let part2 = key_text in
     record {
-      written = breaks_off _ _ _ _ _ part1 part2 c.from_residual.result _ c.from_residual.ensures.1 (starts _ _) refl c.in_err-write_head.ensures.written;
+      written = breaks_off _ _ _ _ _ part1 part2 c.from_residual.result _ c.from_residual.ensures.1 (starts _ _) refl
+          c.in_err-write_head.ensures.written;
     }
 
 pub returns : goal.returns

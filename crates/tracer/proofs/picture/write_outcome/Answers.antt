@@ -10,7 +10,8 @@ returns-in_err-write_all g c =
     let part2 = letters c.args.outcome.now in
     let part3 = codes "</text>\n</svg>\n" in
     record {
-      written = breaks_off _ _ _ _ _ part1 (part2 ++ part3) c.from_residual.result _ c.from_residual.ensures.1 (starts _ _) refl c.in_err-write_all.ensures.written;
+      written = breaks_off _ _ _ _ _ part1 (part2 ++ part3) c.from_residual.result _ c.from_residual.ensures.1 (starts _ _) refl
+          c.in_err-write_all.ensures.written;
     }
 
 pub returns-in_err-write_letters : goal.returns-in_err-write_letters
@@ -20,7 +21,8 @@ returns-in_err-write_letters g c =
     let part3 = codes "</text>\n</svg>\n" in
     let after1 = goes_on _ _ _ _ _ part1 (part2 ++ part3) (starts _ _) refl c.in_ok-write_all.ensures.written in
     record {
-      written = breaks_off _ _ _ _ _ part2 part3 c.from_residual-in_err-write_letters.result _ c.from_residual-in_err-write_letters.ensures.1 after1 refl c.in_err-write_letters.ensures.written;
+      written = breaks_off _ _ _ _ _ part2 part3 c.from_residual-in_err-write_letters.result _
+          c.from_residual-in_err-write_letters.ensures.1 after1 refl c.in_err-write_letters.ensures.written;
     }
 
 pub returns : goal.returns

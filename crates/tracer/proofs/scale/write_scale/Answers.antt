@@ -8,7 +8,8 @@ returns-in_err-write_axes g c =
     let part1 = axes c.args.width in
     let part2 = ticks c.args.most in
     record {
-      written = breaks_off _ _ _ _ _ part1 part2 c.from_residual.result _ c.from_residual.ensures.1 (starts _ _) refl c.in_err-write_axes.ensures.written;
+      written = breaks_off _ _ _ _ _ part1 part2 c.from_residual.result _ c.from_residual.ensures.1 (starts _ _) refl
+          c.in_err-write_axes.ensures.written;
     }
 
 pub returns : goal.returns

@@ -8,7 +8,8 @@ returns-in_err-write_ticks_of g c =
     let part1 = ticks_of c.args.most (c.args.most / 2) in
     let part2 = ticks_of c.args.most c.args.most in
     record {
-      written = breaks_off _ _ _ _ _ part1 part2 c.from_residual.result _ c.from_residual.ensures.1 (starts _ _) refl c.in_err-write_ticks_of.ensures.written;
+      written = breaks_off _ _ _ _ _ part1 part2 c.from_residual.result _ c.from_residual.ensures.1 (starts _ _) refl
+          c.in_err-write_ticks_of.ensures.written;
     }
 
 pub returns : goal.returns

@@ -12,7 +12,8 @@ returns-in_err-write_exchange g c =
     let below : c.exchanges.i < length c.args.counts.now = omega (arith, test, long) in
     record {
       written = writes_stopped _ _ _ c.from_residual.result _ c.from_residual.ensures.1
-          (stops _ _ _ _ _ _ _ c.exchanges.invariant.progress (exchanges_at c.args.lines.now c.args.counts.now c.exchanges.i c.line_of.result below c.line_of.ensures)
+          (stops _ _ _ _ _ _ _ c.exchanges.invariant.progress (exchanges_at c.args.lines.now c.args.counts.now c.exchanges.i
+              c.line_of.result below c.line_of.ensures)
           c.in_err-write_exchange.ensures.written);
     }
 
@@ -22,6 +23,7 @@ exchanges-preserved g c =
     let long = c.len-i-end.ensures in
     let below : c.exchanges.i < length c.args.counts.now = omega (arith, test, long) in
     record {
-      progress = goes_on _ _ _ _ _ _ _ c.exchanges.invariant.progress (exchanges_at c.args.lines.now c.args.counts.now c.exchanges.i c.line_of.result below c.line_of.ensures)
+      progress = goes_on _ _ _ _ _ _ _ c.exchanges.invariant.progress (exchanges_at c.args.lines.now c.args.counts.now c.exchanges.i
+          c.line_of.result below c.line_of.ensures)
           c.in_ok-write_exchange.ensures.written;
     }

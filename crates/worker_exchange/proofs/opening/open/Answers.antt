@@ -51,7 +51,8 @@ returns-clause-going g c = λ bound runnable.
     } in
     let here : x.steps.bank.worker ≡ c.args.worker = c.in_ok-steps.ensures.worker.0 in
     let many : x.steps.bank.workers ≡ m.parts = c.in_ok-steps.ensures.worker.1 ∙ c.modules-workers.ensures in
-    let same : c.words_for_each.result * ((c.procs.result + (c.modules-workers.result - 1)) / c.modules-workers.result) ≡ most_words code m =
+    let same : c.words_for_each.result * ((c.procs.result + (c.modules-workers.result - 1)) / c.modules-workers.result) ≡
+        most_words code m =
     λ i. (c.words_for_each.ensures ∙ ap words_for_each c.rule.ensures.value) i
     * ((c.procs.ensures.value i + (c.modules-workers.ensures i - 1)) / c.modules-workers.ensures i) in
     let low = c.requires.worker in
@@ -66,7 +67,8 @@ returns-clause-going g c = λ bound runnable.
       cells = c.in_ok-cells.ensures.long ∙ ap m.width (sym here);
       asked = subst (λ (s : ℕ × ℕ). HaveRoom s.0 s.1 x.asked.items) (λ i. (c.modules-workers.ensures i, same i)) c.in_ok-room.ensures.asked;
       few = λ j. let none = ap length (c.in_ok-room.ensures.empty j) in omega (arith, none);
-      buffers = subst (λ (s : ℕ × ℕ). AreBuffers s.0 s.1 x.buffers) (λ i. (c.modules-workers.ensures i, same i)) c.in_ok-room.ensures.buffers;
+      buffers = subst (λ (s : ℕ × ℕ). AreBuffers s.0 s.1 x.buffers) (λ i. (c.modules-workers.ensures i, same i))
+          c.in_ok-room.ensures.buffers;
       values = (let n = c.in_ok-room.ensures.values in let most = c.in_ok-steps.ensures.most in omega (arith, n, most));
       below = subst (AllByRecursion (IsAskBelow m.count)) (sym c.in_ok-sent.ensures.ok.0) tt;
     } in

@@ -10,6 +10,7 @@ columns-preserved c =
     let l : c.columns.j < length row = omega arith in
     record {
       words = one_cleared row c.columns.j c.clear.new.self l c.clear.ensures.items c.columns.invariant.words;
-      rooms = same_of_all vec_capacity row c.columns.j v c.clear.new.self c.index-columns-j.is (c.clear.ensures.capacity ∙ ap vec_capacity (sym c.index-columns-j.is))
+      rooms = same_of_all vec_capacity row c.columns.j v c.clear.new.self c.index-columns-j.is
+          (c.clear.ensures.capacity ∙ ap vec_capacity (sym c.index-columns-j.is))
           ∙ c.columns.invariant.rooms;
     }

@@ -11,7 +11,8 @@ messages-preserved g c =
     let came = g.C.Column.came c.args.column.now in
     let i = c.messages.i in
     record {
-      each = one_part c.messages.parts i c.puts_of.result (λ j. put_part rule (read_header (message_at came j).header) (message_at came j).words)
+      each = one_part c.messages.parts i c.puts_of.result (λ j. put_part rule (read_header (message_at came j).header)
+          (message_at came j).words)
           (omega arith)
           (c.puts_of.ensures ∙ ap (λ h. put_part rule h c.words.result.now) (c.from_words-header.ensures ∙ ap read_header c.header.ensures)
           ∙ ap (λ ws. put_part rule (read_header (message_at came i).header) ws) c.words.ensures)

@@ -12,7 +12,8 @@ messages-preserved g c =
     let came = g.C.Column.came c.args.column.now in
     let j = c.messages.j in
     record {
-      words = one_kept c.messages.asked j c.put_words.new.to (λ i. ask_part rule (read_header (message_at came i).header) (message_at came i).words)
+      words = one_kept c.messages.asked j c.put_words.new.to (λ i. ask_part rule (read_header (message_at came i).header)
+          (message_at came i).words)
           (omega arith)
           (c.put_words.ensures.words ∙ c.asks_of-words.ensures
           ∙ ap (λ h. ask_part rule h c.words.result.now) (c.from_words-header.ensures ∙ ap read_header c.header.ensures)

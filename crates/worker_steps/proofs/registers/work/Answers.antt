@@ -8,7 +8,8 @@ use Rattle.superstep_instructions.specs.declared.instr.Instr.TheVariants.{Set}
 use Rattle.instruction_steps.specs.Views.{registers_of}
 use Rattle.instruction_steps.specs.Views.{uniform_of}
 use Rattle.worker_bank.specs.Bank.{IsAfter, IsFirstFault}
-use Rattle.worker_steps.proofs.KindLemmas.{set_fits, set_private, copy_private, negate_private, calculate_private, decide_private, not_private}
+use Rattle.worker_steps.proofs.KindLemmas.{set_fits, set_private, copy_private, negate_private, calculate_private, decide_private}
+use Rattle.worker_steps.proofs.KindLemmas.{not_private}
 use Rattle.worker_steps.proofs.registers.work.Goals as goal
 
 pub returns-in-Negate-Private-default-default-default-clause-after :
@@ -16,7 +17,8 @@ pub returns-in-Negate-Private-default-default-default-clause-after :
 returns-in-Negate-Private-default-default-default-clause-after c =
     let w = c.in-Negate-Private-default-default-default in
     λ code. subst (λ i. IsAfter code i (uniform_of c.args.u.now) c.args.bank.now c.negate.new.self)
-    (sym (negate_private (length c.args.bank.now.columns.items) c.args.instr w.side w.destination w.source w.position w.is c.requires.registers))
+    (sym (negate_private (length c.args.bank.now.columns.items) c.args.instr w.side w.destination w.source w.position w.is
+        c.requires.registers))
     (c.negate.ensures.after code (uniform_of c.args.u.now) w.position)
 
 pub returns-in-Negate-Private-default-default-default-clause-fault :
@@ -24,7 +26,8 @@ pub returns-in-Negate-Private-default-default-default-clause-fault :
 returns-in-Negate-Private-default-default-default-clause-fault c =
     let w = c.in-Negate-Private-default-default-default in
     λ code. subst (λ i. IsFirstFault code i c.args.bank.now c.negate.result)
-    (sym (negate_private (length c.args.bank.now.columns.items) c.args.instr w.side w.destination w.source w.position w.is c.requires.registers))
+    (sym (negate_private (length c.args.bank.now.columns.items) c.args.instr w.side w.destination w.source w.position w.is
+        c.requires.registers))
     (c.negate.ensures.fault code w.position)
 
 pub returns-in-Calculate-Private-default-default-default-default-default-clause-after :
@@ -32,7 +35,8 @@ pub returns-in-Calculate-Private-default-default-default-default-default-clause-
 returns-in-Calculate-Private-default-default-default-default-default-clause-after c =
     let w = c.in-Calculate-Private-default-default-default-default-default in
     λ code. subst (λ i. IsAfter code i (uniform_of c.args.u.now) c.args.bank.now c.calculate.new.self)
-    (sym (calculate_private (length c.args.bank.now.columns.items) c.args.instr w.side w.operation w.destination w.left w.right w.position w.is c.requires.registers))
+    (sym (calculate_private (length c.args.bank.now.columns.items) c.args.instr w.side w.operation w.destination w.left w.right w.position
+        w.is c.requires.registers))
     (c.calculate.ensures.after code (uniform_of c.args.u.now) w.position)
 
 pub returns-in-Calculate-Private-default-default-default-default-default-clause-fault :
@@ -40,7 +44,8 @@ pub returns-in-Calculate-Private-default-default-default-default-default-clause-
 returns-in-Calculate-Private-default-default-default-default-default-clause-fault c =
     let w = c.in-Calculate-Private-default-default-default-default-default in
     λ code. subst (λ i. IsFirstFault code i c.args.bank.now c.calculate.result)
-    (sym (calculate_private (length c.args.bank.now.columns.items) c.args.instr w.side w.operation w.destination w.left w.right w.position w.is c.requires.registers))
+    (sym (calculate_private (length c.args.bank.now.columns.items) c.args.instr w.side w.operation w.destination w.left w.right w.position
+        w.is c.requires.registers))
     (c.calculate.ensures.fault code w.position)
 
 pub returns-in-Copy-Private-default-default-clause-after : goal.returns-in-Copy-Private-default-default-clause-after
@@ -64,7 +69,8 @@ pub returns-in-Decide-Private-default-default-default-default-clause-after :
 returns-in-Decide-Private-default-default-default-default-clause-after c =
     let w = c.in-Decide-Private-default-default-default-default in
     λ code. subst (λ i. IsAfter code i (uniform_of c.args.u.now) c.args.bank.now c.decide.new.self)
-    (sym (decide_private (length c.args.bank.now.columns.items) c.args.instr w.side w.operation w.destination w.left w.right w.is c.requires.registers))
+    (sym (decide_private (length c.args.bank.now.columns.items) c.args.instr w.side w.operation w.destination w.left w.right w.is
+        c.requires.registers))
     (c.decide.ensures.after code (uniform_of c.args.u.now))
 
 pub returns-in-Not-Private-default-default-clause-after : goal.returns-in-Not-Private-default-default-clause-after

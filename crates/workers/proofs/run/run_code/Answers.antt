@@ -52,7 +52,8 @@ new-requires-2-clause-room g c =
     let parts = accepted.map.modules in
     let few = accepted.few in
     let many = c.in_ok-opened.ensures.count in
-    let here : slice_get workers 0 ≡ Some x = slice_get-get_or workers 0 x (omega (arith, few, many)) ∙ ap (λ y. Some y) (sym c.index.ensures) in
+    let here : slice_get workers 0 ≡ Some x = slice_get-get_or workers 0 x (omega (arith, few, many)) ∙ ap (λ y. Some y)
+        (sym c.index.ensures) in
     let reply = ((c.in_ok-opened.ensures.opened 0 x here).going c.args.terms.bound).equipped.buffers.reply in
     let most : c.capacity-most.result ≡ most_words code m = c.capacity-most.ensures ∙ reply in
     let short = few_words code m c.instructions-instructions.ensures.stands (omega (arith, few, parts)) in
@@ -68,7 +69,8 @@ play_all-seats-requires-clause-begin g c κs within =
     let parts = accepted.map.modules in
     let few = accepted.few in
     let many = c.in_ok-opened.ensures.count in
-    let here : slice_get workers 0 ≡ Some x = slice_get-get_or workers 0 x (omega (arith, few, many)) ∙ ap (λ y. Some y) (sym c.index.ensures) in
+    let here : slice_get workers 0 ≡ Some x = slice_get-get_or workers 0 x (omega (arith, few, many)) ∙ ap (λ y. Some y)
+        (sym c.index.ensures) in
     let goes = (c.in_ok-opened.ensures.opened 0 x here).going c.args.terms.bound in
     let most : c.capacity-most.result ≡ most_words code m = c.capacity-most.ensures ∙ goes.equipped.buffers.reply in
     let made = c.in-Ok-new.ensures in
@@ -90,7 +92,8 @@ gather-requires-clause-runnable g c =
     let x = c.index.result.now in
     let few = c.in_ok-opened.ensures.accepted.few in
     let many = c.in_ok-opened.ensures.count in
-    let here : slice_get workers 0 ≡ Some x = slice_get-get_or workers 0 x (omega (arith, few, many)) ∙ ap (λ y. Some y) (sym c.index.ensures) in
+    let here : slice_get workers 0 ≡ Some x = slice_get-get_or workers 0 x (omega (arith, few, many)) ∙ ap (λ y. Some y)
+        (sym c.index.ensures) in
     ((c.in_ok-opened.ensures.opened 0 x here).going c.args.terms.bound).runnable
 
 pub gather-requires-clause-ended : goal.gather-requires-clause-ended
@@ -138,9 +141,11 @@ returns-in-Some-clause-refused g c =
     let ended = subst (λ (o : Option (Vec CountedWorker Global)). IfSome o (λ ended. (input : List ℤ) → AreFresh code m input opened →
     HaveEnded code m c.args.terms.bound input c.play_all-seats.result.0.items ended.items))
     c.in-Some.is c.play_all-seats.ensures.ended c.args.input.now c.in_ok-opened.ensures.opened in
-    let have = subst (λ (o : Option (Vec CountedWorker Global)). IfSome o (λ ended. (reserve : Option Reserve) → HaveReserve reserve opened →
+    let have = subst (λ (o : Option (Vec CountedWorker Global)). IfSome o (λ ended. (reserve : Option Reserve) → HaveReserve
+        reserve opened →
     HaveReserve reserve ended.items)) c.in-Some.is c.play_all-seats.ensures.reserve c.args.terms.reserve c.in_ok-opened.ensures.given in
-    refused_with code m c.args.terms.workers c.args.input.now c.args.terms.bound c.args.terms.reserve c.gather.result c.in_ok-opened.ensures.accepted
+    refused_with code m c.args.terms.workers c.args.input.now c.args.terms.bound c.args.terms.reserve c.gather.result
+        c.in_ok-opened.ensures.accepted
     (c.gather.ensures.given c.args.terms.reserve have)
     (λ reserve is. if_err _ _ (λ refusal h. h c.args.terms.bound c.args.input.now reserve ended
     (subst (λ o. HaveReserve o c.in-Some.ended.items) is have)) c.gather.result c.gather.ensures.past)
@@ -153,7 +158,8 @@ returns-in-Some-clause-within g c =
     let ended = subst (λ (o : Option (Vec CountedWorker Global)). IfSome o (λ ended. (input : List ℤ) → AreFresh code m input opened →
     HaveEnded code m c.args.terms.bound input c.play_all-seats.result.0.items ended.items))
     c.in-Some.is c.play_all-seats.ensures.ended c.args.input.now c.in_ok-opened.ensures.opened in
-    let have = subst (λ (o : Option (Vec CountedWorker Global)). IfSome o (λ ended. (reserve : Option Reserve) → HaveReserve reserve opened →
+    let have = subst (λ (o : Option (Vec CountedWorker Global)). IfSome o (λ ended. (reserve : Option Reserve) → HaveReserve
+        reserve opened →
     HaveReserve reserve ended.items)) c.in-Some.is c.play_all-seats.ensures.reserve c.args.terms.reserve c.in_ok-opened.ensures.given in
     within_with code m c.args.input.now c.args.terms.bound c.args.terms.reserve c.gather.result
     (λ reserve is. if_ok _ _ (λ found h. h c.args.terms.bound c.args.input.now reserve ended

@@ -39,9 +39,11 @@ returns-clause-behind g c = λ states told w row at.
           (subst (λ v. IsAtExchange t v old (states n)) (sym (at.worker (alive on))) (at.shown (alive on) n low));
       counted = λ h n low.
           let on = (c.requires.ready.purpose (alive h)).going in
-          let more = one_more_told (count_of old (words_in came)) c.count.ensures.kept (c.count.ensures.made on) (c.count.ensures.counted on)
+          let more = one_more_told (count_of old (words_in came)) c.count.ensures.kept (c.count.ensures.made on)
+              (c.count.ensures.counted on)
           (at.counted (alive h) n low) in
-          subst (λ words. IsTold c.count.new.counts (told n ++ record (share_at x row came) { sent = words } ∷ [])) (at.sent (alive h)) more;
+          subst (λ words. IsTold c.count.new.counts (told n ++ record (share_at x row came) { sent = words } ∷ []))
+              (at.sent (alive h)) more;
       items = λ h.
           let had = at.items (alive h) in
           record {

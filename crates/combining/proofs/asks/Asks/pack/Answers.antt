@@ -1,4 +1,5 @@
-use Rattle.std.proofs.Common.{◌≡◌, ◌<◌, ◌+◌, ◌%◌, ◌^◌, ◌∷◌, length, ℕ, List, take, drop, sym, ap, ◌∙◌, subst, arith, true, false, length-take-le}
+use Rattle.std.proofs.Common.{◌≡◌, ◌<◌, ◌+◌, ◌%◌, ◌^◌, ◌∷◌, length, ℕ, List, take, drop, sym, ap, ◌∙◌, subst, arith, true, false}
+use Rattle.std.proofs.Common.{length-take-le}
 use Rattle.std.proofs.Common.{get_or}
 use Rattle.std.proofs.lemmas.List.{get_or_default}
 use Rattle.std.proofs.lemmas.Bool.{eq-eqb, ne_eqb}
@@ -99,7 +100,8 @@ returns-clause-words g c =
     let at = (g.M.AddressMap.shape c.args.map.now).part in
     let n = length_paired ask_at c.self.inside.index.keys c.self.inside.asked.items c.self.invariant.1 in
     let h = ap (λ (v : HeldAsks). length v.held) c.self.view_is in
-    pack_end words_of (is_for at c.args.part) c.args.self.now.held c.loop-i.i _ _ (let v = ap (λ (us : List ℕ). length us) c.keys-keys.ensures.keys in
+    pack_end words_of (is_for at c.args.part) c.args.self.now.held c.loop-i.i _ _
+        (let v = ap (λ (us : List ℕ). length us) c.keys-keys.ensures.keys in
     omega (arith, v)) c.loop-i.invariant.all ∙ sym (words_for at c.args.part c.args.self.now.held)
 
 pub returns-clause-count : goal.returns-clause-count

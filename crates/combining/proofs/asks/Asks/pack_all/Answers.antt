@@ -1,4 +1,5 @@
-use Rattle.std.proofs.Common.{◌≡◌, ◌≤◌, ◌<◌, ◌-◌, ◌+◌, ◌%◌, ◌^◌, ◌++◌, ℕ, List, length, drop, map, sym, ap, ◌∙◌, subst, arith, get_or, vec_capacity, append-nil}
+use Rattle.std.proofs.Common.{◌≡◌, ◌≤◌, ◌<◌, ◌-◌, ◌+◌, ◌%◌, ◌^◌, ◌++◌, ℕ, List, length, drop, map, sym, ap, ◌∙◌, subst, arith, get_or}
+use Rattle.std.proofs.Common.{vec_capacity, append-nil}
 use Rattle.std.proofs.lemmas.List.{drop_all}
 use Rattle.superstep_machine.specs.Words.{ask_words}
 use Rattle.combining.specs.Held.{paired}
@@ -71,7 +72,8 @@ add_ask_run-i-requires-clause-room g c =
     let within : home < length row = (let all = c.requires.modules in omega (arith, there, long, all)) in
     subst (λ (hs : List HeldAsk). length (get_or row home v).items + length (ask_words (asks_for m.part home (drop i hs)))
     ≤ vec_capacity (get_or row home v)) (sym same)
-    (room_for_run row c.args.columns.now home v (ask_words (asks_for m.part home (drop i held))) (ask_words (asks_for m.part home held)) within
+    (room_for_run row c.args.columns.now home v (ask_words (asks_for m.part home (drop i held)))
+        (ask_words (asks_for m.part home held)) within
     c.index-columns-at.is inv.rooms (c.requires.room home there) (inv.got home there))
 
 pub asks-smaller : goal.asks-smaller
@@ -122,7 +124,8 @@ asks-preserved g c =
     (λ j. ask_words (asks_for m.part j (drop next hs))) (get_or row home v).items w.items) same c.add_ask_run-i.ensures.got in
     record {
       rooms = same_of_all vec_capacity row home v w is (c.add_ask_run-i.ensures.room ∙ ap vec_capacity (sym is)) ∙ inv.rooms;
-      within = (let a = c.add_ask_run-i.ensures.within in let h = ap (λ (v : HeldAsks). length v.held) c.self.view_is in let p = length_paired ask_at ks xs n in omega (arith, a, h, p, n));
+      within = (let a = c.add_ask_run-i.ensures.within in let h = ap (λ (v : HeldAsks). length v.held) c.self.view_is in let p =
+          length_paired ask_at ks xs n in omega (arith, a, h, p, n));
       got = λ j low. run_added row home v w within is (to_come i) (to_come next) got j ∙ inv.got j low;
     }
 

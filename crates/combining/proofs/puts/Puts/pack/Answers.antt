@@ -1,4 +1,5 @@
-use Rattle.std.proofs.Common.{◌≡◌, ◌<◌, ◌+◌, ◌∷◌, ◌++◌, length, ℕ, take, drop, sym, ap, ◌∙◌, subst, arith, true, false, length-take-le, get_or}
+use Rattle.std.proofs.Common.{◌≡◌, ◌<◌, ◌+◌, ◌∷◌, ◌++◌, length, ℕ, take, drop, sym, ap, ◌∙◌, subst, arith, true, false, length-take-le}
+use Rattle.std.proofs.Common.{get_or}
 use Rattle.std.proofs.Common.{eqb}
 use Rattle.std.proofs.lemmas.List.{get_or_default}
 use Rattle.std.proofs.lemmas.Bool.{eq-eqb, ne_eqb}

@@ -1,4 +1,5 @@
-use Rattle.std.proofs.Common.{rules, FitsSigned, ◌≡◌, ◌∙◌, ◌<◌, ◌++◌, ◌∷◌, [], length, length-append, set, get_or, ap, arith, ℕ, w64, to_z, of_z}
+use Rattle.std.proofs.Common.{rules, FitsSigned, ◌≡◌, ◌∙◌, ◌<◌, ◌++◌, ◌∷◌, [], length, length-append, set, get_or, ap, arith, ℕ, w64, to_z}
+use Rattle.std.proofs.Common.{of_z}
 use Rattle.std.proofs.lemmas.Int.{to_z-of_z}
 use Rattle.combining.specs.Asked.{unasked, both}
 use Rattle.combining.proofs.Marks.{length_both, both_put, both_more}

@@ -1,4 +1,5 @@
-use Rattle.std.proofs.Common.{rules, FitsSigned, to_z, of_z, ◌≡◌, ◌∙◌, ◌<◌, [], ℤ, List, length, take, map, set, get_or, ap, sym, arith, min}
+use Rattle.std.proofs.Common.{rules, FitsSigned, to_z, of_z, ◌≡◌, ◌∙◌, ◌<◌, [], ℤ, List, length, take, map, set, get_or, ap, sym, arith}
+use Rattle.std.proofs.Common.{min}
 use Rattle.std.specs.Int.{cast_signed, w64}
 use Rattle.std.proofs.lemmas.Int.{to_z-of_z}
 use Rattle.std.proofs.lemmas.Bool.{eqb-true}
@@ -18,7 +19,8 @@ returns-then-is_empty-clause-items c =
     let few : n ≡ min (length ws) (length bs) = (let h = c.min-count.ensures in let k = c.len.ensures in let v = c.self.inside.marks.ok in
     omega (arith, h, k, v)) in
     rw (c.values_of.ensures.values, ← c.self.view_is)
-    (ap (λ us. both bs (map (cast_signed w64) us)) (take_few n (length bs) ws few) ∙ both_words bs ws ∙ ap (λ us. worded ws (both bs us)) (sym none))
+    (ap (λ us. both bs (map (cast_signed w64) us)) (take_few n (length bs) ws few) ∙ both_words bs ws ∙ ap (λ us. worded ws (both bs us))
+        (sym none))
 
 pub put-requires : goal.put-requires
 put-requires c =
@@ -35,7 +37,8 @@ pub returns-clause-items : goal.returns-clause-items
 returns-clause-items c =
     let ws = c.args.words.now in
     let xs = c.args.self.now.items in
-    let long = ap (λ (y : AllAsked). length y.items) (sym c.self.view_is) ∙ length_both c.self.inside.marks.items c.self.inside.came.items in
+    let long = ap (λ (y : AllAsked). length y.items) (sym c.self.view_is) ∙ length_both c.self.inside.marks.items
+        c.self.inside.came.items in
     let end : c.loop-i.i ≡ min (length ws) (length xs) =
     (let few = c.min-count.ensures in let k = c.len.ensures in let v = c.self.inside.marks.ok in let t = c.loop-i-test.false in
     let e = c.loop-i.auto.i-end in omega (arith, long, few, k, v, t, e)) in
