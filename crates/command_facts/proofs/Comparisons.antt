@@ -2,8 +2,8 @@
 use Rattle.std.proofs.Common.{◌≡◌, ◌≤◌, ℕ, ℤ, List, subst, sym}
 use Rattle.std.specs.Prelude.{Option, length}
 use Rattle.pram_model.specs.Layout.{SharedEntry, total_size}
-use Rattle.rule_comparison.specs.Compared.{IsComparison}
-use Rattle.rule_comparison.specs.declared.comparison.UnderRules.{UnderRules}
+use Rattle.comparing.specs.Compared.{IsComparison}
+use Rattle.comparing.specs.declared.rules.UnderRules.{UnderRules}
 use Rattle.command_requests.specs.declared.request.ProgramFile.{ProgramFile}
 use Rattle.command_requests.specs.declared.request.RunWords.{RunWords}
 use Rattle.command_facts.specs.declared.loaded.Loaded.{Loaded}

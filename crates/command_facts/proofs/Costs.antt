@@ -1,8 +1,8 @@
 -- The costs of a run, put together from what `cost_of` says of each number.
 use Rattle.std.proofs.Common.{◌≡◌, ℕ, List, ◌+◌, ◌/◌, ap, subst, ◌∙◌}
-use Rattle.work_time.specs.Cost as cost
-use Rattle.work_time.specs.declared.cost.Cost.{Cost}
-use Rattle.work_time.specs.declared.time_step.TimeStep.{TimeStep}
+use Rattle.costs.specs.Cost as cost
+use Rattle.costs.specs.declared.cost.Cost.{Cost}
+use Rattle.costs.specs.declared.time_step.TimeStep.{TimeStep}
 use Rattle.command_facts.specs.Found.{IsCost}
 
 pub costs_are : (ss : List TimeStep) (p q : ℕ) (c : Cost) → p ≡ q → c.time ≡ cost.time ss → c.work ≡ cost.work ss →

@@ -8,7 +8,7 @@ use Rattle.std.specs.List.{AllZip, Any}
 use Rattle.pram_check.specs.Checked.{Checked}
 use Rattle.pram_tokens.specs.Scanning.{longest}
 use Rattle.system_files.specs.Files.{IsSame}
-use Rattle.comparisons.specs.Found.{values_of}
+use Rattle.comparing.specs.Found.{values_of}
 use Rattle.command_requests.specs.declared.input_words.InputFile.{InputFile}
 use Rattle.command_requests.specs.declared.input_words.InputWords.{InputWords}
 use Rattle.command_requests.specs.declared.input_words.InputWords.TheVariants as inputs

@@ -13,7 +13,7 @@ use Rattle.diagnoses.specs.Sources.{text_by}
 use Rattle.command_requests.specs.declared.request.ProgramFile.{ProgramFile}
 use Rattle.command_requests.specs.declared.request.SizeWord.{SizeWord}
 use Rattle.command_facts.specs.declared.loaded.Loaded.{Loaded}
-use Rattle.command_sizes.specs.Expanded.{HasExpansion, IsExpandedBy}
+use Rattle.command_requests.specs.Expanded.{HasExpansion, IsExpandedBy}
 use Rattle.command_facts.specs.Found.{IsLoaded}
 use Rattle.command_facts.specs.Held.{IsExpansionIn}
 use Rattle.command_facts.specs.Refused.{IsProgramIn, IsProgramOfText}

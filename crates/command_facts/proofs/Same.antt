@@ -18,8 +18,8 @@ use Rattle.command_requests.specs.declared.request.RunWords.{RunWords}
 use Rattle.command_requests.specs.declared.request.SizeWord.{SizeWord}
 use Rattle.command_requests.specs.declared.request.Verb.{Verb}
 use Rattle.command_requests.specs.declared.request.Verb.TheVariants as verb
-use Rattle.sweep_texts.specs.declared.size_row.Ending.{Ending}
-use Rattle.sweep_texts.specs.declared.size_row.SizeRow.{SizeRow}
+use Rattle.sweeps.specs.declared.size_row.Ending.{Ending}
+use Rattle.sweeps.specs.declared.size_row.SizeRow.{SizeRow}
 use Rattle.command_facts.specs.declared.found.FoundRun.{FoundRun}
 use Rattle.command_facts.specs.declared.loaded.Loaded.{Loaded}
 use Rattle.command_facts.specs.Found.{IsLoaded, IsOpening, IsRunFound}

@@ -3,14 +3,14 @@ use Rattle.std.proofs.Common.{Bor, ◌≡◌, ◌<◌, ◌+◌, length, take, ge
 use Rattle.std.proofs.lemmas.List.{take_more}
 use Rattle.std.specs.Prelude.{◌⊎◌, Option, Result, Ok, Err, IfOk}
 use Rattle.std.specs.List.{AllZip}
-use Rattle.sweep_texts.specs.declared.size_row.SizeRow.{SizeRow}
+use Rattle.sweeps.specs.declared.size_row.SizeRow.{SizeRow}
 use Rattle.command_requests.specs.declared.opening.Opening.{Opening}
 use Rattle.command_requests.specs.declared.opening.Opening.TheVariants as opening
-use Rattle.drawn_inputs.specs.declared.drawing.Drawing.{Drawing}
+use Rattle.scopes.specs.declared.drawing.Drawing.{Drawing}
 use Rattle.command_requests.specs.declared.request.ProgramFile.{ProgramFile}
 use Rattle.command_requests.specs.declared.request.RunWords.{RunWords}
 use Rattle.command_requests.specs.declared.request.SizeWord.{SizeWord}
-use Rattle.sweep_texts.specs.declared.size_row.Ending.{Ending}
+use Rattle.sweeps.specs.declared.size_row.Ending.{Ending}
 use Rattle.command_requests.specs.declared.request.Verb.TheVariants as verb
 use Rattle.command_facts.specs.declared.found.FoundRun.{FoundRun}
 use Rattle.command_facts.specs.Found.{IsRunFound}

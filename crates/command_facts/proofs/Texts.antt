@@ -12,8 +12,8 @@ use Rattle.diagnoses.specs.declared.source.Source.{Source}
 use Rattle.command_requests.specs.declared.request.ProgramFile.{ProgramFile}
 use Rattle.command_requests.specs.declared.request.SizeWord.{SizeWord}
 use Rattle.diagnoses.specs.declared.halted.Halted.{Halted}
-use Rattle.command_sizes.specs.Expanded.{HasExpansion, HasNoExpansion, IsExpandedBy}
-use Rattle.command_sizes.specs.Given.{IsOfSizes}
+use Rattle.command_requests.specs.Expanded.{HasExpansion, HasNoExpansion, IsExpandedBy}
+use Rattle.command_requests.specs.Given.{IsOfSizes}
 use Rattle.command_facts.specs.Held.{IsAtText, IsUnread, StopsAtText}
 use Rattle.command_facts.proofs.Files.{read_whole}
 

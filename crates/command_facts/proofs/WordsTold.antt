@@ -1,7 +1,7 @@
 -- Words that are told of costs are enough for a run.
 use Rattle.std.proofs.Common.{◌≡◌, ◌∙◌, ℕ, Option, Some, None, ap, arith, sym}
-use Rattle.communication.specs.Law.{communication}
-use Rattle.communication.proofs.Bounded.{accesses_within, costs_tell_communication}
+use Rattle.program_runs.specs.Law.{communication}
+use Rattle.program_runs.proofs.Bounded.{accesses_within, costs_tell_communication}
 use Rattle.command_facts.specs.CostLaws.{CostsBoundWords}
 
 abbrev value : Option ℕ → ℕ

@@ -10,9 +10,9 @@ use Rattle.program_texts.specs.Status.{status_of}
 use Rattle.program_texts.specs.declared.status.Status.{Status}
 use Rattle.program_texts.specs.declared.status.Status.TheVariants as status
 use Rattle.program_texts.specs.declared.stop.Stop.{Stop}
-use Rattle.sweep_texts.specs.declared.size_row.Ending.{Ending}
-use Rattle.sweep_texts.specs.declared.size_row.Ending.TheVariants as ending
-use Rattle.sweep_texts.specs.declared.size_row.SizeRow.{SizeRow}
+use Rattle.sweeps.specs.declared.size_row.Ending.{Ending}
+use Rattle.sweeps.specs.declared.size_row.Ending.TheVariants as ending
+use Rattle.sweeps.specs.declared.size_row.SizeRow.{SizeRow}
 use Rattle.diagnoses.specs.declared.about.About.TheVariants as about
 use Rattle.command_requests.specs.declared.request.ProgramFile.{ProgramFile}
 use Rattle.command_requests.specs.declared.request.Request.{Request}
@@ -27,7 +27,7 @@ use Rattle.bsp_verify.specs.WellFormed.{IsWellFormed}
 use Rattle.command_facts.specs.Held.{IsExpansionIn, IsListingIn, IsTextIn, StopsAtListing, StopsAtProgram, StopsAtText}
 use Rattle.command_facts.specs.Found.{IsCodeFound, IsComparisonFound, IsLoaded, IsRunFound, IsStepsFound}
 use Rattle.command_facts.specs.Refused.{RefusesCodeRun, RefusesRun, StopsAtCode}
-use Rattle.comparisons.specs.Found as comparisons
+use Rattle.comparing.specs.Found as comparisons
 use Rattle.command_facts.specs.Pairs.{IsPaired, StopsAtPair}
 use Rattle.command_facts.specs.Scopes.{IsExplored, StopsAtExploration}
 use Rattle.command_facts.specs.Sweeps.{IsSwept, StopsAtSweep}

@@ -9,7 +9,7 @@ use Rattle.program_texts.specs.Report.{IsMeaningOf}
 use Rattle.program_runs.specs.Reserved.{IsProgramRunWith}
 use Rattle.run_options.specs.declared.options.Options.{Options}
 use Rattle.run_options.specs.declared.reserve.Reserve.{Reserve}
-use Rattle.work_time.specs.declared.cost.Cost.{Cost}
+use Rattle.costs.specs.declared.cost.Cost.{Cost}
 use Rattle.command_facts.specs.Found.{IsCostOf}
 
 -- A run by workers that doesn't fault sends at most as many words in all its exchanges as the costs tell for so many workers, on the same

@@ -9,23 +9,23 @@ use Rattle.superstep_instructions.specs.Code.{SuperstepCode}
 use Rattle.write_rules.specs.Verdict.{verdict_of, Verdict, Ended, Faulted, GoesOn}
 use Rattle.write_rules.specs.declared.outcome.Outcome.{Outcome}
 use Rattle.program_texts.specs.Report.{IsMeaningOf, IsProgramOf}
-use Rattle.work_time.specs.declared.cost.Cost.{Cost}
-use Rattle.work_time.specs.Communication.{most_words}
-use Rattle.work_time.specs.Steps.{run_steps}
-use Rattle.work_time.specs.declared.time_step.TimeStep.{TimeStep}
-use Rattle.work_time.specs.Cost as cost
+use Rattle.costs.specs.declared.cost.Cost.{Cost}
+use Rattle.costs.specs.Communication.{most_words}
+use Rattle.costs.specs.Steps.{run_steps}
+use Rattle.costs.specs.declared.time_step.TimeStep.{TimeStep}
+use Rattle.costs.specs.Cost as cost
 use Rattle.exchange_bound.specs.Bound.{exchange_bound}
-use Rattle.rule_comparison.specs.Compared.{IsComparison}
-use Rattle.rule_comparison.specs.declared.comparison.UnderRules.{UnderRules}
+use Rattle.comparing.specs.Compared.{IsComparison}
+use Rattle.comparing.specs.declared.rules.UnderRules.{UnderRules}
 use Rattle.exchange_lines.specs.Lines.{AreLinesOf}
 use Rattle.program_texts.specs.Shown.{fault_text}
 use Rattle.program_runs.specs.Compiled.{IsCodeOf}
 use Rattle.program_runs.specs.Reserved.{IsCodeRunWith, IsProgramRunWith}
-use Rattle.step_entries.specs.Entries.{Entry}
-use Rattle.step_journal.specs.Entries.{run_entries}
-use Rattle.drawn_inputs.specs.Drawn.{drawn}
+use Rattle.journal.specs.Entries.{Entry}
+use Rattle.journal.specs.RunEntries.{run_entries}
+use Rattle.scopes.specs.Drawn.{drawn}
 use Rattle.memory_texts.specs.Chosen.{unknown_name}
-use Rattle.step_focus.specs.Focus.{undeclared_name}
+use Rattle.step_text.specs.Focus.{undeclared_name}
 use Rattle.command_requests.specs.declared.opening.Opening.{Opening}
 use Rattle.command_requests.specs.declared.opening.Opening.TheVariants as opening
 use Rattle.command_requests.specs.declared.request.RunWords.{RunWords}

@@ -26,8 +26,8 @@ use Rattle.command_requests.specs.declared.request.ProgramFile.{ProgramFile}
 use Rattle.command_requests.specs.declared.request.SizeWord.{SizeWord}
 use Rattle.diagnoses.specs.declared.source.Source.{Source}
 use Rattle.sized_texts.specs.Pieces.{Expansion}
-use Rattle.command_sizes.specs.Expanded.{HasExpansion, HasNoExpansion, IsExpandedBy}
-use Rattle.command_sizes.specs.Given.{IsOfSizes}
+use Rattle.command_requests.specs.Expanded.{HasExpansion, HasNoExpansion, IsExpandedBy}
+use Rattle.command_requests.specs.Given.{IsOfSizes}
 use Rattle.command_facts.specs.Listings.{IsOfListing, IsUnverifiedText}
 
 -- the file holds an input of these values

@@ -3,14 +3,14 @@ use Rattle.std.specs.Prelude.{◌≡◌, ◌⊎◌, ℕ, List, Option, Some, Non
 use Rattle.std.specs.Option.{option_map}
 use Rattle.sized_texts.specs.Formulas.{number_by}
 use Rattle.sized_texts.specs.declared.size.Size.{Size}
-use Rattle.comparisons.specs.declared.compared.Limits.{Limits}
+use Rattle.comparing.specs.declared.compared.Limits.{Limits}
 use Rattle.program_texts.specs.declared.from_text.Refusal.TheVariants as refusal
 use Rattle.program_texts.specs.declared.stop.Stop.{Stop}
 use Rattle.program_texts.specs.declared.stop.Stop.TheVariants as stop
 use Rattle.diagnoses.specs.declared.about.About.TheVariants as about
 use Rattle.command_requests.specs.declared.pair_words.PairWords.{PairWords}
 use Rattle.command_requests.specs.declared.request.SizeWord.{SizeWord}
-use Rattle.command_sizes.specs.Given.{AreSizesOf, IsOfSizes}
+use Rattle.command_requests.specs.Given.{AreSizesOf, IsOfSizes}
 use Rattle.diagnoses.specs.declared.halted.Halted.{Halted}
 
 -- An expression comes to that number by the sizes of a text and of the words of the call.

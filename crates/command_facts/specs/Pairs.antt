@@ -5,17 +5,17 @@ use Rattle.std.specs.Option.{unwrap_or}
 use Rattle.pram_model.specs.Layout.{SharedEntry, total_size}
 use Rattle.pram_model.specs.Names.{same_text}
 use Rattle.pram_check.specs.Checked.{Checked}
-use Rattle.small_scopes.specs.Scopes.{inputs_of}
+use Rattle.scopes.specs.Scopes.{inputs_of}
 use Rattle.memory_texts.specs.Chosen.{is_chosen, parts}
 use Rattle.memory_texts.specs.declared.choice.Choice.{Choice}
 use Rattle.memory_texts.specs.declared.choice.Choice.TheVariants.{All, Named, Nothing}
-use Rattle.comparisons.specs.Common.{common, common_named, front_cells}
-use Rattle.comparisons.specs.Found.{drawn_inputs, found, found_is, longest, most_told, too_long}
-use Rattle.comparisons.specs.declared.compared.CommonRange.{CommonRange}
-use Rattle.comparisons.specs.declared.compared.Compared.{Compared}
-use Rattle.comparisons.specs.declared.comparison.Comparison.{Comparison}
-use Rattle.comparisons.specs.declared.refusal.Side.{Side}
-use Rattle.comparisons.specs.declared.refusal.Side.TheVariants as side
+use Rattle.comparing.specs.Common.{common, common_named, front_cells}
+use Rattle.comparing.specs.Found.{drawn_inputs, found, found_is, longest, most_told, too_long}
+use Rattle.comparing.specs.declared.compared.CommonRange.{CommonRange}
+use Rattle.comparing.specs.declared.compared.Compared.{Compared}
+use Rattle.comparing.specs.declared.comparison.Comparison.{Comparison}
+use Rattle.comparing.specs.declared.refusal.Side.{Side}
+use Rattle.comparing.specs.declared.refusal.Side.TheVariants as side
 use Rattle.command_requests.specs.declared.input_words.DrawnWords.{DrawnWords}
 use Rattle.command_requests.specs.declared.input_words.InputFile.{InputFile}
 use Rattle.command_requests.specs.declared.input_words.InputWords.{InputWords}

@@ -14,7 +14,7 @@ use Rattle.diagnoses.specs.declared.about.About.{About}
 use Rattle.diagnoses.specs.declared.about.About.TheVariants as about
 use Rattle.program_runs.specs.Reserved.{IsCodeRefusedWith, IsProgramRefusedWith}
 use Rattle.memory_texts.specs.Chosen.{unknown_name}
-use Rattle.step_focus.specs.Focus.{undeclared_name}
+use Rattle.step_text.specs.Focus.{undeclared_name}
 use Rattle.command_requests.specs.declared.opening.Opening.{Opening}
 use Rattle.command_requests.specs.declared.opening.Opening.TheVariants as opening
 use Rattle.command_requests.specs.declared.request.RunWords.{RunWords}
@@ -24,7 +24,7 @@ use Rattle.diagnoses.specs.declared.halted.Halted.{Halted}
 use Rattle.command_facts.specs.Found.{IsOpening}
 use Rattle.sized_texts.specs.Pieces.{Expansion}
 use Rattle.command_requests.specs.declared.request.ProgramFile.{ProgramFile}
-use Rattle.command_sizes.specs.Expanded.{IsExpandedBy}
+use Rattle.command_requests.specs.Expanded.{IsExpandedBy}
 use Rattle.command_facts.specs.Held.{IsExpansionIn, IsListingIn, StopsAtInput, StopsAtListing, StopsAtMemory, StopsAtProgram}
 
 -- ---- what is told of a run that is refused

@@ -4,8 +4,8 @@ use Rattle.pram_model.specs.Layout.{total_size}
 use Rattle.pram_model.specs.declared.rule.Rule.{Rule}
 use Rattle.pram_check.specs.Checked.{Checked}
 use Rattle.pram_check.specs.OtherRule.{under}
-use Rattle.explorations.specs.Found.{found, found_is}
-use Rattle.small_scopes.specs.Scopes.{inputs_of}
+use Rattle.scopes.specs.Found.{found, found_is}
+use Rattle.scopes.specs.Scopes.{inputs_of}
 use Rattle.command_requests.specs.declared.request.ProgramFile.{ProgramFile}
 use Rattle.command_requests.specs.declared.scope_words.ScopeWords.{ScopeWords}
 use Rattle.diagnoses.specs.declared.about.About.{About}

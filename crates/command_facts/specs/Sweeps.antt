@@ -9,7 +9,7 @@ use Rattle.sized_texts.specs.declared.fault.SizeFault.{SizeFault}
 use Rattle.sized_texts.specs.declared.sweep.Sweep.{Sweep}
 use Rattle.sized_texts.specs.Sweeps.{IsSweepOf}
 use Rattle.write_rules.specs.Verdict.{Ended, Faulted, GoesOn, Verdict, verdict_of}
-use Rattle.work_time.specs.declared.cost.Cost.{Cost}
+use Rattle.costs.specs.declared.cost.Cost.{Cost}
 use Rattle.program_texts.specs.Shown.{fault_text}
 use Rattle.program_texts.specs.declared.from_text.Refusal.TheVariants as refusal
 use Rattle.program_texts.specs.declared.stop.Stop.{Stop}
@@ -17,13 +17,13 @@ use Rattle.program_texts.specs.declared.stop.Stop.TheVariants as stop
 use Rattle.diagnoses.specs.RefusedLines.{stop_line}
 use Rattle.diagnoses.specs.declared.about.About.TheVariants as about
 use Rattle.pram_model.specs.Layout.{SharedEntry}
-use Rattle.sweep_texts.specs.Tables.{IsToldOf, table}
-use Rattle.sweep_texts.specs.declared.measure.Measure.TheVariants.{Time, Work}
-use Rattle.sweep_texts.specs.declared.size_row.Counts.{Counts}
-use Rattle.sweep_texts.specs.declared.size_row.Ending.{Ending}
-use Rattle.sweep_texts.specs.declared.size_row.Ending.TheVariants as ending
-use Rattle.sweep_texts.specs.declared.size_row.SizeRow.{SizeRow}
-use Rattle.command_sizes.specs.Given.{AreSizesOf, IsOfSizes}
+use Rattle.sweeps.specs.SweptTables.{IsToldOf, table}
+use Rattle.sweeps.specs.declared.measure.Measure.TheVariants.{Time, Work}
+use Rattle.sweeps.specs.declared.size_row.Counts.{Counts}
+use Rattle.sweeps.specs.declared.size_row.Ending.{Ending}
+use Rattle.sweeps.specs.declared.size_row.Ending.TheVariants as ending
+use Rattle.sweeps.specs.declared.size_row.SizeRow.{SizeRow}
+use Rattle.command_requests.specs.Given.{AreSizesOf, IsOfSizes}
 use Rattle.command_requests.specs.declared.opening.Opening.{Opening}
 use Rattle.command_requests.specs.declared.opening.Opening.TheVariants as opening
 use Rattle.command_requests.specs.declared.request.ProgramFile.{ProgramFile}

@@ -5,10 +5,10 @@ ghost use Rattle.command_facts.specs.Scopes as spec;
 
 use crate::found::FoundScope;
 use crate::loading::load_program;
-use call_progress::Watch;
+use observing::Watch;
 use command_requests::{ProgramFile, ScopeWords};
 use diagnoses::{About, Halted};
-use explorers::explore_by;
+use scopes::explore_by;
 use pram_check::Program;
 use pram_meaning::MeaningRefusal;
 use pram_trees::Rule;

@@ -6,17 +6,16 @@ ghost use Rattle.command_facts.specs.Found.{with_outcome};
 use crate::loaded::Loaded;
 use bsp_verify::Verified;
 use command_requests::{Form, RunWords};
-use comparisons::Comparison;
+use comparing::{Comparison, UnderRules};
 use diagnoses::Source;
 use exchange_counts::Counts;
 use explanations::Subject;
-use explorations::Findings;
+use scopes::Findings;
 use memory_texts::Choice;
 use pram_check::Program;
-use rule_comparison::UnderRules;
 use sized_texts::Sweep;
-use sweep_texts::{Growths, SizeRow};
-use work_time::Cost;
+use sweeps::{Growths, SizeRow};
+use costs::Cost;
 use write_rules::Outcome;
 
 /// What is found of a program's run beside its outcome.

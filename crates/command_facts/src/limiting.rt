@@ -6,13 +6,12 @@ ghost use Rattle.pram_tokens.specs.Plain.{IsPlain};
 ghost use Rattle.sized_texts.specs.Faults.{Answers};
 ghost use Rattle.sized_texts.specs.Formulas as formulas;
 ghost use Rattle.sized_texts.specs.declared.size.Size.{Size};
-ghost use Rattle.command_sizes.specs.Given.{AreSizesOf};
+ghost use Rattle.command_requests.specs.Given.{AreSizesOf};
 ghost use Rattle.command_requests.specs.declared.request.SizeWord.{SizeWord as SizeWordOf};
 ghost use Rattle.command_facts.specs.Limits as spec;
 
-use command_requests::{PairWords, SizeWord};
-use command_sizes::sizes_of;
-use comparisons::Limits;
+use command_requests::{PairWords, SizeWord, sizes_of};
+use comparing::Limits;
 use diagnoses::Halted;
 use program_texts::{Refusal, Stop};
 use sized_texts::{SizeFault, number_by};

@@ -17,10 +17,9 @@ ghost use Rattle.command_facts.specs.Listings.{reason_word as spec_reason_word};
 
 use crate::loaded::Loaded;
 use bsp_verify::{Reason, Verified, VerifyFault, verify};
-use command_requests::ProgramFile;
-use command_sizes::{expanded, sizes_of};
+use command_requests::{ProgramFile, expanded, sizes_of};
 use diagnoses::{About, Halted, Kind, Source, Unread};
-use near_names::nearest_name;
+use help::nearest_name;
 use pram_tokens::LONGEST;
 use pram_trees::TextFault;
 use program_texts::{Refusal, Stop, read_program};

@@ -3,7 +3,7 @@
 ghost use Rattle.std.specs.Prelude.{◌≡◌, List, IfOk, IfErr};
 ghost use Rattle.pram_model.specs.Layout.{SharedEntry, total_size};
 ghost use Rattle.memory_texts.specs.Memory.{IsRefused};
-ghost use Rattle.drawn_inputs.specs.Drawn.{drawn};
+ghost use Rattle.scopes.specs.Drawn.{drawn};
 ghost use Rattle.system_files.specs.Files.{IsSame};
 ghost use Rattle.diagnoses.specs.declared.about.About.TheVariants.{Nothing};
 ghost use Rattle.program_texts.specs.declared.from_text.Refusal.TheVariants.{OutOfMemory};
@@ -15,7 +15,7 @@ ghost use Rattle.command_facts.specs.Refused.{StopsAtOpening};
 use crate::loading::{load, source_of};
 use command_requests::Opening;
 use diagnoses::{About, Halted, Kind};
-use drawn_inputs::{Drawing, draw};
+use scopes::{Drawing, draw};
 use memory_texts::{MemoryFault, read_memory};
 use pram_check::{Breach, Cause, Spot};
 use pram_tokens::LONGEST;

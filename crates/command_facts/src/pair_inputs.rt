@@ -3,7 +3,7 @@
 ghost use Rattle.std.specs.Prelude.{IfOk, IfErr, map};
 ghost use Rattle.std.specs.List.{AllZip};
 ghost use Rattle.system_files.specs.Files.{IsSame};
-ghost use Rattle.comparisons.specs.Found.{values_of};
+ghost use Rattle.comparing.specs.Found.{values_of};
 ghost use Rattle.command_facts.specs.Pairs as spec;
 
 use crate::opening::load_input;

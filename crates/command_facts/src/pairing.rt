@@ -6,11 +6,11 @@ ghost use Rattle.std.specs.Option.{option_map};
 ghost use Rattle.system_files.specs.Files.{IsSame};
 ghost use Rattle.memory_texts.specs.Chosen.{parts};
 ghost use Rattle.pram_tokens.specs.Plain.{IsPlain};
-ghost use Rattle.small_scopes.specs.Scopes.{inputs_of};
-ghost use Rattle.comparisons.specs.Common.{common_named};
-ghost use Rattle.comparisons.specs.Found as pairs;
-ghost use Rattle.comparisons.specs.Found.{drawn_inputs};
-ghost use Rattle.comparisons.specs.declared.refusal.Side as rust;
+ghost use Rattle.scopes.specs.Scopes.{inputs_of};
+ghost use Rattle.comparing.specs.Common.{common_named};
+ghost use Rattle.comparing.specs.Found as pairs;
+ghost use Rattle.comparing.specs.Found.{drawn_inputs};
+ghost use Rattle.comparing.specs.declared.refusal.Side as rust;
 ghost use Rattle.command_facts.specs.Held.{StopsAtProgram};
 ghost use Rattle.command_facts.specs.Limits.{HaveNoLimits};
 ghost use Rattle.command_facts.specs.Pairs as spec;
@@ -21,7 +21,7 @@ use crate::limiting::limits_of;
 use crate::loading::load_program;
 use crate::pair_inputs::load_inputs;
 use command_requests::{DrawnWords, FewInputs, InputFile, InputWords, PairWords, ProgramFile};
-use comparisons::{
+use comparing::{
     CommonRange, Compared, Comparison, ComparisonRefusal, Side, common_ranges, compare_drawn,
     compare_inputs, compare_scope, front_cells, longest, named_range,
 };

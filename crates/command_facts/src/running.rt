@@ -9,17 +9,16 @@ ghost use Rattle.command_facts.specs.Refused as refused;
 
 use crate::found::Facts;
 use crate::tracing::trace_of;
-use call_progress::Watch;
+use observing::{Watch, watched_run};
 use command_requests::{CostWords, RunWords, Verb};
 use exchange_counts::Counts;
 use pram_check::Program;
 use program_runs::{outcome_of_program, run_program};
 use program_texts::Refusal;
-use run_watching::watched_run;
 use std::alloc::Global;
 use std::sync::Wait;
 use std::thread::Threads;
-use work_time::cost_of;
+use costs::cost_of;
 use workers::Gate;
 use write_rules::Outcome;
 

@@ -2,14 +2,14 @@
 
 ghost use Rattle.std.specs.Prelude.{◌≡◌, map};
 ghost use Rattle.std.specs.List.{list_any};
-ghost use Rattle.comparisons.specs.Found.{differing_is, found_is};
+ghost use Rattle.comparing.specs.Found.{differing_is, found_is};
 ghost use Rattle.command_facts.specs.Calls as spec;
 
 use crate::found::Found;
-use comparisons::{Comparison, FoundDifference};
-use explorations::Findings;
+use comparing::{Comparison, FoundDifference};
+use scopes::Findings;
 use program_texts::Status;
-use sweep_texts::{Ending, SizeRow};
+use sweeps::{Ending, SizeRow};
 
 // Whether the run at a size faults or is refused.
 fn is_bad(ending: &Ending) -> bool

@@ -6,13 +6,13 @@ use Rattle.text_out.specs.Out.{OutState, StopsIn, with_bytes}
 use Rattle.text_out.proofs.Writing.{stops_behind, writes_then}
 use Rattle.json_lines.specs.Lines.{IsJson}
 use Rattle.json_texts.specs.OutcomeFacts.{outcome_facts}
-use Rattle.json_streams.specs.StreamLaws.{json_behind}
-use Rattle.json_streams.specs.Streamed.{HasStreamedJson, StopsInFirst, WroteFirstJson, WroteJson}
-use Rattle.step_streams.specs.declared.failure.StreamFailure.{StreamFailure}
+use Rattle.json_texts.specs.StreamLaws.{json_behind}
+use Rattle.json_texts.specs.Streamed.{HasStreamedJson, StopsInFirst, WroteFirstJson, WroteJson}
+use Rattle.step_text.specs.declared.failure.StreamFailure.{StreamFailure}
 use Rattle.write_rules.specs.Verdict.{verdict_of}
 use Rattle.write_rules.specs.declared.outcome.Outcome.{Outcome}
 use Rattle.pram_meaning.specs.Outcome.{IsOutcome}
-use Rattle.step_journal.specs.Entries.{run_entries}
+use Rattle.journal.specs.RunEntries.{run_entries}
 use Rattle.program_texts.specs.declared.from_text.Refusal.TheVariants as refusal
 use Rattle.program_texts.specs.declared.status.Status.{Status}
 use Rattle.program_texts.specs.declared.stop.Stop.{Stop}
@@ -20,7 +20,7 @@ use Rattle.program_texts.specs.declared.stop.Stop.TheVariants as stop
 use Rattle.diagnoses.specs.Sources.{text_in}
 use Rattle.serde_json.specs.Data.{Data}
 use Rattle.json_texts.specs.StepFacts.{steps_from}
-use Rattle.step_entries.specs.Entries.{Entry}
+use Rattle.journal.specs.Entries.{Entry}
 use Rattle.command_facts.specs.declared.found.FoundSteps.{FoundSteps}
 use Rattle.command_facts.specs.Found.{IsOutcomeOf, entries_of}
 use Rattle.command_facts.specs.Written.{Wrote}

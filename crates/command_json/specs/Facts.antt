@@ -19,8 +19,8 @@ use Rattle.command_facts.specs.declared.found.FoundCode.{FoundCode}
 use Rattle.command_facts.specs.declared.found.FoundRun.{FoundRun}
 use Rattle.json_texts.specs.AcceptedFacts.{accepted_facts}
 use Rattle.json_texts.specs.CostFacts.{cost_facts}
-use Rattle.comparisons.specs.Found as pairs
-use Rattle.explorations.specs.Found.{found_is}
+use Rattle.comparing.specs.Found as pairs
+use Rattle.scopes.specs.Found.{found_is}
 use Rattle.json_texts.specs.ExplorationFacts.{exploration_facts}
 use Rattle.json_texts.specs.OutcomeFacts.{chosen_facts}
 use Rattle.json_texts.specs.PairFacts.{pair_facts}

@@ -24,7 +24,7 @@ use Rattle.command_facts.specs.Found.{IsOutcomeOf}
 use Rattle.command_facts.specs.Written.{IsReported}
 use Rattle.json_texts.specs.MessageFacts.{refusal_facts}
 use Rattle.json_texts.specs.RefusalFacts.{stop_facts}
-use Rattle.refusal_messages.specs.Messages.{Message}
+use Rattle.help.specs.Messages.{Message}
 use Rattle.command_messages.specs.Messages.{IsMessageFor}
 use Rattle.diagnoses.specs.Stops.{bytes_in, name_in}
 use Rattle.command_json.specs.Facts.{IsJsonOf, WritesFound}

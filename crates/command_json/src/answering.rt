@@ -10,7 +10,7 @@ ghost use Rattle.command_json.specs.Stepped.{IsToldBy};
 use crate::reporting::{report, tell_found_in_time, tell_time};
 use crate::stepping::write_stepped;
 use crate::telling::write_found;
-use call_progress::{Nobody, Watch};
+use observing::{Nobody, Watch};
 use command_facts::{Found, FoundSteps, find};
 use command_requests::Request;
 use diagnoses::Halted;

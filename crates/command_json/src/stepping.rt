@@ -3,20 +3,19 @@
 ghost use Rattle.std.specs.Prelude.{◌≡◌, ◌≤◌, ◌∷◌, [], IfErr, IfOk, OnOk, length, string_bytes};
 ghost use Rattle.json_lines.specs.Lines.{IsJson};
 ghost use Rattle.pram_model.specs.Layout.{total_size};
-ghost use Rattle.json_streams.specs.Streamed.{WroteJson};
+ghost use Rattle.json_texts.specs.Streamed.{WroteJson};
 ghost use Rattle.command_facts.specs.Found.{IsOutcomeOf, entries_of};
 ghost use Rattle.command_json.specs.Stepped as spec;
 
 use crate::writing::write_json;
-use call_progress::Watch;
+use observing::Watch;
 use command_facts::FoundSteps;
-use json_streams::stream_json;
-use json_texts::{json_opening, json_outcome};
+use json_texts::{json_opening, json_outcome, stream_json};
 use memory_texts::Choice;
 use pram_meaning::open;
 use program_texts::{Refusal, Status, Stop};
 use std::alloc::{AllocError, Global};
-use step_streams::StreamFailure;
+use step_text::StreamFailure;
 use text_out::Out;
 use write_rules::Outcome;
 

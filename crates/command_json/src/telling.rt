@@ -3,8 +3,8 @@
 ghost use Rattle.std.specs.Prelude.{◌≡◌, ◌∷◌, [], IfOk, IfErr};
 ghost use Rattle.std.specs.String.{string_bytes};
 ghost use Rattle.json_lines.specs.Lines.{IsJson};
-ghost use Rattle.comparisons.specs.Found as pairs;
-ghost use Rattle.explorations.specs.Found.{found_is};
+ghost use Rattle.comparing.specs.Found as pairs;
+ghost use Rattle.scopes.specs.Found.{found_is};
 ghost use Rattle.json_texts.specs.ExplorationFacts.{exploration_facts};
 ghost use Rattle.json_texts.specs.PairFacts.{pair_facts};
 ghost use Rattle.json_texts.specs.SweepFacts.{sweep_facts};

@@ -4,7 +4,7 @@ ghost use Rattle.std.specs.Prelude.{◌≡◌, map};
 ghost use Rattle.std.specs.String.{string_bytes};
 ghost use Rattle.command_line.specs.Command as spec;
 
-use call_progress::Watch;
+use observing::Watch;
 use command_json::answer_in_json;
 use command_requests::{Reader, asks_for_gnu, asks_for_json, asks_to_explain};
 use command_text::{Terminal, answer};

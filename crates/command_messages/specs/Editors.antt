@@ -4,7 +4,7 @@ use Rattle.program_texts.specs.declared.stop.Stop.{Stop}
 use Rattle.diagnoses.specs.declared.about.About.{About}
 use Rattle.diagnoses.specs.RefusedLines.{stop_line}
 use Rattle.diagnoses.specs.Numbers.{gnu_about}
-use Rattle.refusal_messages.specs.Messages.{Message}
+use Rattle.help.specs.Messages.{Message}
 use Rattle.command_messages.specs.Messages.{IsMessageFor}
 
 -- where there is nothing to say, the line of the refusal

@@ -4,10 +4,10 @@ use Rattle.program_texts.specs.declared.stop.Stop.{Stop}
 use Rattle.program_texts.specs.declared.stop.Stop.TheVariants as stop
 use Rattle.diagnoses.specs.declared.about.About.{About}
 use Rattle.diagnoses.specs.Stops.{IsMessageOf}
-use Rattle.refusal_messages.specs.Messages.{Message, said}
-use Rattle.word_faults.specs.declared.given.Given.{Given}
-use Rattle.word_faults.specs.Sentences.{word_fault}
-use Rattle.word_faults.specs.Values.{IsWrong}
+use Rattle.help.specs.Messages.{Message, said}
+use Rattle.command_requests.specs.declared.given.Given.{Given}
+use Rattle.command_requests.specs.Sentences.{word_fault}
+use Rattle.command_requests.specs.Values.{IsWrong}
 
 -- a sentence without the end of its line
 abbrev pub without_end : List ℕ → List ℕ

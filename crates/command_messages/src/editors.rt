@@ -3,12 +3,12 @@
 ghost use Rattle.std.specs.Prelude.{◌≡◌, ℕ, List, map};
 ghost use Rattle.std.specs.String.{string_bytes};
 ghost use Rattle.text_out.specs.Out.{Writes};
-ghost use Rattle.refusal_messages.specs.Messages.{message_is};
+ghost use Rattle.help.specs.Messages.{message_is};
 ghost use Rattle.command_messages.specs.Editors as spec;
 
 use crate::messages::message_for;
 use diagnoses::{Halted, write_gnu_about, write_refused_line};
-use refusal_messages::Message;
+use help::Message;
 use std::alloc::{AllocError, Global};
 use text_out::{Out, WriteFault};
 

@@ -2,17 +2,17 @@
 
 ghost use Rattle.std.specs.Prelude.{◌≡◌, IfOk, map, nat_lt, ◌-◌};
 ghost use Rattle.std.specs.String.{string_bytes};
-ghost use Rattle.word_faults.specs.Values.{IsWrong};
-ghost use Rattle.word_faults.specs.Sentences.{word_fault};
-ghost use Rattle.refusal_messages.specs.Messages.{message_is};
+ghost use Rattle.command_requests.specs.Values.{IsWrong};
+ghost use Rattle.command_requests.specs.Sentences.{word_fault};
+ghost use Rattle.help.specs.Messages.{message_is};
 ghost use Rattle.command_messages.specs.Messages as spec;
 
 use diagnoses::{Halted, message_of};
 use program_texts::Stop;
-use refusal_messages::Message;
+use help::Message;
 use std::alloc::{AllocError, Global};
 use text_out::Buffer;
-use word_faults::{Given, write_word_fault, wrong_option};
+use command_requests::{Given, write_word_fault, wrong_option};
 
 // A sentence without the end of its line.
 fn without_end(text: &[u8]) -> &[u8]

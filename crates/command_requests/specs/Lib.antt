@@ -1,1 +1,6 @@
 pub mod Words
+pub mod Options
+pub mod Values
+pub mod Sentences
+pub mod Given
+pub mod Expanded

@@ -1,10 +1,9 @@
 //! On which inputs two programs are run.
 
 ghost use Rattle.std.specs.Prelude.{◌≤◌, ◌+◌, ◌<◌, ◌^◌, length};
-ghost use Rattle.small_scopes.specs.Scopes.{inputs_of};
+ghost use Rattle.scopes.specs.Scopes.{inputs_of};
 
-use drawn_inputs::Drawing;
-use small_scopes::Scope;
+use scopes::{Drawing, Scope};
 
 /// The most inputs that are drawn.
 pub const MOST_DRAWN: u32 = 1_000_000;

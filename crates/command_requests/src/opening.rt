@@ -1,6 +1,6 @@
 //! What the cells of a run hold before its first statement.
 
-use drawn_inputs::Drawing;
+use scopes::Drawing;
 
 /// What the cells of a run hold before its first statement.
 #[derive(Clone, Copy, Debug)]

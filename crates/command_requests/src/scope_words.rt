@@ -1,10 +1,10 @@
 //! Which inputs a program is run on, of a small scope.
 
 ghost use Rattle.std.specs.Prelude.{◌≤◌, length};
-ghost use Rattle.small_scopes.specs.Scopes.{inputs_of};
+ghost use Rattle.scopes.specs.Scopes.{inputs_of};
 
 use pram_model::Rule;
-use small_scopes::Scope;
+use scopes::Scope;
 
 /// The most inputs of a scope on which a program is run.
 pub const MOST_INPUTS: u64 = 100_000_000;

@@ -9,8 +9,8 @@ use Rattle.program_texts.specs.declared.stop.Stop.TheVariants as stop
 use Rattle.diagnoses.specs.declared.about.About.{About}
 use Rattle.diagnoses.specs.RefusedLines.{stop_line}
 use Rattle.diagnoses.specs.Stops.{IsSaid, unsaid}
-use Rattle.word_faults.specs.declared.given.Given.{Given}
-use Rattle.word_faults.specs.Sentences.{word_fault}
+use Rattle.command_requests.specs.declared.given.Given.{Given}
+use Rattle.command_requests.specs.Sentences.{word_fault}
 use Rattle.command_text.specs.Explained.{IsInWords, IsSaidBehind, IsWrongOf}
 
 -- something may be said behind each line: of a word by the option that doesn't take it, and else that memory for more was refused

@@ -7,18 +7,18 @@ use Rattle.text_out.proofs.Writing.{stops_behind, writes_then}
 use Rattle.write_rules.specs.Verdict.{verdict_of}
 use Rattle.write_rules.specs.declared.outcome.Outcome.{Outcome}
 use Rattle.pram_meaning.specs.Outcome.{IsOutcome}
-use Rattle.step_entries.specs.Entries.{Entry}
-use Rattle.step_journal.specs.Between.{between}
-use Rattle.step_journal.specs.Entries.{run_entries}
-use Rattle.step_streams.specs.Streamed.{HasStreamed}
-use Rattle.step_streams.specs.declared.failure.StreamFailure.{StreamFailure}
-use Rattle.step_streams.specs.declared.failure.StreamFailure.TheVariants as failure
-use Rattle.page_streams.specs.Streamed.{HasStreamedPage, IsPageOfRun}
+use Rattle.journal.specs.Entries.{Entry}
+use Rattle.journal.specs.Between.{between}
+use Rattle.journal.specs.RunEntries.{run_entries}
+use Rattle.step_text.specs.Streamed.{HasStreamed}
+use Rattle.step_text.specs.declared.failure.StreamFailure.{StreamFailure}
+use Rattle.step_text.specs.declared.failure.StreamFailure.TheVariants as failure
+use Rattle.pages.specs.Streamed.{HasStreamedPage, IsPageOfRun}
 use Rattle.flow_pictures.specs.declared.spans.CellSpan.{CellSpan}
-use Rattle.flow_streams.specs.Streamed.{HasStreamedFlow}
+use Rattle.flow_pictures.specs.Streamed.{HasStreamedFlow}
 use Rattle.diagnoses.specs.Sources.{text_in}
 use Rattle.step_pictures.specs.Picture.{part_of, picture}
-use Rattle.step_texts.specs.declared.telling.Telling.{Telling}
+use Rattle.step_text.specs.declared.telling.Telling.{Telling}
 use Rattle.program_texts.specs.Shown.{shown}
 use Rattle.program_texts.specs.Status.{status_of}
 use Rattle.program_texts.specs.declared.from_text.Refusal.TheVariants as refusal

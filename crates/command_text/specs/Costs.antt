@@ -1,8 +1,8 @@
 -- What the run of a program costs, and the text of it.
 use Rattle.std.specs.Prelude.{ℕ, List, ◌++◌, Option, Bool, [], true, false}
-use Rattle.work_time.specs.declared.cost.Cost.{Cost}
+use Rattle.costs.specs.declared.cost.Cost.{Cost}
 use Rattle.write_rules.specs.Verdict.{Verdict}
-use Rattle.cost_texts.specs.CostText.{cost_text, lines_text}
+use Rattle.costs.specs.CostText.{cost_text, lines_text}
 
 -- a text where it is asked for
 abbrev pub if_asked : Bool → List ℕ → List ℕ

@@ -22,9 +22,9 @@ use Rattle.command_facts.specs.declared.found.Found.TheVariants as found
 use Rattle.command_facts.specs.declared.found.FoundCode.{FoundCode}
 use Rattle.command_facts.specs.declared.found.FoundRun.{FoundRun}
 use Rattle.command_facts.specs.Written.{IsReported}
-use Rattle.word_faults.specs.Sentences.{word_fault}
-use Rattle.word_faults.specs.Values.{IsWrong}
-use Rattle.word_faults.specs.declared.given.Given.{Given}
+use Rattle.command_requests.specs.Sentences.{word_fault}
+use Rattle.command_requests.specs.Values.{IsWrong}
+use Rattle.command_requests.specs.declared.given.Given.{Given}
 use Rattle.command_text.specs.declared.terminal.Terminal.{Terminal}
 
 -- ---- refusals

@@ -6,10 +6,10 @@ use Rattle.diagnoses.specs.Sources.{text_in}
 use Rattle.program_texts.specs.declared.from_text.Refusal.TheVariants as refusal
 use Rattle.program_texts.specs.declared.stop.Stop.{Stop}
 use Rattle.program_texts.specs.declared.stop.Stop.TheVariants as stop
-use Rattle.step_entries.specs.Entries.{Entry}
-use Rattle.step_streams.specs.Streamed.{WroteFirst}
-use Rattle.step_texts.specs.StepText.{steps_text}
-use Rattle.step_texts.specs.declared.telling.Telling.{Telling}
+use Rattle.journal.specs.Entries.{Entry}
+use Rattle.step_text.specs.Streamed.{WroteFirst}
+use Rattle.step_text.specs.StepText.{steps_text}
+use Rattle.step_text.specs.declared.telling.Telling.{Telling}
 use Rattle.command_requests.specs.declared.form.Form.TheVariants as form
 use Rattle.command_facts.specs.declared.found.FoundRun.{FoundRun}
 use Rattle.command_facts.specs.declared.found.FoundSteps.{FoundSteps}

@@ -9,13 +9,13 @@ use Rattle.memory_texts.specs.declared.choice.Choice.TheVariants.{All, Named, No
 use Rattle.write_rules.specs.Verdict.{verdict_of}
 use Rattle.write_rules.specs.declared.outcome.Outcome.{Outcome}
 use Rattle.program_texts.specs.Shown.{shown}
-use Rattle.step_entries.specs.Entries.{Entry}
-use Rattle.step_focus.specs.declared.focus.Focus.{Focus}
-use Rattle.step_texts.specs.StepText.{steps_text}
-use Rattle.step_texts.specs.declared.manner.Manner.{Manner}
-use Rattle.step_texts.specs.declared.manner.Manner.TheVariants.{OnTerminal, Plain}
-use Rattle.step_texts.specs.declared.telling.Detail.{Detail}
-use Rattle.step_texts.specs.declared.telling.Telling.{Telling}
+use Rattle.journal.specs.Entries.{Entry}
+use Rattle.step_text.specs.declared.focus.Focus.{Focus}
+use Rattle.step_text.specs.StepText.{steps_text}
+use Rattle.step_text.specs.declared.manner.Manner.{Manner}
+use Rattle.step_text.specs.declared.manner.Manner.TheVariants.{OnTerminal, Plain}
+use Rattle.step_text.specs.declared.telling.Detail.{Detail}
+use Rattle.step_text.specs.declared.telling.Telling.{Telling}
 use Rattle.command_requests.specs.declared.step_words.StepWords.{StepWords}
 use Rattle.command_text.specs.declared.terminal.Terminal.{Terminal}
 

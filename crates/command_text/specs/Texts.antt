@@ -8,22 +8,22 @@ use Rattle.step_pictures.specs.Picture as steps
 use Rattle.flow_pictures.specs.Asides.{asides_in}
 use Rattle.flow_pictures.specs.Picture.{flow}
 use Rattle.sweep_pictures.specs.Picture as sweeps
-use Rattle.sweep_texts.specs.CsvText.{csv_text}
-use Rattle.sweep_texts.specs.SweepText.{sweep_text}
+use Rattle.sweeps.specs.CsvText.{csv_text}
+use Rattle.sweeps.specs.SweepText.{sweep_text}
 use Rattle.memory_texts.specs.Chosen.{shown_by}
 use Rattle.write_rules.specs.Verdict.{verdict_of}
 use Rattle.program_texts.specs.Shown.{line}
 use Rattle.diagnoses.specs.Sources.{text_in}
 use Rattle.explanations.specs.Explained.{explanation}
-use Rattle.rule_comparison.specs.ComparisonText.{comparison_text}
-use Rattle.comparisons.specs.Found as pairs
-use Rattle.comparison_texts.specs.ComparisonText as pair_texts
-use Rattle.explorations.specs.Found.{found_is}
-use Rattle.exploration_texts.specs.FindingsText.{findings_text}
+use Rattle.comparing.specs.RulesText.{comparison_text}
+use Rattle.comparing.specs.Found as pairs
+use Rattle.comparing.specs.ComparisonText as pair_texts
+use Rattle.scopes.specs.Found.{found_is}
+use Rattle.scopes.specs.FindingsText.{findings_text}
 use Rattle.mpi_export.specs.Program.{c_text}
-use Rattle.step_entries.specs.Entries.{Entry}
-use Rattle.page_streams.specs.Pages.{IsPage}
-use Rattle.step_texts.specs.declared.telling.Telling.{Telling}
+use Rattle.journal.specs.Entries.{Entry}
+use Rattle.pages.specs.Pages.{IsPage}
+use Rattle.step_text.specs.declared.telling.Telling.{Telling}
 use Rattle.command_requests.specs.declared.form.Form.{Form}
 use Rattle.command_requests.specs.declared.form.Form.TheVariants as form
 use Rattle.command_facts.specs.declared.found.Facts.{Facts}

@@ -11,7 +11,7 @@ use crate::explaining::{explain, explain_run, report};
 use crate::stepping::write_stepped;
 use crate::telling::write_found;
 use crate::terminal::Terminal;
-use call_progress::{Nobody, Watch};
+use observing::{Nobody, Watch};
 use command_facts::{Found, FoundRun, FoundSteps, find};
 use command_requests::Request;
 use diagnoses::Halted;

@@ -11,7 +11,7 @@ ghost use Rattle.command_facts.specs.Written.{IsReported};
 ghost use Rattle.command_text.specs.Explained as spec;
 
 use crate::terminal::Terminal;
-use call_progress::Watch;
+use observing::Watch;
 use command_facts::{Found, FoundCode, FoundRun};
 use command_messages::write_for_editors;
 use diagnoses::{
@@ -25,7 +25,7 @@ use pram_trees::Layout;
 use program_texts::Stop;
 use std::alloc::Global;
 use text_out::{Out, WriteFault};
-use word_faults::{Given, write_word_fault, wrong_option};
+use command_requests::{Given, write_word_fault, wrong_option};
 use write_rules::{Fault, Outcome};
 
 // The most cells of a run that is searched for a loop by which it never ends.

@@ -10,14 +10,13 @@ ghost use Rattle.command_text.specs.Texts as texts;
 
 use crate::choosing::chosen_spans;
 use crate::terminal::Terminal;
-use call_progress::Watch;
+use observing::Watch;
 use command_facts::FoundSteps;
 use command_requests::Form;
-use flow_pictures::CellSpan;
-use flow_streams::stream_flow;
+use flow_pictures::{CellSpan, stream_flow};
 use program_texts::{Refusal, Status, Stop, finish};
 use std::alloc::Global;
-use step_streams::StreamFailure;
+use step_text::StreamFailure;
 use text_out::Out;
 use write_rules::Outcome;
 

@@ -6,13 +6,13 @@ ghost use Rattle.command_facts.specs.Found.{IsOutcomeOf};
 ghost use Rattle.command_text.specs.Stepped as stepped;
 
 use crate::terminal::Terminal;
-use call_progress::Watch;
+use observing::Watch;
 use command_facts::FoundSteps;
 use command_requests::Form;
-use page_streams::stream_page;
+use pages::stream_page;
 use program_texts::{Refusal, Status, Stop, finish};
 use std::alloc::Global;
-use step_streams::StreamFailure;
+use step_text::StreamFailure;
 use text_out::Out;
 use write_rules::Outcome;
 

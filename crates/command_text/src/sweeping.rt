@@ -7,7 +7,7 @@ use command_facts::FoundSweep;
 use command_requests::Form;
 use program_texts::{Status, Stop, finish};
 use sweep_pictures::write_sweep_picture;
-use sweep_texts::{write_sweep, write_sweep_csv};
+use sweeps::{write_sweep, write_sweep_csv};
 use text_out::{Out, WriteFault};
 
 // As values separated by commas, or a line each and how they grow.

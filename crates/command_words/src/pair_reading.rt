@@ -13,7 +13,7 @@ use clap::ArgMatches;
 use command_requests::{
     DrawnWords, InputFile, InputWords, MOST_CELLS, MOST_DRAWN, PairWords, ProgramFile,
 };
-use drawn_inputs::{Drawing, read_interval};
+use scopes::{Drawing, read_interval};
 use memory_texts::Choice;
 use program_texts::Stop;
 use std::alloc::{AllocError, Global};

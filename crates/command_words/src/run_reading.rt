@@ -10,7 +10,7 @@ use crate::options::{
 };
 use clap::ArgMatches;
 use command_requests::{CostWords, Form, Opening, RunWords, StepWords, TraceWords};
-use drawn_inputs::{Drawing, read_interval};
+use scopes::{Drawing, read_interval};
 use memory_texts::Choice;
 use program_texts::Stop;
 use run_options::{MapChoice, Options, Reserve, read_map, read_number, read_pair};

@@ -5,8 +5,8 @@ use Rattle.pram_tokens.specs.Scanning.{Cut, Finds, cut}
 use Rattle.pram_tokens.specs.declared.error.LexError.{LexError}
 use Rattle.pram_tokens.specs.declared.error.LexError.TheVariants.{BadToken}
 use Rattle.pram_tokens.specs.declared.token.Token.{Token}
-use Rattle.scope_names.specs.InScope.{Known}
-use Rattle.syntax_hints.specs.Hints.{before}
+use Rattle.help.specs.InScope.{Known}
+use Rattle.help.specs.Hints.{before}
 use Rattle.diagnoses.specs.declared.fitting.Role.{Role}
 use Rattle.diagnoses.specs.declared.fitting.Role.TheVariants as role
 use Rattle.diagnoses.specs.Fitting.{fits_by, fitting, fronts, is_inside, role_at, role_of}

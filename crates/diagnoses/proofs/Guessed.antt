@@ -10,9 +10,9 @@ use Rattle.pram_names.specs.declared.fault.Spot.{Spot}
 use Rattle.pram_names.specs.declared.fault.Spot.TheVariants as spot
 use Rattle.pram_tokens.specs.Scanning.{cut_of}
 use Rattle.pram_trees.specs.Program.{ProgramTree}
-use Rattle.scope_names.specs.Bound.{bound_in}
-use Rattle.scope_names.specs.InScope.{Known, names_at}
-use Rattle.scope_names.specs.Nearness.{edits, is_near, named, nearer, nearest}
+use Rattle.help.specs.Bound.{bound_in}
+use Rattle.help.specs.InScope.{Known, names_at}
+use Rattle.help.specs.Nearness.{edits, is_near, named, nearer, nearest}
 use Rattle.diagnoses.specs.Fitting.{fits, is_inside, role_at}
 use Rattle.diagnoses.specs.declared.fitting.Role.{Role}
 use Rattle.diagnoses.specs.Guesses.{HasNoGuessAt, IsGuess, IsGuessAt}

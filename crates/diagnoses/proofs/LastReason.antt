@@ -1,9 +1,9 @@
 -- What the last of a run's entries tells is what its fault does.
 use Rattle.std.proofs.Common.{◌≡◌, ◌∙◌, ◌∷◌, [], ℕ, ℤ, List, Option, Some, None, ap, refl, sym}
 use Rattle.pram_check.specs.Checked.{Checked}
-use Rattle.step_entries.specs.Entries.{Entry, Faulting, Ran}
-use Rattle.step_journal.specs.Entries.{run_entries}
-use Rattle.step_journal.specs.LastFault.{fault_behind, run_fault}
+use Rattle.journal.specs.Entries.{Entry, Faulting, Ran}
+use Rattle.journal.specs.RunEntries.{run_entries}
+use Rattle.journal.specs.LastFault.{fault_behind, run_fault}
 use Rattle.diagnoses.specs.Reasons.{Reason, last_reason, reason_in, run_reason}
 
 behind_is : (p : Checked) (before : Option Entry) (es : List Entry) →

@@ -3,8 +3,8 @@ use Rattle.std.proofs.Common.{◌≡◌, ◌∷◌, ◌≤◌, [], true, false, 
 use Rattle.std.proofs.lemmas.Bool.{ltb-false, ltb-true}
 use Rattle.std.specs.Prelude.{◌&&◌, filter, nat_lt}
 use Rattle.std.specs.List.{AllByRecursion, fold}
-use Rattle.scope_names.specs.InScope.{Known}
-use Rattle.scope_names.specs.Nearness.{edits, is_near, nearer}
+use Rattle.help.specs.InScope.{Known}
+use Rattle.help.specs.Nearness.{edits, is_near, nearer}
 
 abbrev pub steps : List ℕ → Known → ℕ
 steps word k = edits word k.name

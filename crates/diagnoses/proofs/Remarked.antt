@@ -3,16 +3,16 @@ use Rattle.std.proofs.Common.{◌≡◌, ◌∙◌, List, ℕ, Option, Result, O
 use Rattle.pram_tokens.specs.Scanning.{cut_of}
 use Rattle.pram_tokens.specs.declared.error.LexError.{LexError}
 use Rattle.pram_tokens.specs.declared.error.LexError.TheVariants.{BadToken}
-use Rattle.token_choices.specs.Choices.{IsRefusedFor}
+use Rattle.help.specs.Choices.{IsRefusedFor}
 use Rattle.pram_names.specs.declared.fault.Breach.{Breach}
 use Rattle.pram_names.specs.declared.fault.Cause.{Cause}
 use Rattle.pram_names.specs.declared.fault.Cause.TheVariants.{UnknownName}
 use Rattle.pram_names.specs.declared.fault.Spot.TheVariants.{Offset}
 use Rattle.pram_trees.specs.Program.{ProgramTree}
 use Rattle.pram_trees.specs.Text.{IsTextOf}
-use Rattle.scope_names.specs.Bound.{bound_in}
-use Rattle.scope_names.specs.InScope.{Known, names_at}
-use Rattle.scope_names.specs.Nearness.{nearest}
+use Rattle.help.specs.Bound.{bound_in}
+use Rattle.help.specs.InScope.{Known, names_at}
+use Rattle.help.specs.Nearness.{nearest}
 use Rattle.diagnoses.specs.Fitting.{fitting}
 use Rattle.diagnoses.specs.Places.{token_at}
 use Rattle.diagnoses.specs.Remarks.{IsExpectation, IsRemark, NoToken, Nothing, OfTree, Remark, remark_at, remark_of, unknown}

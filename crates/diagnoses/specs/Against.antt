@@ -4,8 +4,8 @@ use Rattle.pram_names.specs.declared.fault.Cause.{Cause}
 use Rattle.pram_names.specs.declared.scope.Meaning.{Meaning}
 use Rattle.pram_names.specs.declared.scope.Meaning.TheVariants.{Uniform, Cell, Array, Index, Local}
 use Rattle.pram_check.specs.Faults.{element_causes, is_loop_variable, target_causes, use_causes, variable_causes}
-use Rattle.scope_names.specs.declared.known.Sort.{Sort}
-use Rattle.scope_names.specs.declared.known.Sort.TheVariants as sort
+use Rattle.help.specs.declared.known.Sort.{Sort}
+use Rattle.help.specs.declared.known.Sort.TheVariants as sort
 use Rattle.diagnoses.specs.declared.fitting.Role.{Role}
 use Rattle.diagnoses.specs.declared.fitting.Role.TheVariants as role
 use Rattle.diagnoses.specs.Fitting.{may_stand}

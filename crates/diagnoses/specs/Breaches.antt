@@ -8,10 +8,10 @@ use Rattle.pram_names.specs.declared.fault.Limit.TheVariants as limit
 use Rattle.pram_names.specs.declared.fault.Spot.{Spot}
 use Rattle.pram_names.specs.declared.fault.Spot.TheVariants as spot
 use Rattle.pram_names.specs.declared.fault.Breach.{Breach}
-use Rattle.scope_names.specs.declared.known.Sort.{Sort}
-use Rattle.scope_names.specs.declared.known.Sort.TheVariants as sort
-use Rattle.refusal_messages.specs.declared.message.Point.TheVariants.{Byte}
-use Rattle.refusal_messages.specs.Messages.{Message, said, with_meant}
+use Rattle.help.specs.declared.known.Sort.{Sort}
+use Rattle.help.specs.declared.known.Sort.TheVariants as sort
+use Rattle.help.specs.declared.message.Point.TheVariants.{Byte}
+use Rattle.help.specs.Messages.{Message, said, with_meant}
 use Rattle.diagnoses.specs.declared.source.Kind.{Kind}
 use Rattle.diagnoses.specs.declared.source.Kind.TheVariants as kind
 use Rattle.diagnoses.specs.declared.source.Source.{Source}

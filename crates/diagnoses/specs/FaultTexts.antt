@@ -12,7 +12,7 @@ use Rattle.pram_values.specs.declared.place.Place.{Place}
 use Rattle.pram_values.specs.declared.place.Place.TheVariants as place
 use Rattle.write_rules.specs.declared.fault.Fault.{Fault}
 use Rattle.write_rules.specs.declared.write.Write.{Write}
-use Rattle.step_entries.specs.Causes.{Before, Between, Beyond, Cause, Meeting, Wide, Writing}
+use Rattle.journal.specs.Causes.{Before, Between, Beyond, Cause, Meeting, Wide, Writing}
 use Rattle.program_texts.specs.Shown.{cell_text, spaced}
 use Rattle.text_places.specs.Excerpts.{excerpt, line_excerpt}
 use Rattle.diagnoses.specs.declared.source.Source.{Source}

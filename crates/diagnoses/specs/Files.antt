@@ -2,7 +2,7 @@
 use Rattle.std.specs.Prelude.{ℕ, List, ◌++◌, Option, Some, None, codes}
 use Rattle.std.specs.Option.{option_map}
 use Rattle.text_places.specs.Escaped.{escaped}
-use Rattle.refusal_messages.specs.Messages.{Message, said, with_meant, with_more}
+use Rattle.help.specs.Messages.{Message, said, with_meant, with_more}
 use Rattle.diagnoses.specs.declared.about.About.{About}
 use Rattle.diagnoses.specs.declared.about.About.TheVariants as about
 use Rattle.diagnoses.specs.declared.about.Unread.{Unread}

@@ -8,11 +8,11 @@ use Rattle.pram_tokens.specs.declared.token.Mark.TheVariants as mark
 use Rattle.pram_tokens.specs.declared.token.Opening.TheVariants as opening
 use Rattle.pram_tokens.specs.declared.token.Token.{Token}
 use Rattle.pram_tokens.specs.declared.token.Token.TheVariants as token
-use Rattle.scope_names.specs.InScope.{Known}
-use Rattle.scope_names.specs.declared.known.Sort.{Sort}
-use Rattle.scope_names.specs.declared.known.Sort.TheVariants as sort
-use Rattle.syntax_hints.specs.Blocks.{open_blocks}
-use Rattle.syntax_hints.specs.Hints.{before}
+use Rattle.help.specs.InScope.{Known}
+use Rattle.help.specs.declared.known.Sort.{Sort}
+use Rattle.help.specs.declared.known.Sort.TheVariants as sort
+use Rattle.help.specs.Blocks.{open_blocks}
+use Rattle.help.specs.Hints.{before}
 use Rattle.diagnoses.specs.declared.fitting.Role.{Role}
 use Rattle.diagnoses.specs.declared.fitting.Role.TheVariants as role
 

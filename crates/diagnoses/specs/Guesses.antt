@@ -5,8 +5,8 @@ use Rattle.pram_names.specs.declared.fault.Spot.{Spot}
 use Rattle.pram_names.specs.declared.fault.Spot.TheVariants as spot
 use Rattle.pram_tokens.specs.Scanning.{cut_of}
 use Rattle.pram_trees.specs.Program.{ProgramTree}
-use Rattle.scope_names.specs.InScope.{Known, names_at}
-use Rattle.scope_names.specs.Nearness.{edits, is_near}
+use Rattle.help.specs.InScope.{Known, names_at}
+use Rattle.help.specs.Nearness.{edits, is_near}
 use Rattle.diagnoses.specs.Fitting.{fits, is_inside}
 use Rattle.diagnoses.specs.Places.{token_at}
 

@@ -8,8 +8,8 @@ use Rattle.program_texts.specs.declared.from_text.Refusal.{Refusal}
 use Rattle.program_texts.specs.declared.from_text.Refusal.TheVariants as refusal
 use Rattle.program_texts.specs.declared.stop.Stop.{Stop}
 use Rattle.program_texts.specs.declared.stop.Stop.TheVariants as stop
-use Rattle.refusal_messages.specs.GnuLines.{gnu_text}
-use Rattle.refusal_messages.specs.Messages.{Message}
+use Rattle.help.specs.GnuLines.{gnu_text}
+use Rattle.help.specs.Messages.{Message}
 use Rattle.diagnoses.specs.declared.about.About.{About}
 use Rattle.diagnoses.specs.declared.about.About.TheVariants as about
 use Rattle.diagnoses.specs.Stops.{bytes_in}

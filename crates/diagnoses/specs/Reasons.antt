@@ -1,9 +1,9 @@
 -- What is known of why a run faults.
 use Rattle.std.specs.Prelude.{ℕ, ℤ, List, [], ◌∷◌, Option, Some, None}
 use Rattle.pram_check.specs.Checked.{Checked}
-use Rattle.step_entries.specs.Causes.{Cause, known_cause}
-use Rattle.step_entries.specs.Entries.{Entry, Ran, Faulting}
-use Rattle.step_journal.specs.Entries.{run_entries}
+use Rattle.journal.specs.Causes.{Cause, known_cause}
+use Rattle.journal.specs.Entries.{Entry, Ran, Faulting}
+use Rattle.journal.specs.RunEntries.{run_entries}
 use Rattle.diagnoses.specs.WrongElements.{wrong_element}
 use Rattle.diagnoses.specs.declared.reason as rust
 

@@ -9,14 +9,14 @@ use Rattle.pram_names.specs.declared.fault.Breach.{Breach}
 use Rattle.pram_tokens.specs.Scanning.{cut_of, longest}
 use Rattle.pram_trees.specs.Program.{ProgramTree}
 use Rattle.pram_trees.specs.Text.{IsTextOf}
-use Rattle.scope_names.specs.Bound.{bound_in}
-use Rattle.scope_names.specs.InScope.{Known, names_at}
-use Rattle.scope_names.specs.Nearness.{named, nearest}
-use Rattle.scope_names.specs.declared.known.Sort.{Sort}
-use Rattle.token_choices.specs.declared.choice.Choice.{Choice}
-use Rattle.token_choices.specs.Choices.{AreChoicesBehind}
-use Rattle.syntax_hints.specs.Hints.{IsHint}
-use Rattle.syntax_hints.specs.declared.hint.Hint.{Hint}
+use Rattle.help.specs.Bound.{bound_in}
+use Rattle.help.specs.InScope.{Known, names_at}
+use Rattle.help.specs.Nearness.{named, nearest}
+use Rattle.help.specs.declared.known.Sort.{Sort}
+use Rattle.help.specs.declared.choice.Choice.{Choice}
+use Rattle.help.specs.Choices.{AreChoicesBehind}
+use Rattle.help.specs.Hints.{IsHint}
+use Rattle.help.specs.declared.hint.Hint.{Hint}
 use Rattle.diagnoses.specs.declared.remark as rust
 use Rattle.diagnoses.specs.declared.remark.Remark.TheVariants as variant
 use Rattle.diagnoses.specs.Fitting.{fitting, role_at}

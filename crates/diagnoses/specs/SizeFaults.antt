@@ -2,8 +2,8 @@
 use Rattle.std.specs.Prelude.{ℕ, List, ◌++◌, Some, codes}
 use Rattle.sized_texts.specs.declared.reason.Reason.{Reason}
 use Rattle.sized_texts.specs.declared.reason.Reason.TheVariants as reason
-use Rattle.refusal_messages.specs.declared.message.Point.TheVariants.{Byte}
-use Rattle.refusal_messages.specs.Messages.{Message, said}
+use Rattle.help.specs.declared.message.Point.TheVariants.{Byte}
+use Rattle.help.specs.Messages.{Message, said}
 use Rattle.diagnoses.specs.declared.source.Source.{Source}
 use Rattle.diagnoses.specs.Places.{quoted, token_at}
 

@@ -5,9 +5,9 @@ use Rattle.pram_tokens.specs.declared.error.TextFault.{TextFault}
 use Rattle.pram_tokens.specs.declared.error.TextFault.TheVariants as fault
 use Rattle.pram_names.specs.declared.fault.Breach.{Breach}
 use Rattle.sized_texts.specs.declared.reason.Reason.{Reason}
-use Rattle.refusal_messages.specs.declared.message.Point.{Point}
-use Rattle.refusal_messages.specs.declared.message.Point.TheVariants.{Byte, Line}
-use Rattle.refusal_messages.specs.Messages.{Message, message_text, nothing, said}
+use Rattle.help.specs.declared.message.Point.{Point}
+use Rattle.help.specs.declared.message.Point.TheVariants.{Byte, Line}
+use Rattle.help.specs.Messages.{Message, message_text, nothing, said}
 use Rattle.program_texts.specs.declared.from_text.Refusal.{Refusal}
 use Rattle.program_texts.specs.declared.from_text.Refusal.TheVariants as refusal
 use Rattle.program_texts.specs.declared.stop.Stop.{Stop}

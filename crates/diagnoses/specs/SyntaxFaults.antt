@@ -2,15 +2,15 @@
 use Rattle.std.specs.Prelude.{ℕ, ◌+◌, nat_le, if◌then◌else◌, List, [], ◌++◌, Some, codes, decimal, length, map}
 use Rattle.pram_printer.specs.Spelling.{opening_text}
 use Rattle.text_places.specs.Places.{place_of}
-use Rattle.token_choices.specs.ChoiceTexts.{choice_text, choices_text}
-use Rattle.token_choices.specs.declared.choice.Choice.{Choice}
-use Rattle.syntax_hints.specs.Habits.{habit_text}
-use Rattle.syntax_hints.specs.declared.habit.Habit.{Habit as HabitOf}
-use Rattle.syntax_hints.specs.declared.hint.Hint.{Hint}
-use Rattle.syntax_hints.specs.declared.hint.Hint.TheVariants as hint
-use Rattle.refusal_messages.specs.declared.message.Other.TheVariants.{Begins, Ends}
-use Rattle.refusal_messages.specs.declared.message.Point.TheVariants.{Byte}
-use Rattle.refusal_messages.specs.Messages.{Message, said, with_expected, with_more, with_other}
+use Rattle.help.specs.ChoiceTexts.{choice_text, choices_text}
+use Rattle.help.specs.declared.choice.Choice.{Choice}
+use Rattle.help.specs.Habits.{habit_text}
+use Rattle.help.specs.declared.habit.Habit.{Habit as HabitOf}
+use Rattle.help.specs.declared.hint.Hint.{Hint}
+use Rattle.help.specs.declared.hint.Hint.TheVariants as hint
+use Rattle.help.specs.declared.message.Other.TheVariants.{Begins, Ends}
+use Rattle.help.specs.declared.message.Point.TheVariants.{Byte}
+use Rattle.help.specs.Messages.{Message, said, with_expected, with_more, with_other}
 use Rattle.diagnoses.specs.declared.source.Source.{Source}
 use Rattle.diagnoses.specs.Places.{quoted, token_at}
 use Rattle.diagnoses.specs.Remarks.{Remark, Nothing, Nearest, Declared, Misplaced, Elsewhere, Expected}

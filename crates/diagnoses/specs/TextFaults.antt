@@ -2,8 +2,8 @@
 use Rattle.std.specs.Prelude.{ℕ, zero, suc, ◌+◌, List, ◌++◌, None, codes, decimal, slice_index}
 use Rattle.pram_tokens.specs.declared.error.TextFault.{TextFault}
 use Rattle.pram_tokens.specs.declared.error.TextFault.TheVariants as fault
-use Rattle.syntax_hints.specs.Strays.{stray_sentence}
-use Rattle.refusal_messages.specs.Messages.{Message, said}
+use Rattle.help.specs.Strays.{stray_sentence}
+use Rattle.help.specs.Messages.{Message, said}
 use Rattle.diagnoses.specs.declared.source.Kind.{Kind}
 use Rattle.diagnoses.specs.declared.source.Kind.TheVariants as kind
 use Rattle.diagnoses.specs.declared.source.Source.{Source}

@@ -7,8 +7,8 @@ use Rattle.pram_values.specs.Truth.{is_equal}
 use Rattle.pram_values.specs.declared.place.Place.{Place}
 use Rattle.pram_values.specs.declared.place.Place.TheVariants as place
 use Rattle.pram_check.specs.Checked.{Checked}
-use Rattle.step_entries.specs.Causes.{Cause, Beyond}
-use Rattle.step_entries.specs.Entries.{Act}
+use Rattle.journal.specs.Causes.{Cause, Beyond}
+use Rattle.journal.specs.Entries.{Act}
 use Rattle.element_places.specs.Elements.{elements_at}
 
 -- whether a cell is one of those from the first to the last

@@ -3,7 +3,7 @@
 ghost use Rattle.std.specs.Prelude.{◌≡◌, IfOk};
 ghost use Rattle.std.specs.Option.{option_map};
 ghost use Rattle.text_out.specs.Out.{Writes};
-ghost use Rattle.refusal_messages.specs.Messages.{message_is};
+ghost use Rattle.help.specs.Messages.{message_is};
 ghost use Rattle.diagnoses.specs.Remarks.{remark_is};
 ghost use Rattle.diagnoses.specs.Breaches as spec;
 ghost use Rattle.diagnoses.specs.Sources.{spot_as_it_stands, text_in};
@@ -16,8 +16,7 @@ use crate::source::{Kind, Source};
 use crate::standing::spot_as_it_stands;
 use itoa::Buffer as Digits;
 use pram_check::{Breach, Cause, Limit, Spot};
-use refusal_messages::Message;
-use scope_names::Sort;
+use help::{Message, Sort};
 use std::alloc::{AllocError, Global};
 use text_out::{Buffer, Out, WriteFault};
 

@@ -3,7 +3,7 @@
 ghost use Rattle.std.specs.Prelude.{◌≡◌, ◌<◌, ◌-◌, ◌∷◌, IfSome, codes, length, slice_get, take};
 ghost use Rattle.pram_model.specs.Layout.{width};
 ghost use Rattle.text_out.specs.Out.{Writes};
-ghost use Rattle.step_entries.specs.Causes.{cause_is};
+ghost use Rattle.journal.specs.Causes.{cause_is};
 ghost use Rattle.diagnoses.specs.FaultTexts as spec;
 
 use crate::event_text::{MOST_TOLD, kind_sentence, write_event};
@@ -11,7 +11,7 @@ use itoa::Buffer;
 use pram_printer::{binary_text, prefix_text};
 use pram_trees::{Binary, Layout, Prefix, Range};
 use pram_values::Kind;
-use step_entries::Cause;
+use journal::Cause;
 use text_out::{Out, WriteFault};
 use write_rules::Write;
 

@@ -3,12 +3,12 @@
 ghost use Rattle.std.specs.Prelude.{◌≡◌, IfOk};
 ghost use Rattle.std.specs.Option.{option_map};
 ghost use Rattle.text_out.specs.Out.{Writes};
-ghost use Rattle.refusal_messages.specs.Messages.{message_is};
+ghost use Rattle.help.specs.Messages.{message_is};
 ghost use Rattle.diagnoses.specs.Files as spec;
 
 use crate::about::{About, Unread};
 use crate::parts::plain;
-use refusal_messages::Message;
+use help::Message;
 use std::alloc::{AllocError, Global};
 use text_out::{Buffer, Out, WriteFault};
 use text_places::write_escaped;

@@ -3,14 +3,13 @@
 ghost use Rattle.std.specs.Prelude.{◌≡◌, ◌≤◌, IfOk, length, map};
 ghost use Rattle.std.specs.List.{filter, slice_get};
 ghost use Rattle.pram_tokens.specs.Scanning.{cut, cut_of, longest};
-ghost use Rattle.scope_names.specs.InScope.{known_is};
+ghost use Rattle.help.specs.InScope.{known_is};
 ghost use Rattle.diagnoses.specs.Fitting as spec;
 
 use crate::places::is_same;
 use pram_tokens::{LexError, Mark, Opening, Token, tokenize};
-use scope_names::{Known, Sort};
+use help::{Known, Sort, open_blocks, tokens_before};
 use std::alloc::{AllocError, Global};
-use syntax_hints::{open_blocks, tokens_before};
 
 /// The role of a name where it stands.
 #[derive(Clone, Copy, Debug, PartialEq, Eq)]

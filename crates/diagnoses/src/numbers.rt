@@ -2,7 +2,7 @@
 
 ghost use Rattle.std.specs.Prelude.{◌≡◌};
 ghost use Rattle.text_out.specs.Out.{Writes};
-ghost use Rattle.refusal_messages.specs.Messages.{message_is};
+ghost use Rattle.help.specs.Messages.{message_is};
 ghost use Rattle.diagnoses.specs.Numbers as spec;
 
 use crate::about::About;
@@ -10,7 +10,7 @@ use crate::stops::bytes_in;
 use pram_check::Cause;
 use pram_trees::TextFault;
 use program_texts::{Refusal, Stop};
-use refusal_messages::{Message, write_gnu};
+use help::{Message, write_gnu};
 use text_out::{Out, WriteFault};
 
 fn text_number(fault: TextFault) -> &'static [u8]

@@ -1,12 +1,12 @@
 //! Messages of one sentence.
 
 ghost use Rattle.std.specs.Prelude.{◌≡◌, IfOk, None, Some};
-ghost use Rattle.refusal_messages.specs.declared.message.Point.TheVariants.{Byte};
-ghost use Rattle.refusal_messages.specs.Messages.{message_is, said};
+ghost use Rattle.help.specs.declared.message.Point.TheVariants.{Byte};
+ghost use Rattle.help.specs.Messages.{message_is, said};
 ghost use Rattle.diagnoses.specs.SyntaxFaults as syntax;
 
 use crate::source::Source;
-use refusal_messages::{Message, Point};
+use help::{Message, Point};
 use std::alloc::{AllocError, Global};
 
 /// A sentence that has no place.

@@ -2,10 +2,10 @@
 
 ghost use Rattle.std.specs.Prelude.{◌≡◌, ◌≤◌, IfOk, length, map, take};
 ghost use Rattle.pram_tokens.specs.Scanning.{cut_of, longest};
-ghost use Rattle.token_choices.specs.Choices.{AreChoicesBehind};
+ghost use Rattle.help.specs.Choices.{AreChoicesBehind};
 ghost use Rattle.std.specs.Option.{option_map};
-ghost use Rattle.scope_names.specs.InScope.{known_is};
-ghost use Rattle.scope_names.specs.Nearness as near;
+ghost use Rattle.help.specs.InScope.{known_is};
+ghost use Rattle.help.specs.Nearness as near;
 ghost use Rattle.diagnoses.specs.Fitting as fit;
 ghost use Rattle.pram_names.specs.declared.fault.Spot.TheVariants.{Offset};
 ghost use Rattle.diagnoses.specs.Places.{token_at as token_of};
@@ -17,10 +17,8 @@ use pram_check::{Breach, Cause, Spot};
 use pram_parser::parse;
 use pram_tokens::{LONGEST, LexError};
 use pram_trees::{TextFault, Tree};
-use scope_names::{Known, Sort, bound_in, find, names_at, nearest};
+use help::{Choice, Hint, Known, Sort, bound_in, choices_behind, find, hint_at, names_at, nearest};
 use std::alloc::{AllocError, Global};
-use syntax_hints::{Hint, hint_at};
-use token_choices::{Choice, choices_behind};
 
 /// What there is to say of a name that is wrong, or of a token with which no program goes on.
 #[derive(Drop)]

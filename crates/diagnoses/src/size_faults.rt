@@ -2,13 +2,13 @@
 
 ghost use Rattle.std.specs.Prelude.{◌≡◌, IfOk};
 ghost use Rattle.text_out.specs.Out.{Writes};
-ghost use Rattle.refusal_messages.specs.Messages.{message_is};
+ghost use Rattle.help.specs.Messages.{message_is};
 ghost use Rattle.diagnoses.specs.SizeFaults as spec;
 
 use crate::parts::at_byte;
 use crate::places::{token_at, write_quoted};
 use crate::source::Source;
-use refusal_messages::Message;
+use help::Message;
 use sized_texts::Reason;
 use std::alloc::{AllocError, Global};
 use text_out::{Buffer, Out, WriteFault};

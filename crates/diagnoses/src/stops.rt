@@ -2,7 +2,7 @@
 
 ghost use Rattle.std.specs.Prelude.{◌≡◌, List, ℕ, IfOk, None};
 ghost use Rattle.text_out.specs.Out.{Writes};
-ghost use Rattle.refusal_messages.specs.Messages.{message_is, said};
+ghost use Rattle.help.specs.Messages.{message_is, said};
 ghost use Rattle.diagnoses.specs.Remarks.{remark_is};
 ghost use Rattle.diagnoses.specs.Stops as spec;
 
@@ -18,7 +18,7 @@ use itoa::Buffer as Digits;
 use pram_check::Breach;
 use pram_trees::TextFault;
 use program_texts::{Refusal, Stop};
-use refusal_messages::{Message, Point, write_message};
+use help::{Message, Point, write_message};
 use sized_texts::Reason;
 use std::alloc::{AllocError, Global};
 use text_out::{Buffer, Out, WriteFault};

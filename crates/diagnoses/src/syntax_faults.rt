@@ -6,9 +6,8 @@ ghost use Rattle.diagnoses.specs.SyntaxFaults as spec;
 use crate::places::{token_at, write_quoted};
 use crate::remark::Remark;
 use itoa::Buffer;
-use syntax_hints::{Habit, habit_text};
+use help::{Choice, Habit, habit_text, write_choice, write_choices};
 use text_out::{Out, WriteFault};
-use token_choices::{Choice, write_choice, write_choices};
 
 fn write_stranger<W: Out>(out: &mut W, token: &[u8]) -> Result<(), WriteFault>
     ensures written { Writes (W.Out.state out.old) (W.Out.state out.new) (spec.stranger token.now) result }

@@ -2,8 +2,8 @@
 
 ghost use Rattle.std.specs.Prelude.{◌≡◌, IfOk, codes, map};
 ghost use Rattle.pram_printer.specs.Spelling.{opening_text as opening_word};
-ghost use Rattle.token_choices.specs.ChoiceTexts.{choice_text};
-ghost use Rattle.refusal_messages.specs.Messages.{message_is};
+ghost use Rattle.help.specs.ChoiceTexts.{choice_text};
+ghost use Rattle.help.specs.Messages.{message_is};
 ghost use Rattle.diagnoses.specs.Places.{token_at as token_in};
 ghost use Rattle.diagnoses.specs.Remarks.{remark_is};
 ghost use Rattle.diagnoses.specs.Sources.{text_in};
@@ -18,12 +18,10 @@ use crate::syntax_faults::{
     write_open_sentence, write_taken_sentence,
 };
 use pram_printer::opening_text;
-use refusal_messages::{Message, Other};
+use help::{Choice, Habit, Hint, Message, Other, write_choice};
 use std::alloc::{AllocError, Global};
-use syntax_hints::{Habit, Hint};
 use text_out::{Buffer, WriteFault};
 use text_places::place_of;
-use token_choices::{Choice, write_choice};
 
 // The line of the file on which a place stands.
 fn line_in(source: &Source<'_>, at: u32) -> usize

@@ -2,7 +2,7 @@
 
 ghost use Rattle.std.specs.Prelude.{◌≡◌, ◌+◌, IfOk, slice_index};
 ghost use Rattle.text_out.specs.Out.{Writes};
-ghost use Rattle.refusal_messages.specs.Messages.{message_is};
+ghost use Rattle.help.specs.Messages.{message_is};
 ghost use Rattle.diagnoses.specs.Remarks.{remark_is};
 ghost use Rattle.diagnoses.specs.Sources.{text_in};
 ghost use Rattle.diagnoses.specs.SyntaxFaults.{placed as placed_in};
@@ -15,9 +15,8 @@ use crate::source::{Kind, Source};
 use crate::syntax_messages::syntax_message;
 use itoa::Buffer as Digits;
 use pram_trees::TextFault;
-use refusal_messages::Message;
+use help::{Message, stray_sentence};
 use std::alloc::{AllocError, Global};
-use syntax_hints::stray_sentence;
 use text_out::{Buffer, Out, WriteFault};
 
 fn write_not_ascii<W: Out>(out: &mut W, byte: u8) -> Result<(), WriteFault>

@@ -1,8 +1,8 @@
 //! Where the element stands whose subscript is outside the bounds of its array.
 
 ghost use Rattle.std.specs.Prelude.{◌≡◌, ◌<◌, IfOk, IfSome, length, map, slice_get};
-ghost use Rattle.step_entries.specs.Causes.{known_cause};
-ghost use Rattle.step_entries.specs.Entries.{act_is};
+ghost use Rattle.journal.specs.Causes.{known_cause};
+ghost use Rattle.journal.specs.Entries.{act_is};
 ghost use Rattle.diagnoses.specs.WrongElements as spec;
 
 use element_places::elements_at;
@@ -11,7 +11,7 @@ use pram_tokens::Location;
 use pram_trees::Layout;
 use pram_values::Place;
 use std::alloc::{AllocError, Global};
-use step_entries::{Act, Cause};
+use journal::{Act, Cause};
 
 // Whether a cell is one of those from the first to the last.
 fn is_between(first: Option<u32>, last: Option<u32>, cell: u32) -> bool

@@ -5,7 +5,7 @@ use Rattle.pram_model.specs.Layout.{SharedEntry, total_size}
 use Rattle.pram_values.specs.declared.place.Place.{Place}
 use Rattle.pram_values.specs.declared.place.Place.TheVariants as place
 use Rattle.program_texts.specs.Shown.{spaced}
-use Rattle.step_entries.specs.Entries.{Act, Entry, Faulting, Ran}
+use Rattle.journal.specs.Entries.{Act, Entry, Faulting, Ran}
 use Rattle.flow_pictures.specs.declared.spans.CellSpan.{CellSpan}
 use Rattle.flow_pictures.specs.Cells.{rows_and_next}
 use Rattle.flow_pictures.specs.Choice.{acts_in, location_in}

@@ -2,7 +2,7 @@
 use Rattle.std.proofs.Common.{ℕ, ◌+◌, ◌-◌, ◌%◌, List, [], ◌∷◌, Option, Some, None, refl}
 use Rattle.std.specs.Prelude.{ℤ, codes, drop, length, nat_eq, nat_lt, take}
 use Rattle.pram_model.specs.Layout.{SharedEntry}
-use Rattle.step_entries.specs.Entries.{Act, Entry, Faulting, Ran}
+use Rattle.journal.specs.Entries.{Act, Entry, Faulting, Ran}
 use Rattle.step_pictures.specs.Bands.{columns_from, front_of, label, label_line, labels_from, titles}
 use Rattle.step_pictures.specs.Columns.{act_drawn_by, acts_drawn, all_met, column, heading, more_at, more_text, numbers_text}
 use Rattle.step_pictures.specs.Drawn.{acts_in, first_drawn, last_drawn, last_number, met_in, missing, place_of}

@@ -1,13 +1,13 @@
 -- The picture of a sweep, piece by piece.
 use Rattle.std.proofs.Common.{ℕ, zero, suc, ◌+◌, ◌*◌, List, [], ◌∷◌, Some, None, refl}
 use Rattle.std.specs.Prelude.{codes, decimal, length, nat_le, nat_lt}
-use Rattle.sweep_texts.specs.Tables.{number}
-use Rattle.sweep_texts.specs.declared.measure.Measure.{Measure}
-use Rattle.sweep_texts.specs.declared.measure.Measure.TheVariants.{Time, Work}
-use Rattle.sweep_texts.specs.declared.size_row.Counts.{Counts}
-use Rattle.sweep_texts.specs.declared.size_row.Ending.{Ending}
-use Rattle.sweep_texts.specs.declared.size_row.Ending.TheVariants.{Ended, GoesOn, Faulted, Refused}
-use Rattle.sweep_texts.specs.declared.size_row.SizeRow.{SizeRow}
+use Rattle.sweeps.specs.SweptTables.{number}
+use Rattle.sweeps.specs.declared.measure.Measure.{Measure}
+use Rattle.sweeps.specs.declared.measure.Measure.TheVariants.{Time, Work}
+use Rattle.sweeps.specs.declared.size_row.Counts.{Counts}
+use Rattle.sweeps.specs.declared.size_row.Ending.{Ending}
+use Rattle.sweeps.specs.declared.size_row.Ending.TheVariants.{Ended, GoesOn, Faulted, Refused}
+use Rattle.sweeps.specs.declared.size_row.SizeRow.{SizeRow}
 use Rattle.sweep_pictures.specs.Labels.{is_far, label_of, label_text, labels, last_of, text_of}
 use Rattle.sweep_pictures.specs.Marks.{ending_point, line_text, mark, marks, point, points, shape}
 use Rattle.sweep_pictures.specs.Picture.{all_labels, axes, cut_text, first_text, frame_of, heading, name_front, name_text, opening, panel}

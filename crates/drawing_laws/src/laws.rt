@@ -3,9 +3,9 @@
 ghost use Rattle.std.specs.Prelude.{ℕ, ℤ, Bool, List, codes};
 ghost use Rattle.pram_model.specs.Declarations.{IsLayout};
 ghost use Rattle.pram_model.specs.Layout.{SharedEntry};
-ghost use Rattle.step_entries.specs.Entries.{Entry};
+ghost use Rattle.journal.specs.Entries.{Entry};
 ghost use Rattle.superstep_machine.specs.Trace.{Exchange};
-ghost use Rattle.sweep_texts.specs.declared.size_row.SizeRow.{SizeRow};
+ghost use Rattle.sweeps.specs.declared.size_row.SizeRow.{SizeRow};
 ghost use Rattle.step_pictures.specs.Picture.{picture_from};
 ghost use Rattle.tracer.specs.Picture as traces;
 ghost use Rattle.sweep_pictures.specs.Picture as sweeps;

@@ -6,7 +6,7 @@ ghost use Rattle.endless_runs.specs.Endless.{HasCycle, NeverEnds};
 use crate::cycle::Cycle;
 use crate::search::Search;
 use crate::stop::Stop;
-use call_progress::Watch;
+use observing::Watch;
 use pram_check::Program;
 use pram_meaning::interpreter::Interpreter;
 use pram_meaning::open;

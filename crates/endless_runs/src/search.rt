@@ -10,7 +10,7 @@ ghost use Rattle.endless_runs.specs.Search.{IsKnown, of_for, of_list, of_loop, o
 
 use crate::kept::Keeper;
 use crate::stop::Stop;
-use call_progress::Watch;
+use observing::Watch;
 use pram_check::{Expression, Statement};
 use pram_meaning::action::Action;
 use pram_meaning::interpreter::Interpreter;

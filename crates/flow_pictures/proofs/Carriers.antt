@@ -4,7 +4,7 @@ use Rattle.std.proofs.Common.{subst}
 use Rattle.std.proofs.lemmas.Bool.Decides.{nat_tests}
 use Rattle.std.proofs.lemmas.List.Folds.{Any-from_list_any, list_any_at}
 use Rattle.std.specs.List.{Contains, filter}
-use Rattle.step_entries.specs.Entries.{Act}
+use Rattle.journal.specs.Entries.{Act}
 use Rattle.flow_pictures.specs.Marks.{Arrow, arrow_by, arrows, arrows_to, carries, carries_one, has_read, is_written, node}
 use Rattle.flow_pictures.specs.Marks.{nodes, values, writes}
 use Rattle.flow_pictures.proofs.Members.{kept, mapped, of_mapped, of_spread, passes_test, spread}

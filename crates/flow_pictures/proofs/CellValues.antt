@@ -6,7 +6,7 @@ use Rattle.std.proofs.lemmas.Bool.Decides.{nat_tests}
 use Rattle.std.proofs.lemmas.List.{drop_all, get_or-set_other, get_or-set_same}
 use Rattle.std.specs.List.{fold}
 use Rattle.std.specs.Prelude.{if◌then◌else◌}
-use Rattle.step_entries.specs.declared.change.Change.{Change}
+use Rattle.journal.specs.declared.change.Change.{Change}
 use Rattle.flow_pictures.specs.Values.{changed, value_at}
 use Rattle.flow_pictures.proofs.Kept.{at_item}
 

@@ -8,7 +8,7 @@ use Rattle.std.proofs.lemmas.List.Elements.{Contains-append_cases, Contains-appe
 use Rattle.std.specs.List.{Contains, flat_map, fold}
 use Rattle.std.specs.Prelude.{if◌then◌else◌}
 use Rattle.pram_model.proofs.Truths.{unsome}
-use Rattle.step_entries.specs.Entries.{Entry}
+use Rattle.journal.specs.Entries.{Entry}
 use Rattle.flow_pictures.specs.declared.spans.CellSpan.{CellSpan}
 use Rattle.flow_pictures.specs.Cells.{entry_cells, is_chosen, least_from, nearer, rows_from, touched, with_row}
 use Rattle.flow_pictures.specs.Laws.{cells, found, statements}

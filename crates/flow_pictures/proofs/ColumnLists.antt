@@ -7,8 +7,8 @@ use Rattle.text_out.specs.Out.{OutState, with_bytes}
 use Rattle.text_out.proofs.Progress.{Progress, goes_on}
 use Rattle.flow_pictures.specs.declared.column as column
 use Rattle.flow_pictures.specs.Columns.{column_text, met_text, some_met}
-use Rattle.step_entries.specs.declared.act as act
-use Rattle.step_entries.specs.Entries.{act_is}
+use Rattle.journal.specs.declared.act as act
+use Rattle.journal.specs.Entries.{act_is}
 use Rattle.flow_pictures.specs.Drawing.{column_is, write_value, written_by}
 use Rattle.flow_pictures.specs.Picture.{columns, row_head, row_heads}
 use Rattle.flow_pictures.specs.Places.{y_at}

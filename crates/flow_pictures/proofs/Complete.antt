@@ -8,7 +8,7 @@ use Rattle.std.proofs.lemmas.List.{take_all}
 use Rattle.std.proofs.lemmas.List.Elements.{Contains-append_right}
 use Rattle.std.specs.List.{Contains, enumerate_from, fold}
 use Rattle.std.specs.Prelude.{if◌then◌else◌}
-use Rattle.step_entries.specs.Entries.{Entry}
+use Rattle.journal.specs.Entries.{Entry}
 use Rattle.flow_pictures.specs.declared.spans.CellSpan.{CellSpan}
 use Rattle.flow_pictures.specs.Cells.{least_from, nearer, rows_from, touched, with_row}
 use Rattle.flow_pictures.specs.Choice.{faulted, is_fault, is_faulted, ran, touching}

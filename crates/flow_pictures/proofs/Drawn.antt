@@ -4,7 +4,7 @@ use Rattle.std.proofs.Common.{ap, append-nil, arith, cond, length, map, refl, sy
 use Rattle.std.proofs.lemmas.List.{length-append, length-take, take-append-drop, take-append-le}
 use Rattle.std.proofs.lemmas.List.Elements.{Contains-append_cases, Contains-append_left, Contains-append_right, filter-append}
 use Rattle.std.specs.List.{Contains, enumerate_from, filter, list_any}
-use Rattle.step_entries.specs.Entries.{Entry}
+use Rattle.journal.specs.Entries.{Entry}
 use Rattle.flow_pictures.specs.Choice.{acts_in, drawn, faulted, is_access, is_asked, is_fault, is_faulted, is_ran, is_touching}
 use Rattle.flow_pictures.specs.Choice.{number_before}
 use Rattle.flow_pictures.specs.Choice.{ran, touching}

@@ -3,7 +3,7 @@ use Rattle.std.proofs.Common.{◌≡◌, ◌∙◌, ℕ, ◌+◌, ◌-◌, ◌<�
 use Rattle.std.proofs.lemmas.List.{length-map, map-append, take-map, take-take}
 use Rattle.std.specs.Prelude.{codes}
 use Rattle.pram_model.specs.Layout.{SharedEntry}
-use Rattle.step_entries.specs.Entries.{Entry}
+use Rattle.journal.specs.Entries.{Entry}
 use Rattle.flow_pictures.specs.declared.column as rust
 use Rattle.flow_pictures.specs.declared.flow.Flow.{Flow}
 use Rattle.flow_pictures.specs.declared.spans.CellSpan.{CellSpan}

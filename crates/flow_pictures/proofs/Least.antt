@@ -7,8 +7,8 @@ use Rattle.std.specs.List.{filter, flat_map, fold}
 use Rattle.std.proofs.Common.{cond}
 use Rattle.flow_pictures.specs.declared.spans.CellSpan.{CellSpan}
 use Rattle.std.specs.Prelude.{if◌then◌else◌}
-use Rattle.step_entries.specs.declared.act as act
-use Rattle.step_entries.specs.Entries.{Act, Entry, act_is, entry_is}
+use Rattle.journal.specs.declared.act as act
+use Rattle.journal.specs.Entries.{Act, Entry, act_is, entry_is}
 use Rattle.flow_pictures.specs.declared.column as column
 use Rattle.flow_pictures.specs.Cells.{act_cells, entry_cells, fault_cells, least_from, nearer, nearer_if, optional, is_chosen, touched}
 use Rattle.flow_pictures.specs.Choice.{acts_in}

@@ -1,3 +1,6 @@
+pub mod Chains
+pub mod Rows
+pub mod Counted
 pub mod Carriers
 pub mod CellValues
 pub mod ColumnLists
@@ -12,3 +15,4 @@ pub mod Shaped
 pub mod Standing
 pub mod Taken
 pub mod ChosenRows
+pub mod Ended

@@ -9,7 +9,7 @@ use Rattle.std.proofs.lemmas.List.Folds.{Any-from_list_any, flat_map-map}
 use Rattle.std.proofs.lemmas.Simd.{map-map}
 use Rattle.std.specs.List.{Contains, filter, flat_map}
 use Rattle.pram_model.specs.Layout.{SharedEntry}
-use Rattle.step_entries.specs.Entries.{Act, Entry, Ran, Faulting}
+use Rattle.journal.specs.Entries.{Act, Entry, Ran, Faulting}
 use Rattle.flow_pictures.specs.declared.spans.CellSpan.{CellSpan}
 use Rattle.flow_pictures.specs.Cells.{entry_cells, rows_and_next}
 use Rattle.flow_pictures.specs.Choice.{acts_in}

@@ -8,7 +8,7 @@ use Rattle.std.proofs.lemmas.List.{length-append, length-map, length-take, map-a
 use Rattle.std.proofs.lemmas.List.Sums.{fold-append}
 use Rattle.std.specs.List.{enumerate_from, filter}
 use Rattle.std.specs.Prelude.{if◌then◌else◌}
-use Rattle.step_entries.specs.Entries.{Act, Entry}
+use Rattle.journal.specs.Entries.{Act, Entry}
 use Rattle.flow_pictures.specs.declared.flow.Flow.{Flow}
 use Rattle.flow_pictures.specs.Choice.{acts_in, faulted, is_fault, is_faulted, is_ran, is_touching, number_before, ran, touches, touching}
 use Rattle.flow_pictures.specs.Drawing.{Column, column_is, column_of, write_value, written_by}

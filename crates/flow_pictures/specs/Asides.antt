@@ -1,8 +1,8 @@
 -- Which reads of each statement of a run stand in a subscript, by the program's body.
 use Rattle.std.specs.Prelude.{List, Bool}
 use Rattle.pram_names.specs.declared.body.Statement.{Statement}
-use Rattle.step_entries.specs.Entries.{Entry}
-use Rattle.subscript_reads.specs.Asides.{statements_at}
+use Rattle.journal.specs.Entries.{Entry}
+use Rattle.flow_pictures.specs.Subscripts.{statements_at}
 use Rattle.flow_pictures.specs.Choice.{location_in}
 
 -- those of the statement that an entry is of

@@ -4,7 +4,7 @@ use Rattle.std.specs.Prelude.{nat_le, Bool, true, false, ◌&&◌, ◌||◌}
 use Rattle.std.specs.List.{filter, flat_map, fold}
 use Rattle.pram_values.specs.declared.place.Place.{Place}
 use Rattle.pram_values.specs.declared.place.Place.TheVariants as place
-use Rattle.step_entries.specs.Entries.{Act, Entry, Ran, Faulting}
+use Rattle.journal.specs.Entries.{Act, Entry, Ran, Faulting}
 use Rattle.flow_pictures.specs.declared.spans.CellSpan.{CellSpan}
 use Rattle.flow_pictures.specs.Choice.{acts_in}
 

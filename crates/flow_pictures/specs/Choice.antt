@@ -3,8 +3,8 @@ use Rattle.std.specs.Prelude.{ℕ, ◌-◌, nat_le, nat_lt, Bool, true, false, n
 use Rattle.std.specs.List.{enumerate_from, filter, list_any}
 use Rattle.std.specs.Option.{is_some}
 use Rattle.pram_tokens.specs.declared.token.Location.{Location}
-use Rattle.step_entries.specs.declared.change.Change.{Change}
-use Rattle.step_entries.specs.Entries.{Act, Entry, Ran, Faulting}
+use Rattle.journal.specs.declared.change.Change.{Change}
+use Rattle.journal.specs.Entries.{Act, Entry, Ran, Faulting}
 
 -- ---- the parts of an entry
 

@@ -4,7 +4,7 @@ use Rattle.pram_model.specs.Layout.{SharedEntry}
 use Rattle.pram_values.specs.declared.place.Place.{Place}
 use Rattle.pram_values.specs.declared.place.Place.TheVariants as place
 use Rattle.program_texts.specs.Shown.{fault_text, spaced}
-use Rattle.step_entries.specs.Entries.{Entry, Ran, Faulting}
+use Rattle.journal.specs.Entries.{Entry, Ran, Faulting}
 use Rattle.write_rules.specs.declared.fault.Fault.{Fault}
 use Rattle.flow_pictures.specs.Choice.{location_in}
 use Rattle.flow_pictures.specs.Drawing.{Column}

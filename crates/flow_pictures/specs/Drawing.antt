@@ -1,6 +1,6 @@
 -- What is drawn of a run: its columns, and what is said above and before them.
 use Rattle.std.specs.Prelude.{ℕ, Bool, List, Option, Some, None, ℤ, map, length, pos}
-use Rattle.step_entries.specs.Entries.{Act, Entry, entry_is}
+use Rattle.journal.specs.Entries.{Act, Entry, entry_is}
 use Rattle.flow_pictures.specs.Choice.{acts_in, drawn, number_before, touching}
 use Rattle.flow_pictures.specs.Values.{value_at, value_behind}
 use Rattle.flow_pictures.specs.declared.column as rust_column

@@ -1,7 +1,7 @@
 -- What a reader relies on: the boxes and the lines of a picture.
 use Rattle.std.specs.Prelude.{◌≡◌, ℕ, ◌+◌, ◌<◌, List, [], ◌∷◌, ◌++◌, ℤ, Some, length, map, slice_index_or, take, Bool, not}
 use Rattle.std.specs.List.{Contains}
-use Rattle.step_entries.specs.Entries.{Act, Entry}
+use Rattle.journal.specs.Entries.{Act, Entry}
 use Rattle.flow_pictures.specs.Cells.{rows_and_next}
 use Rattle.flow_pictures.specs.declared.spans.CellSpan.{CellSpan}
 use Rattle.flow_pictures.specs.Choice.{acts_in, drawn}

@@ -1,3 +1,5 @@
+pub mod Subscripts
+pub mod Told
 pub mod Choice
 pub mod Cells
 pub mod Values
@@ -11,3 +13,6 @@ pub mod Picture
 pub mod Laws
 pub mod Shapes
 pub mod Asides
+pub mod Takes
+pub mod TakesLaws
+pub mod Streamed

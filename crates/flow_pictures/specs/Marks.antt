@@ -2,7 +2,7 @@
 use Rattle.std.specs.Prelude.{ℕ, ◌+◌, nat_eq, Bool, true, false, not, ◌&&◌, ◌||◌, List, [], ◌∷◌, Option, Some, None, ℤ, map}
 use Rattle.std.specs.Prelude.{slice_index_or}
 use Rattle.std.specs.List.{filter, flat_map, list_any, position_or_len}
-use Rattle.step_entries.specs.Entries.{Act}
+use Rattle.journal.specs.Entries.{Act}
 use Rattle.flow_pictures.specs.Values.{value_at}
 
 -- a cell that was written, with its value behind the statement

@@ -3,7 +3,7 @@ use Rattle.std.specs.Prelude.{ℕ, ◌+◌, ◌-◌, min, nat_le, nat_lt, ◌&&�
 use Rattle.std.specs.Prelude.{Bool}
 use Rattle.pram_model.specs.Layout.{SharedEntry, total_size}
 use Rattle.program_texts.specs.Shown.{cell_text}
-use Rattle.step_entries.specs.Entries.{Entry}
+use Rattle.journal.specs.Entries.{Entry}
 use Rattle.flow_pictures.specs.declared.spans.CellSpan.{CellSpan}
 use Rattle.flow_pictures.specs.Cells.{rows_and_next}
 use Rattle.flow_pictures.specs.Drawing.{Column, Drawing, drawing, entries_of}

@@ -3,7 +3,7 @@ use Rattle.std.specs.Prelude.{◌≡◌, ℕ, ◌+◌, ◌<◌, List, [], ◌∷
 use Rattle.std.specs.List.{Contains, flat_map}
 use Rattle.pram_model.specs.Layout.{SharedEntry}
 use Rattle.write_rules.specs.declared.fault.Fault.{Fault}
-use Rattle.step_entries.specs.Entries.{Act, Entry, Ran, Faulting}
+use Rattle.journal.specs.Entries.{Act, Entry, Ran, Faulting}
 use Rattle.flow_pictures.specs.declared.spans.CellSpan.{CellSpan}
 use Rattle.flow_pictures.specs.Cells.{entry_cells}
 use Rattle.flow_pictures.specs.Choice.{acts_in, number_before, touching}

@@ -1,6 +1,6 @@
 -- What a picture takes of the entries of a run, as they come.
 use Rattle.std.specs.Prelude.{◌≡◌, ◌<◌, ◌+◌, ℕ, Bool, ◌&&◌, ◌||◌, if◌then◌else◌, nat_lt, List, [], ◌∷◌, ◌++◌, ℤ, map, length, take}
-use Rattle.step_entries.specs.Entries.{Entry}
+use Rattle.journal.specs.Entries.{Entry}
 use Rattle.flow_pictures.specs.declared.flow.Flow.{Flow}
 use Rattle.flow_pictures.specs.Choice.{faulted, is_fault, is_touching, number_before, ran, touching}
 use Rattle.flow_pictures.specs.Drawing.{Column, column_is, column_of}

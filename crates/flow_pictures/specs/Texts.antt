@@ -4,7 +4,7 @@ use Rattle.std.specs.Prelude.{codes, decimal, Bool, true, false}
 use Rattle.std.specs.Fmt.{signed_decimal}
 use Rattle.std.specs.List.{flat_map}
 use Rattle.svg_texts.specs.Letters.{letters}
-use Rattle.step_entries.specs.Entries.{Act}
+use Rattle.journal.specs.Entries.{Act}
 use Rattle.text_places.specs.Places.{line_text}
 use Rattle.flow_pictures.specs.Choice.{acts_in}
 use Rattle.flow_pictures.specs.Drawing.{Column}

@@ -1,8 +1,8 @@
 -- The values of cells behind some statements.
 use Rattle.std.specs.Prelude.{ℕ, nat_eq, if◌then◌else◌, List, ℤ, pos, slice_index_or, take}
 use Rattle.std.specs.List.{fold}
-use Rattle.step_entries.specs.declared.change.Change.{Change}
-use Rattle.step_entries.specs.Entries.{Entry}
+use Rattle.journal.specs.declared.change.Change.{Change}
+use Rattle.journal.specs.Entries.{Entry}
 use Rattle.flow_pictures.specs.Choice.{changes_in}
 
 abbrev pub changed : (cell : ℕ) → ℤ → Change → ℤ

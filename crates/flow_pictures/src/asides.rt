@@ -1,14 +1,14 @@
 //! Which reads of a statement of a run stand in a subscript.
 
 ghost use Rattle.std.specs.Prelude.{◌≡◌, IfOk};
-ghost use Rattle.step_entries.specs.Entries.{entry_is};
+ghost use Rattle.journal.specs.Entries.{entry_is};
 ghost use Rattle.flow_pictures.specs.Asides as spec;
 
 use crate::entries::location_in;
 use pram_check::Program;
 use std::alloc::{AllocError, Global};
-use step_entries::Entry;
-use subscript_reads::subscript_reads;
+use journal::Entry;
+use crate::subscript_reads;
 
 /// Which shared reads of the statement of this entry stand in a subscript, read by read, in the order in which a processor makes them; for
 /// `Flow`. `AllocError`: memory was refused.

@@ -2,7 +2,7 @@
 
 ghost use Rattle.std.specs.Prelude.{◌≡◌, map};
 ghost use Rattle.std.specs.List.{flat_map, fold};
-ghost use Rattle.step_entries.specs.Entries.{act_is, entry_is};
+ghost use Rattle.journal.specs.Entries.{act_is, entry_is};
 ghost use Rattle.flow_pictures.specs.Cells as spec;
 ghost use Rattle.flow_pictures.specs.Drawing.{column_is, entries_of};
 
@@ -10,7 +10,7 @@ use crate::column::Column;
 use crate::entries::acts_in;
 use crate::spans::{CellSpan, is_chosen};
 use pram_values::Place;
-use step_entries::{Act, Entry};
+use journal::{Act, Entry};
 
 // The lesser of two, without one that is less than where the search begins.
 fn nearer(start: u64, best: Option<u32>, cell: u32) -> Option<u32>

@@ -1,11 +1,11 @@
 //! Which statements of a run are drawn.
 
 ghost use Rattle.std.specs.Prelude.{◌≡◌, ◌&&◌};
-ghost use Rattle.step_entries.specs.Entries.{entry_is};
+ghost use Rattle.journal.specs.Entries.{entry_is};
 ghost use Rattle.flow_pictures.specs.Choice as spec;
 
 use crate::entries::touches;
-use step_entries::Entry;
+use journal::Entry;
 
 /// No more statements are drawn, where fewer faulted.
 pub(crate) const MOST_COLUMNS: usize = 64;

@@ -1,7 +1,7 @@
 //! A statement that is drawn.
 
 ghost use Rattle.std.specs.Prelude.{◌≡◌, ◌++◌, ◌∷◌, [], IfOk, OnOk, map};
-ghost use Rattle.step_entries.specs.Entries.{act_is, entry_is};
+ghost use Rattle.journal.specs.Entries.{act_is, entry_is};
 ghost use Rattle.flow_pictures.specs.Choice.{acts_in};
 ghost use Rattle.flow_pictures.specs.Drawing as spec;
 ghost use Rattle.flow_pictures.specs.Values as cell_values;
@@ -9,7 +9,7 @@ ghost use Rattle.flow_pictures.specs.Values as cell_values;
 use crate::entries;
 use crate::values::value_at;
 use std::alloc::{AllocError, Global};
-use step_entries::{Act, Entry};
+use journal::{Act, Entry};
 
 /// A statement that is drawn.
 #[derive(Drop)]

@@ -2,7 +2,7 @@
 
 ghost use Rattle.std.specs.Prelude.{◌≡◌, ◌<◌, ◌^◌, map};
 ghost use Rattle.text_out.specs.Out.{Writes};
-ghost use Rattle.step_entries.specs.Entries.{entry_is};
+ghost use Rattle.journal.specs.Entries.{entry_is};
 ghost use Rattle.flow_pictures.specs.Drawing.{column_is};
 ghost use Rattle.flow_pictures.specs.Picture as picture;
 ghost use Rattle.flow_pictures.specs.Columns as spec;
@@ -15,7 +15,7 @@ use crate::marks::write_marks;
 use crate::measure::{x_of, y_at};
 use itoa::Buffer;
 use pram_trees::Layout;
-use step_entries::Entry;
+use journal::Entry;
 use text_out::{Out, WriteFault};
 
 // The number of a statement and its line.

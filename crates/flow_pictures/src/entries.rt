@@ -2,11 +2,11 @@
 
 ghost use Rattle.std.specs.Prelude.{◌≡◌, map};
 ghost use Rattle.std.specs.List.{list_any};
-ghost use Rattle.step_entries.specs.Entries.{act_is, entry_is};
+ghost use Rattle.journal.specs.Entries.{act_is, entry_is};
 ghost use Rattle.flow_pictures.specs.Choice as spec;
 
 use pram_tokens::Location;
-use step_entries::{Act, Change, Entry};
+use journal::{Act, Change, Entry};
 
 /// What each processor did.
 pub(crate) fn acts_in(entry: &Entry) -> &[Act]

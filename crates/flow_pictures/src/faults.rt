@@ -2,7 +2,7 @@
 
 ghost use Rattle.std.specs.Prelude.{◌≡◌, ◌<◌, ◌^◌, take};
 ghost use Rattle.text_out.specs.Out.{Writes};
-ghost use Rattle.step_entries.specs.Entries.{entry_is};
+ghost use Rattle.journal.specs.Entries.{entry_is};
 ghost use Rattle.program_texts.specs.Shown.{spaced};
 ghost use Rattle.flow_pictures.specs.Columns as spec;
 ghost use Rattle.flow_pictures.specs.Texts as texts;
@@ -14,7 +14,7 @@ use itoa::Buffer;
 use pram_trees::Layout;
 use pram_values::Place;
 use program_texts::{write_fault_text, write_values};
-use step_entries::Entry;
+use journal::Entry;
 use text_out::{Out, WriteFault};
 use write_rules::Fault;
 

@@ -2,7 +2,7 @@
 
 ghost use Rattle.std.specs.Prelude.{◌≡◌, ◌+◌, ◌++◌, ◌∷◌, [], ℕ, ℤ, Bool, true, false, List, IfOk, OnOk, if◌then◌else◌, nat_eq, map};
 ghost use Rattle.pram_model.specs.Layout.{SharedEntry};
-ghost use Rattle.step_entries.specs.Entries as entries;
+ghost use Rattle.journal.specs.Entries as entries;
 ghost use Rattle.flow_pictures.specs.declared.spans.CellSpan.{CellSpan};
 ghost use Rattle.flow_pictures.specs.Choice.{acts_in, is_touching};
 ghost use Rattle.flow_pictures.specs.Drawing.{column_is, drawing_is, written_by};
@@ -16,7 +16,7 @@ use crate::drawing::Drawing;
 use crate::entries::is_fault;
 use crate::values::put_changes;
 use std::alloc::{AllocError, Global};
-use step_entries::Entry;
+use journal::Entry;
 
 // Keeps the values before a statement that touches shared memory, if it is the first one.
 fn keep_before(

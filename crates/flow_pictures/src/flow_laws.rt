@@ -3,7 +3,7 @@
 ghost use Rattle.std.specs.Prelude.{◌≡◌, ℕ, ◌+◌, ◌-◌, ◌<◌, ◌≤◌, ◌++◌, ℤ, Bool, List, Some, length, map, slice_index_or, true};
 ghost use Rattle.std.specs.List.{Contains};
 ghost use Rattle.pram_model.specs.Layout.{SharedEntry};
-ghost use Rattle.step_entries.specs.Entries.{Act, Entry};
+ghost use Rattle.journal.specs.Entries.{Act, Entry};
 ghost use Rattle.flow_pictures.specs.declared.spans.CellSpan.{CellSpan};
 ghost use Rattle.flow_pictures.specs.Cells.{is_chosen, touched};
 ghost use Rattle.flow_pictures.specs.Choice.{acts_in, faulted, is_fault, ran, touching};

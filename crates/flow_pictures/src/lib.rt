@@ -1,4 +1,4 @@
-//! The picture of what passes through shared memory in a run.
+//! The flow of values between statements, as a picture: which cells a statement reads and writes.
 #![tactic(auto)]
 
 mod asides;
@@ -7,19 +7,26 @@ mod choice;
 mod column;
 mod columns;
 mod drawing;
+mod drawn_run;
 mod entries;
 mod faults;
 mod flow;
 mod flow_laws;
 mod head;
+mod inside;
 mod letters;
 mod links;
 mod marks;
 mod measure;
+mod outside;
 mod picture;
+pub mod read_laws;
 mod rows;
 mod shapes;
 mod spans;
+mod streaming;
+mod subscripts;
+mod taker;
 mod values;
 
 pub use asides::asides_of;
@@ -29,5 +36,7 @@ pub use flow::Flow;
 pub use flow_laws::{
     each_write_is_a_node, lines_come_from_reads, the_picture_is_its_shapes, what_has_room_is_drawn,
 };
+pub use outside::subscript_reads;
 pub use picture::write_flow;
 pub use spans::CellSpan;
+pub use streaming::stream_flow;

@@ -2,11 +2,11 @@
 
 ghost use Rattle.std.specs.Prelude.{◌≡◌, Some, map};
 ghost use Rattle.std.specs.List.{position_or_len};
-ghost use Rattle.step_entries.specs.Entries.{act_is};
+ghost use Rattle.journal.specs.Entries.{act_is};
 ghost use Rattle.flow_pictures.specs.Marks as spec;
 
 use crate::values::value_at;
-use step_entries::Act;
+use journal::Act;
 
 fn is_written(write: Option<u32>, to: Option<u32>) -> bool
     ensures { result ≡ spec.is_written write to }

@@ -3,7 +3,7 @@
 ghost use Rattle.std.specs.Prelude.{◌≡◌, [], None, Some, if◌then◌else◌, map};
 ghost use Rattle.std.specs.List.{flat_map};
 ghost use Rattle.text_out.specs.Out.{Writes};
-ghost use Rattle.step_entries.specs.Entries.{act_is};
+ghost use Rattle.journal.specs.Entries.{act_is};
 ghost use Rattle.flow_pictures.specs.Drawing.{column_is};
 ghost use Rattle.flow_pictures.specs.Marks as spec;
 ghost use Rattle.flow_pictures.specs.Texts as texts;
@@ -13,7 +13,7 @@ use crate::entries::acts_in;
 use crate::links::{carries, value_in, values, writes};
 use crate::measure::{value_width, x_of, y_of};
 use crate::shapes::{write_box, write_line, write_ring};
-use step_entries::Act;
+use journal::Act;
 use text_out::{Out, WriteFault};
 
 // A cell that was written.

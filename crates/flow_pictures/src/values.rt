@@ -2,12 +2,12 @@
 
 ghost use Rattle.std.specs.Prelude.{◌≡◌, ◌<◌, ℕ, IfOk, OnOk, if◌then◌else◌, length, nat_eq};
 ghost use Rattle.std.specs.List.{fold};
-ghost use Rattle.step_entries.specs.Entries.{entry_is};
+ghost use Rattle.journal.specs.Entries.{entry_is};
 ghost use Rattle.flow_pictures.specs.Values as spec;
 
 use crate::entries::changes_in;
 use std::alloc::{AllocError, Global};
-use step_entries::{Change, Entry};
+use journal::{Change, Entry};
 
 /// The value of a cell, by those of the first cells; the others hold 0.
 pub(crate) fn value_at(values: &[i64], cell: usize) -> i64

@@ -3,8 +3,8 @@ use Rattle.std.proofs.Common.{◌≡◌, ◌∙◌, ◌<◌, ◌+◌, ◌++◌, 
 use Rattle.std.proofs.lemmas.List.{drop_more}
 use Rattle.pram_model.specs.Layout.{SharedEntry}
 use Rattle.pram_trees.specs.Program.{ProgramTree}
-use Rattle.step_entries.specs.declared.entry as rust
-use Rattle.step_entries.specs.Entries.{entry_is}
+use Rattle.journal.specs.declared.entry as rust
+use Rattle.journal.specs.Entries.{entry_is}
 use Rattle.json_texts.specs.StepFacts.{step_within, steps_from}
 
 -- the entry at i, and those behind it

@@ -4,9 +4,9 @@ use Rattle.std.specs.Prelude.{Option, Some, None}
 use Rattle.json_lines.specs.Small.{IsReadable, IsSmall}
 use Rattle.json_lines.proofs.Small.{HasSmall, has_all, small_large, small_list, small_map, small_object, small_values, smaller}
 use Rattle.pram_model.specs.Layout.{SharedEntry}
-use Rattle.explorations.specs.Firsts.{Met}
-use Rattle.explorations.specs.Found.{Found}
-use Rattle.explorations.specs.declared.findings.Span.{Span}
+use Rattle.scopes.specs.Firsts.{Met}
+use Rattle.scopes.specs.Found.{Found}
+use Rattle.scopes.specs.declared.findings.Span.{Span}
 use Rattle.json_texts.specs.ExplorationFacts.{cost_fields, count_fields, exploration_facts, going_on_fields, met_facts, span_facts}
 use Rattle.json_texts.specs.ExplorationFacts.{span_fields}
 use Rattle.json_texts.specs.OutcomeFacts.{fault_fields}

@@ -5,9 +5,9 @@ use Rattle.std.proofs.lemmas.List.{drop_more, drop_all}
 use Rattle.std.specs.List.{flat_map}
 use Rattle.serde_json.specs.Data.{Data}
 use Rattle.pram_trees.specs.Program.{ProgramTree}
-use Rattle.scope_names.specs.Locals.{local_name}
-use Rattle.step_entries.specs.declared.own_locals as rust
-use Rattle.step_entries.specs.Entries.{own_is}
+use Rattle.help.specs.Locals.{local_name}
+use Rattle.journal.specs.declared.own_locals as rust
+use Rattle.journal.specs.Entries.{own_is}
 use Rattle.json_texts.specs.StepFacts.{held_facts, held_from, own_facts}
 
 -- ---- those of one processor

@@ -8,3 +8,5 @@ pub mod SweepReadable
 pub mod ExplorationReadable
 pub mod PairReadable
 pub mod MessageReadable
+pub mod Lines
+pub mod Parts

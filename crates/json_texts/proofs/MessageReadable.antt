@@ -6,11 +6,11 @@ use Rattle.json_lines.specs.Facts.{letters}
 use Rattle.json_lines.specs.Small.{IsReadable, IsSmall}
 use Rattle.json_lines.proofs.Small.{AreSmall, HasSmall, has_all, small_count, small_letters, small_list, small_map, small_object}
 use Rattle.program_texts.specs.declared.stop.Stop.{Stop}
-use Rattle.refusal_messages.specs.declared.message.Other.{Other}
-use Rattle.refusal_messages.specs.declared.message.Point.{Point}
-use Rattle.refusal_messages.specs.declared.message.Point.TheVariants.{Byte, Line}
-use Rattle.refusal_messages.specs.GnuLines.{other_note, other_place}
-use Rattle.refusal_messages.specs.Messages.{Message}
+use Rattle.help.specs.declared.message.Other.{Other}
+use Rattle.help.specs.declared.message.Point.{Point}
+use Rattle.help.specs.declared.message.Point.TheVariants.{Byte, Line}
+use Rattle.help.specs.GnuLines.{other_note, other_place}
+use Rattle.help.specs.Messages.{Message}
 use Rattle.json_texts.specs.MessageFacts.{known_fields, line_field, list_field, meant_field, message_fields, more_notes, note_facts, notes}
 use Rattle.json_texts.specs.MessageFacts.{other_notes}
 use Rattle.json_texts.specs.MessageFacts.{place_field, point_fields, refusal_facts, refusal_fields, said_fields, text_field}

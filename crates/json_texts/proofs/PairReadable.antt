@@ -6,11 +6,11 @@ use Rattle.json_lines.specs.Small.{IsReadable, IsSmall}
 use Rattle.json_lines.proofs.Small.{HasSmall, has_all, small_large, small_letters, small_object, small_value, small_values, small_word}
 use Rattle.json_lines.proofs.Small.{smaller}
 use Rattle.pram_model.specs.Layout.{SharedEntry}
-use Rattle.comparisons.specs.Found.{Differing, Found}
-use Rattle.comparisons.specs.declared.difference.Difference.{Difference}
-use Rattle.comparisons.specs.declared.difference.Difference.TheVariants as differ
-use Rattle.comparisons.specs.declared.difference.Ending.{Ending}
-use Rattle.comparisons.specs.declared.difference.Ending.TheVariants as ending
+use Rattle.comparing.specs.Found.{Differing, Found}
+use Rattle.comparing.specs.declared.difference.Difference.{Difference}
+use Rattle.comparing.specs.declared.difference.Difference.TheVariants as differ
+use Rattle.comparing.specs.declared.difference.Ending.{Ending}
+use Rattle.comparing.specs.declared.difference.Ending.TheVariants as ending
 use Rattle.json_texts.specs.PairFacts.{both_fields, cells_fields, difference_fields, differing_facts, differing_fields, ending_facts}
 use Rattle.json_texts.specs.PairFacts.{ending_fields}
 use Rattle.json_texts.specs.PairFacts.{excess_fields, first_fields, found_fields, pair_fields, told_fields, value_fields, whole_facts}

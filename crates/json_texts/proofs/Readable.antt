@@ -16,22 +16,22 @@ use Rattle.pram_model.specs.declared.rule.Rule.{Rule}
 use Rattle.pram_check.specs.Checked.{Checked}
 use Rattle.write_rules.specs.declared.fault.Fault.{Fault}
 use Rattle.write_rules.specs.Verdict.{Verdict, Ended, Faulted, GoesOn}
-use Rattle.work_time.specs.declared.cost.Cost.{Cost}
-use Rattle.work_time.specs.declared.line_cost.LineCost.{LineCost}
+use Rattle.costs.specs.declared.cost.Cost.{Cost}
+use Rattle.costs.specs.declared.line_cost.LineCost.{LineCost}
 use Rattle.program_texts.specs.declared.from_text.Refusal.{Refusal}
 use Rattle.program_texts.specs.declared.from_text.Refusal.TheVariants as refusal
 use Rattle.program_texts.specs.declared.stop.Stop.{Stop}
 use Rattle.program_texts.specs.declared.stop.Stop.TheVariants as stop
-use Rattle.rule_comparison.specs.Compared.{declares, finding_of, rules}
-use Rattle.rule_comparison.specs.declared.comparison.UnderRules.{UnderRules}
-use Rattle.rule_comparison.specs.declared.finding.Finding.{Finding}
-use Rattle.rule_comparison.specs.declared.finding.Finding.TheVariants as finding
+use Rattle.comparing.specs.Compared.{declares, finding_of, rules}
+use Rattle.comparing.specs.declared.rules.UnderRules.{UnderRules}
+use Rattle.comparing.specs.declared.finding.Finding.{Finding}
+use Rattle.comparing.specs.declared.finding.Finding.TheVariants as finding
 use Rattle.write_rules.specs.declared.write.Write.{Write}
-use Rattle.step_entries.specs.declared.change.Change.{Change}
-use Rattle.step_entries.specs.declared.local_change.LocalChange.{LocalChange}
+use Rattle.journal.specs.declared.change.Change.{Change}
+use Rattle.journal.specs.declared.local_change.LocalChange.{LocalChange}
 use Rattle.pram_trees.specs.Program.{ProgramTree}
-use Rattle.step_entries.specs.Causes as told
-use Rattle.step_entries.specs.Entries.{Act, Entry, Faulting, OwnLocals, Ran}
+use Rattle.journal.specs.Causes as told
+use Rattle.journal.specs.Entries.{Act, Entry, Faulting, OwnLocals, Ran}
 use Rattle.json_texts.specs.AcceptedFacts.{accepted_facts, accepted_fields}
 use Rattle.json_texts.specs.CostFacts.{bound_fields, cost_facts, cost_fields, line_facts, line_fields, most_fields, round_fields}
 use Rattle.memory_texts.specs.Chosen.{chosen}

@@ -2,13 +2,13 @@
 use Rattle.std.proofs.Common.{ℕ, List, ◌∷◌, ◌++◌, codes, lit≤}
 use Rattle.json_lines.specs.Small.{IsReadable}
 use Rattle.json_lines.proofs.Small.{HasSmall, has_all, small_count, small_large, small_letters, small_object, small_word, smaller}
-use Rattle.growth_formulas.specs.declared.growth.Growth.{Growth}
-use Rattle.growth_formulas.specs.declared.growth.Growth.TheVariants.{Formula as ByFormula, Doubling, Nothing}
-use Rattle.sweep_texts.specs.declared.growths.Growths.{Growths}
-use Rattle.sweep_texts.specs.declared.size_row.Counts.{Counts}
-use Rattle.sweep_texts.specs.declared.size_row.Ending.{Ending}
-use Rattle.sweep_texts.specs.declared.size_row.Ending.TheVariants.{Ended, GoesOn, Faulted, Refused}
-use Rattle.sweep_texts.specs.declared.size_row.SizeRow.{SizeRow}
+use Rattle.sweeps.specs.declared.growth.Growth.{Growth}
+use Rattle.sweeps.specs.declared.growth.Growth.TheVariants.{Formula as ByFormula, Doubling, Nothing}
+use Rattle.sweeps.specs.declared.growths.Growths.{Growths}
+use Rattle.sweeps.specs.declared.size_row.Counts.{Counts}
+use Rattle.sweeps.specs.declared.size_row.Ending.{Ending}
+use Rattle.sweeps.specs.declared.size_row.Ending.TheVariants.{Ended, GoesOn, Faulted, Refused}
+use Rattle.sweeps.specs.declared.size_row.SizeRow.{SizeRow}
 use Rattle.json_texts.specs.CostFacts.{most_fields}
 use Rattle.json_texts.proofs.Readable.{small_most}
 use Rattle.json_texts.specs.SweepFacts.{count_fields, ending_fields, growth_fields, growths_facts, growths_fields, row_facts}

@@ -4,8 +4,8 @@ use Rattle.serde_json.specs.Data.{Data, null}
 use Rattle.json_lines.specs.Facts.{count, letters, list, object_of, value}
 use Rattle.pram_model.specs.Layout.{SharedEntry}
 use Rattle.program_texts.specs.Shown.{cell_text}
-use Rattle.step_entries.specs.declared.reading.Reading.{Reading}
-use Rattle.step_entries.specs.Entries.{Act}
+use Rattle.journal.specs.declared.reading.Reading.{Reading}
+use Rattle.journal.specs.Entries.{Act}
 
 -- the index of a processor, and null of the one outside pardo
 abbrev pub processor_fact : Option ℤ → Data

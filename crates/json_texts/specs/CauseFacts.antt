@@ -5,7 +5,7 @@ use Rattle.json_lines.specs.Facts.{Field, count, letters, list, object_of, value
 use Rattle.pram_model.specs.Layout.{SharedEntry, subscripts}
 use Rattle.pram_printer.specs.Spelling.{binary_text, prefix_text}
 use Rattle.write_rules.specs.declared.write.Write.{Write}
-use Rattle.step_entries.specs.Causes.{Before, Between, Beyond, Cause, Meeting, Wide, Writing}
+use Rattle.journal.specs.Causes.{Before, Between, Beyond, Cause, Meeting, Wide, Writing}
 
 -- a write: the index of the processor, and its value
 abbrev pub write_facts : Write → Data

@@ -4,8 +4,8 @@ use Rattle.serde_json.specs.Data.{Data}
 use Rattle.json_lines.specs.Facts.{Field, count, large, list, object_of}
 use Rattle.pram_model.specs.Layout.{SharedEntry}
 use Rattle.write_rules.specs.Verdict.{Verdict, Ended, Faulted, GoesOn}
-use Rattle.work_time.specs.declared.cost.Cost.{Cost}
-use Rattle.work_time.specs.declared.line_cost.LineCost.{LineCost}
+use Rattle.costs.specs.declared.cost.Cost.{Cost}
+use Rattle.costs.specs.declared.line_cost.LineCost.{LineCost}
 use Rattle.json_texts.specs.OutcomeFacts.{outcome_fields}
 
 abbrev pub work_fields : Cost → List Field

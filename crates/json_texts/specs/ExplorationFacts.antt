@@ -3,9 +3,9 @@ use Rattle.std.specs.Prelude.{ℕ, ℤ, List, [], ◌∷◌, ◌++◌, Option, S
 use Rattle.serde_json.specs.Data.{Data}
 use Rattle.json_lines.specs.Facts.{Field, large, list, object_of, values}
 use Rattle.pram_model.specs.Layout.{SharedEntry}
-use Rattle.explorations.specs.Firsts.{Met}
-use Rattle.explorations.specs.Found.{Found}
-use Rattle.explorations.specs.declared.findings.Span.{Span}
+use Rattle.scopes.specs.Firsts.{Met}
+use Rattle.scopes.specs.Found.{Found}
+use Rattle.scopes.specs.declared.findings.Span.{Span}
 use Rattle.json_texts.specs.OutcomeFacts.{fault_fields}
 
 -- a fault, with the input on which it was met

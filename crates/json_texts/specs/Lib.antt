@@ -11,3 +11,6 @@ pub mod TraceFacts
 pub mod SweepFacts
 pub mod ExplorationFacts
 pub mod PairFacts
+pub mod Streams
+pub mod StreamLaws
+pub mod Streamed

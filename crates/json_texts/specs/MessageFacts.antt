@@ -3,11 +3,11 @@ use Rattle.std.specs.Prelude.{ℕ, List, [], ◌∷◌, ◌++◌, Option, Some, 
 use Rattle.serde_json.specs.Data.{Data}
 use Rattle.json_lines.specs.Facts.{Field, count, letters, list, object_of}
 use Rattle.program_texts.specs.declared.stop.Stop.{Stop}
-use Rattle.refusal_messages.specs.declared.message.Other.{Other}
-use Rattle.refusal_messages.specs.declared.message.Point.{Point}
-use Rattle.refusal_messages.specs.declared.message.Point.TheVariants.{Byte, Line}
-use Rattle.refusal_messages.specs.GnuLines.{other_note, other_place}
-use Rattle.refusal_messages.specs.Messages.{Message}
+use Rattle.help.specs.declared.message.Other.{Other}
+use Rattle.help.specs.declared.message.Point.{Point}
+use Rattle.help.specs.declared.message.Point.TheVariants.{Byte, Line}
+use Rattle.help.specs.GnuLines.{other_note, other_place}
+use Rattle.help.specs.Messages.{Message}
 use Rattle.text_places.specs.Places.{place_of}
 use Rattle.json_texts.specs.RefusalFacts.{stop_fields}
 

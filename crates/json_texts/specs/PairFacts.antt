@@ -4,11 +4,11 @@ use Rattle.serde_json.specs.Data.{Data}
 use Rattle.json_lines.specs.Facts.{Field, large, letters, object_of, value, values, word}
 use Rattle.pram_model.specs.Layout.{SharedEntry}
 use Rattle.program_texts.specs.Shown.{cell_text}
-use Rattle.comparisons.specs.Found.{Differing, Found}
-use Rattle.comparisons.specs.declared.difference.Difference.{Difference}
-use Rattle.comparisons.specs.declared.difference.Difference.TheVariants as differ
-use Rattle.comparisons.specs.declared.difference.Ending.{Ending}
-use Rattle.comparisons.specs.declared.difference.Ending.TheVariants as ending
+use Rattle.comparing.specs.Found.{Differing, Found}
+use Rattle.comparing.specs.declared.difference.Difference.{Difference}
+use Rattle.comparing.specs.declared.difference.Difference.TheVariants as differ
+use Rattle.comparing.specs.declared.difference.Ending.{Ending}
+use Rattle.comparing.specs.declared.difference.Ending.TheVariants as ending
 use Rattle.json_texts.specs.OutcomeFacts.{fault_fields}
 
 -- a value, where there is one

@@ -5,10 +5,10 @@ use Rattle.json_lines.specs.Facts.{Field, flag, list, object_of, word}
 use Rattle.pram_model.specs.Layout.{SharedEntry}
 use Rattle.pram_model.specs.Rules.{rule_word}
 use Rattle.pram_model.specs.declared.rule.Rule.{Rule}
-use Rattle.rule_comparison.specs.Compared.{declares, finding_of, rules}
-use Rattle.rule_comparison.specs.declared.comparison.UnderRules.{UnderRules}
-use Rattle.rule_comparison.specs.declared.finding.Finding.{Finding}
-use Rattle.rule_comparison.specs.declared.finding.Finding.TheVariants as finding
+use Rattle.comparing.specs.Compared.{declares, finding_of, rules}
+use Rattle.comparing.specs.declared.rules.UnderRules.{UnderRules}
+use Rattle.comparing.specs.declared.finding.Finding.{Finding}
+use Rattle.comparing.specs.declared.finding.Finding.TheVariants as finding
 use Rattle.json_texts.specs.OutcomeFacts.{fault_fields}
 
 -- an end, which is `same` or `other`

@@ -6,11 +6,11 @@ use Rattle.json_lines.specs.Facts.{Field, count, letters, list, object_of, value
 use Rattle.pram_model.specs.Layout.{SharedEntry}
 use Rattle.pram_trees.specs.Program.{ProgramTree}
 use Rattle.program_texts.specs.Shown.{cell_text}
-use Rattle.scope_names.specs.Locals.{local_name, variable_name}
-use Rattle.step_entries.specs.declared.change.Change.{Change}
-use Rattle.step_entries.specs.declared.local_change.LocalChange.{LocalChange}
-use Rattle.step_entries.specs.Entries.{Act, Entry, Faulting, OwnLocals, Ran}
-use Rattle.step_entries.specs.Causes.{Cause}
+use Rattle.help.specs.Locals.{local_name, variable_name}
+use Rattle.journal.specs.declared.change.Change.{Change}
+use Rattle.journal.specs.declared.local_change.LocalChange.{LocalChange}
+use Rattle.journal.specs.Entries.{Act, Entry, Faulting, OwnLocals, Ran}
+use Rattle.journal.specs.Causes.{Cause}
 use Rattle.text_places.specs.Places.{place_of}
 use Rattle.write_rules.specs.declared.fault.Fault.{Fault}
 use Rattle.write_rules.specs.Verdict.{Verdict}

@@ -2,13 +2,13 @@
 use Rattle.std.specs.Prelude.{ℕ, ◌||◌, if◌then◌else◌, List, [], ◌∷◌, ◌++◌, codes, map}
 use Rattle.serde_json.specs.Data.{Data}
 use Rattle.json_lines.specs.Facts.{Field, count, large, letters, object_of, word}
-use Rattle.growth_formulas.specs.declared.growth.Growth.{Growth}
-use Rattle.growth_formulas.specs.GrowthText.{growth_words, is_told}
-use Rattle.sweep_texts.specs.declared.growths.Growths.{Growths}
-use Rattle.sweep_texts.specs.declared.size_row.Counts.{Counts}
-use Rattle.sweep_texts.specs.declared.size_row.Ending.{Ending}
-use Rattle.sweep_texts.specs.declared.size_row.Ending.TheVariants.{Ended, GoesOn, Faulted, Refused}
-use Rattle.sweep_texts.specs.declared.size_row.SizeRow.{SizeRow}
+use Rattle.sweeps.specs.declared.growth.Growth.{Growth}
+use Rattle.sweeps.specs.GrowthText.{growth_words, is_told}
+use Rattle.sweeps.specs.declared.growths.Growths.{Growths}
+use Rattle.sweeps.specs.declared.size_row.Counts.{Counts}
+use Rattle.sweeps.specs.declared.size_row.Ending.{Ending}
+use Rattle.sweeps.specs.declared.size_row.Ending.TheVariants.{Ended, GoesOn, Faulted, Refused}
+use Rattle.sweeps.specs.declared.size_row.SizeRow.{SizeRow}
 use Rattle.json_texts.specs.CostFacts.{most_fields}
 
 abbrev pub count_fields : Counts → List Field

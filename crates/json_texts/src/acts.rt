@@ -4,14 +4,14 @@ ghost use Rattle.std.specs.Prelude.{◌≡◌, IfOk, map};
 ghost use Rattle.serde_json.specs.View.{view};
 ghost use Rattle.json_lines.specs.Facts.{letters};
 ghost use Rattle.program_texts.specs.Shown as texts;
-ghost use Rattle.step_entries.specs.Entries.{act_is};
+ghost use Rattle.journal.specs.Entries.{act_is};
 ghost use Rattle.json_texts.specs.ActFacts as spec;
 
 use crate::fault::cell_text;
 use json_lines::{Object, Value, value_of};
 use pram_trees::Layout;
 use std::alloc::{AllocError, Global};
-use step_entries::{Act, Reading};
+use journal::{Act, Reading};
 
 // A cell by its name.
 fn cell_value(alloc: Global, layout: &Layout, cell: u32) -> Result<Value, AllocError>

@@ -13,7 +13,7 @@ use json_lines::{Object, Value, line_of};
 use memory_texts::Choice;
 use pram_trees::Layout;
 use std::alloc::{AllocError, Global};
-use work_time::{Cost, LineCost};
+use costs::{Cost, LineCost};
 use write_rules::Outcome;
 
 fn put_work(object: &mut Object, cost: &Cost) -> Result<(), AllocError>

@@ -3,14 +3,14 @@
 ghost use Rattle.std.specs.Prelude.{◌≡◌, ◌∷◌, ◌++◌, [], IfOk, OnOk, map, string_bytes};
 ghost use Rattle.std.specs.Option.{option_map};
 ghost use Rattle.serde_json.specs.View.{view};
-ghost use Rattle.explorations.specs.Found.{found_is, met_is, values_of};
+ghost use Rattle.scopes.specs.Found.{found_is, met_is, values_of};
 ghost use Rattle.json_lines.specs.Facts.{with_fields};
 ghost use Rattle.json_lines.specs.Lines.{IsJson};
 ghost use Rattle.json_lines.specs.Shown.{shown};
 ghost use Rattle.json_texts.specs.ExplorationFacts as spec;
 
 use crate::fault::put_fault;
-use explorations::{Findings, FoundFault, Span};
+use scopes::{Findings, FoundFault, Span};
 use json_lines::{Object, Value, line_of};
 use pram_trees::Layout;
 use std::alloc::{AllocError, Global};

@@ -1,8 +1,9 @@
-//! What the program's commands tell, as JSON.
+//! What is told, as JSON: a line for each fact of an outcome, its costs, its steps and what is refused.
 #![tactic(auto)]
 
 mod accepted;
 mod acts;
+mod asked;
 mod cause;
 mod cost;
 mod exchange;
@@ -16,6 +17,8 @@ mod pair;
 mod refusal;
 mod rules;
 mod steps;
+mod stream;
+mod streaming;
 mod sweep;
 mod trace;
 
@@ -28,5 +31,6 @@ pub use pair::json_pair;
 pub use refusal::{json_stop, json_unverified, out_of_memory_line};
 pub use rules::json_comparison;
 pub use steps::{json_step, json_steps};
+pub use streaming::stream_json;
 pub use sweep::json_sweep;
 pub use trace::json_trace;

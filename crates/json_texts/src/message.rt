@@ -6,14 +6,14 @@ ghost use Rattle.serde_json.specs.View.{view};
 ghost use Rattle.json_lines.specs.Facts.{letters, with_fields};
 ghost use Rattle.json_lines.specs.Lines.{IsJson};
 ghost use Rattle.json_lines.specs.Shown.{shown};
-ghost use Rattle.refusal_messages.specs.GnuLines.{other_note, other_place};
-ghost use Rattle.refusal_messages.specs.Messages.{message_is};
+ghost use Rattle.help.specs.GnuLines.{other_note, other_place};
+ghost use Rattle.help.specs.Messages.{message_is};
 ghost use Rattle.json_texts.specs.MessageFacts as spec;
 
 use crate::refusal::put_stop;
 use json_lines::{Object, Value, line_of};
 use program_texts::Stop;
-use refusal_messages::{Message, Other, Point};
+use help::{Message, Other, Point};
 use std::alloc::{AllocError, Global};
 use text_places::place_of;
 

@@ -3,14 +3,14 @@
 ghost use Rattle.std.specs.Prelude.{◌≡◌, ◌++◌, IfOk, OnOk, map};
 ghost use Rattle.std.specs.List.{flat_map};
 ghost use Rattle.serde_json.specs.View.{view};
-ghost use Rattle.step_entries.specs.Entries.{own_is};
+ghost use Rattle.journal.specs.Entries.{own_is};
 ghost use Rattle.json_texts.specs.StepFacts as spec;
 
 use json_lines::{Object, Value};
 use pram_trees::Tree;
-use scope_names::local_name;
+use help::local_name;
 use std::alloc::{AllocError, Global};
-use step_entries::OwnLocals;
+use journal::OwnLocals;
 
 // What a processor's local holds.
 fn held_facts(alloc: Global, processor: i64, name: &[u8], held: i64) -> Result<Value, AllocError>

@@ -5,13 +5,13 @@ ghost use Rattle.serde_json.specs.View.{view};
 ghost use Rattle.json_lines.specs.Facts.{with_fields};
 ghost use Rattle.json_lines.specs.Lines.{IsJson};
 ghost use Rattle.json_lines.specs.Shown.{shown};
-ghost use Rattle.rule_comparison.specs.Compared.{rules as all_rules};
+ghost use Rattle.comparing.specs.Compared.{rules as all_rules};
 ghost use Rattle.json_texts.specs.RuleFacts as spec;
 
 use crate::fault::put_fault;
 use json_lines::{Object, Value, line_of};
 use pram_trees::{Layout, Rule};
-use rule_comparison::{UnderRules, Finding};
+use comparing::{UnderRules, Finding};
 use std::alloc::{AllocError, Global};
 
 /// The rules, in the order in which they are compared.

@@ -5,14 +5,13 @@ ghost use Rattle.serde_json.specs.View.{view};
 ghost use Rattle.json_lines.specs.Facts.{with_fields};
 ghost use Rattle.json_lines.specs.Lines.{Adds, IsJson};
 ghost use Rattle.json_lines.specs.Shown.{shown};
-ghost use Rattle.growth_formulas.specs.GrowthText.{growth_words};
+ghost use Rattle.sweeps.specs.GrowthText.{growth_words};
 ghost use Rattle.json_texts.specs.SweepFacts as spec;
 
 use crate::cost::put_most;
-use growth_formulas::{Growth, write_growth_words};
+use sweeps::{Counts, Ending, Growth, Growths, SizeRow, write_growth_words};
 use json_lines::{Object, Value, push_line};
 use std::alloc::{AllocError, Global};
-use sweep_texts::{Counts, Ending, Growths, SizeRow};
 use text_out::{Buffer, Out, WriteFault};
 
 fn put_counts(object: &mut Object, counts: &Counts) -> Result<(), AllocError>

@@ -1,7 +1,7 @@
 //! Programs compiled, run and shown, and the whole command, but for the system's files and streams.
 #![tactic(auto)]
 
-pub use call_progress::Watch;
+pub use observing::Watch;
 pub use command_line::{Terminal, command};
 pub use command_words::CommandLine;
 pub use exchange_counts::{Count, Counts};

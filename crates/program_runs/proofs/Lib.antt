@@ -1,3 +1,4 @@
+pub mod Bounded
 pub mod Meant
 pub mod RunLemmas
 pub mod Packing

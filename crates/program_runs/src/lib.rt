@@ -2,6 +2,7 @@
 #![tactic(auto)]
 
 pub mod code_laws;
+pub mod communication_law;
 mod compiler;
 mod from_text;
 pub mod headline;

@@ -1,6 +1,6 @@
 //! The line of a terminal that says how far a call is.
 
-use call_progress::Watch;
+use observing::Watch;
 use crossbeam_utils::atomic::AtomicCell;
 use itoa::Buffer;
 use std::sync::Wait;

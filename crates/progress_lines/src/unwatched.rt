@@ -1,6 +1,6 @@
 //! A call that nobody looks at.
 
-use call_progress::Watch;
+use observing::Watch;
 use std::sync::Wait;
 use workers::Gate;
 

@@ -3,9 +3,9 @@ use Rattle.std.proofs.Common.{◌≡◌, ◌∙◌, ◌<◌, ◌+◌, ◌%◌, �
 use Rattle.std.proofs.lemmas.List.{drop_more}
 use Rattle.std.specs.Prelude.{nat_eq, if◌then◌else◌}
 use Rattle.pram_model.specs.Layout.{SharedEntry}
-use Rattle.step_entries.specs.declared.act as act
-use Rattle.step_entries.specs.declared.entry as entry
-use Rattle.step_entries.specs.Entries.{act_is, entry_is}
+use Rattle.journal.specs.declared.act as act
+use Rattle.journal.specs.declared.entry as entry
+use Rattle.journal.specs.Entries.{act_is, entry_is}
 use Rattle.text_out.specs.Out.{OutState, with_bytes}
 use Rattle.text_out.proofs.Progress.{Progress, goes_on}
 use Rattle.step_pictures.specs.Bands.{band_front, columns_from, front_of, label, label_line, labels_from, with_front}

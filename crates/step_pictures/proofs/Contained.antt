@@ -6,7 +6,7 @@ use Rattle.std.specs.List.{Contains}
 use Rattle.std.proofs.lemmas.Bool.Decides.{Decides-int_eq}
 use Rattle.std.proofs.lemmas.Grind.{common_steps}
 use Rattle.std.proofs.lemmas.List.{length-append, take_all}
-use Rattle.step_entries.specs.Entries.{Entry}
+use Rattle.journal.specs.Entries.{Entry}
 use Rattle.step_pictures.specs.Drawn.{acting_drawn, first_met, inserted, met_in, met_of, offered, offered_beside, place_of, rows_of}
 use Rattle.step_pictures.specs.Drawn.{with_all, with_others}
 use Rattle.step_pictures.proofs.RowTexts.{less_inserted, more_inserted, same, same_inserted}

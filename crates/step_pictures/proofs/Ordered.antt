@@ -6,7 +6,7 @@ use Rattle.std.specs.List.{AllPairs, Contains}
 use Rattle.std.proofs.lemmas.Grind.{common_steps}
 use Rattle.std.proofs.lemmas.List.{take-append-drop}
 use Rattle.std.proofs.lemmas.List.Elements.{Contains-append_left, Contains-get_or}
-use Rattle.step_entries.specs.Entries.{Entry}
+use Rattle.journal.specs.Entries.{Entry}
 use Rattle.step_pictures.specs.Drawn.{acting_drawn, inserted, met_of, offered, offered_beside, place_of, rows_of, with_all, with_others}
 use Rattle.step_pictures.proofs.Contained.{all_few, first, further, others_few}
 use Rattle.step_pictures.proofs.RowTexts.{less_inserted, more_inserted, same_inserted}

@@ -12,7 +12,7 @@ use Rattle.std.proofs.lemmas.List.{drop_all, length-take-le}
 use Rattle.std.specs.Prelude.{codes}
 use Rattle.std.proofs.lemmas.List.Elements.{Contains-append_left, Contains-append_right}
 use Rattle.pram_model.specs.Layout.{SharedEntry}
-use Rattle.step_entries.specs.Entries.{Act, Entry}
+use Rattle.journal.specs.Entries.{Act, Entry}
 use Rattle.step_pictures.specs.Bands.{band_front, columns_from, front_of, label, label_line, labels_from, titles, with_front}
 use Rattle.step_pictures.specs.Columns.{act_at, act_drawn, act_drawn_by, acts_drawn, all_met, column, heading, met_at, met_drawn}
 use Rattle.step_pictures.specs.Columns.{missing_text, more_at, more_text}

@@ -8,7 +8,7 @@ use Rattle.std.proofs.lemmas.Bool.{cases_lt}
 use Rattle.std.proofs.lemmas.Bool.Decides.{Decides-int_eq}
 use Rattle.std.proofs.lemmas.Grind.{common_steps}
 use Rattle.std.proofs.lemmas.List.{length-take-le, take_all}
-use Rattle.step_entries.specs.Entries.{Entry}
+use Rattle.journal.specs.Entries.{Entry}
 use Rattle.step_pictures.specs.Drawn.{acting_drawn, inserted, met_of, offered, offered_beside, place_of, rows_of, with_all, with_others}
 use Rattle.step_pictures.proofs.Contained.{all_few, comes, first, further, is_inserted, is_kept, others_few, stays}
 use Rattle.step_pictures.proofs.Ordered.{Ascend, ascends_all, from_inserted, from_offered, none}

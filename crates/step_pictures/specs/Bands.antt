@@ -1,7 +1,7 @@
 -- Bands of columns, one below the other: each begins with the titles of both axes and the names of the rows.
 use Rattle.std.specs.Prelude.{ℕ, ◌+◌, ◌-◌, ◌%◌, nat_eq, if◌then◌else◌, List, [], ◌∷◌, ◌++◌, ℤ, codes, decimal}
 use Rattle.std.specs.Fmt.{signed_decimal}
-use Rattle.step_entries.specs.Entries.{Entry}
+use Rattle.journal.specs.Entries.{Entry}
 use Rattle.step_pictures.specs.Columns.{column}
 use Rattle.step_pictures.specs.Measures.{Frame, column_at, row_top, rows_top}
 

@@ -2,7 +2,7 @@
 use Rattle.std.specs.Prelude.{ℕ, ◌+◌, ◌-◌, nat_eq, nat_lt, if◌then◌else◌, List, [], ◌∷◌, ◌++◌, Option, Some, None, ℤ, length, codes}
 use Rattle.std.specs.Prelude.{decimal}
 use Rattle.pram_model.specs.Layout.{SharedEntry}
-use Rattle.step_entries.specs.Entries.{Act, Entry}
+use Rattle.journal.specs.Entries.{Act, Entry}
 use Rattle.step_pictures.specs.Drawn.{acts_in, met_in, missing, place_of}
 use Rattle.step_pictures.specs.Marks.{box, outline}
 use Rattle.step_pictures.specs.Measures.{Column, Frame, row_top}

@@ -3,7 +3,7 @@ use Rattle.std.specs.Prelude.{ℕ, ◌+◌, ◌-◌, nat_eq, nat_lt, Bool, false
 use Rattle.std.specs.Prelude.{length, take, drop, int_lt}
 use Rattle.std.specs.List.{fold, position_or_len, prefix_len}
 use Rattle.std.specs.Ordering.{int_eq}
-use Rattle.step_entries.specs.Entries.{Act, Entry, Ran, Faulting}
+use Rattle.journal.specs.Entries.{Act, Entry, Ran, Faulting}
 
 -- ---- statements: of more than 112 the first 96 and the last 16
 

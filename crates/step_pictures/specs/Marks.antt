@@ -4,7 +4,7 @@ use Rattle.std.specs.Prelude.{ℕ, ◌+◌, List, [], ◌∷◌, ◌++◌, Optio
 use Rattle.std.specs.Fmt.{signed_decimal}
 use Rattle.pram_model.specs.Layout.{SharedEntry}
 use Rattle.program_texts.specs.Shown.{cell_text}
-use Rattle.step_entries.specs.Entries.{Act}
+use Rattle.journal.specs.Entries.{Act}
 
 -- ---- what a box says where it is pointed at: `processor 3 reads a[1] a[3] writes b[2]`
 

@@ -1,7 +1,7 @@
 -- What a picture is drawn by, and where its columns and rows stand, in pixels.
 use Rattle.std.specs.Prelude.{ℕ, ◌+◌, ◌*◌, ◌/◌, ◌%◌, min, max, List, ℤ, length}
 use Rattle.pram_model.specs.Layout.{SharedEntry}
-use Rattle.step_entries.specs.Entries.{Entry}
+use Rattle.journal.specs.Entries.{Entry}
 use Rattle.step_pictures.specs.Drawn.{first_drawn, last_drawn, rows_of}
 use Rattle.step_pictures.specs.ProgramLines.{longest}
 use Rattle.step_pictures.specs.declared.frame as rust

@@ -4,7 +4,7 @@ use Rattle.std.specs.Fmt.{signed_decimal}
 use Rattle.pram_model.specs.Layout.{SharedEntry}
 use Rattle.write_rules.specs.declared.fault.Fault.{Fault}
 use Rattle.program_texts.specs.Shown.{fault_text}
-use Rattle.step_entries.specs.Entries.{Entry, Ran, Faulting}
+use Rattle.journal.specs.Entries.{Entry, Ran, Faulting}
 use Rattle.step_pictures.specs.declared.frame.Part.{Part}
 use Rattle.step_pictures.specs.Bands.{columns_from}
 use Rattle.step_pictures.specs.Drawn.{first_drawn, last_drawn, last_number}

@@ -5,7 +5,7 @@ use Rattle.std.specs.Char.{is_ascii_whitespace}
 use Rattle.std.specs.List.{prefix_len, suffix_len}
 use Rattle.svg_texts.specs.Letters.{letters}
 use Rattle.text_places.specs.Places.{line_text}
-use Rattle.step_entries.specs.Entries.{Entry, Ran, Faulting}
+use Rattle.journal.specs.Entries.{Entry, Ran, Faulting}
 
 -- ---- the text of a line
 

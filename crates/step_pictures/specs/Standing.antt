@@ -1,7 +1,7 @@
 -- What a reader relies on: which texts stand in a picture.
 use Rattle.std.specs.Prelude.{◌≡◌, ℕ, ◌<◌, List, ◌++◌, length, slice_index_or}
 use Rattle.pram_model.specs.Layout.{SharedEntry}
-use Rattle.step_entries.specs.Entries.{Entry}
+use Rattle.journal.specs.Entries.{Entry}
 use Rattle.step_pictures.specs.declared.frame.Part.{Part}
 use Rattle.step_pictures.specs.Drawn.{Numbered, drawn}
 use Rattle.step_pictures.specs.Measures.{Column, column_at, frame_of, rows_top}

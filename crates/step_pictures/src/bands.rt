@@ -2,7 +2,7 @@
 
 ghost use Rattle.std.specs.Prelude.{◌≡◌, ◌≤◌, ◌<◌, ◌+◌, ◌^◌, length, map};
 ghost use Rattle.text_out.specs.Out.{Writes};
-ghost use Rattle.step_entries.specs.Entries.{entry_is};
+ghost use Rattle.journal.specs.Entries.{entry_is};
 ghost use Rattle.step_pictures.specs.Bands as spec;
 ghost use Rattle.step_pictures.specs.Measures.{column_at, column_is, frame_is};
 
@@ -10,7 +10,7 @@ use crate::columns::write_column;
 use crate::frame::{Column, Frame};
 use crate::measure::{column_left, row_top, rows_top};
 use itoa::Buffer;
-use step_entries::Entry;
+use journal::Entry;
 use text_out::{Out, WriteFault};
 
 // The titles of the axes, and the name of the first row.

@@ -2,7 +2,7 @@
 
 ghost use Rattle.std.specs.Prelude.{◌≡◌, ◌≤◌, ◌+◌, ◌-◌, length, map};
 ghost use Rattle.text_out.specs.Out.{Writes};
-ghost use Rattle.step_entries.specs.Entries.{act_is, entry_is};
+ghost use Rattle.journal.specs.Entries.{act_is, entry_is};
 ghost use Rattle.step_pictures.specs.Columns as spec;
 ghost use Rattle.step_pictures.specs.Measures.{column_is, frame_is};
 
@@ -14,7 +14,7 @@ use crate::program_lines::{code_of, line_of, write_code};
 use crate::rows::{missing, place_of};
 use itoa::Buffer;
 use pram_trees::Layout;
-use step_entries::{Act, Entry};
+use journal::{Act, Entry};
 use text_out::{Out, WriteFault};
 
 // The number of a statement and its line.

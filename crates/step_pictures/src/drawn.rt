@@ -1,11 +1,11 @@
 //! Which statements of a run are drawn.
 
 ghost use Rattle.std.specs.Prelude.{◌≡◌, ◌≤◌, ◌+◌, ◌-◌, length, map, min};
-ghost use Rattle.step_entries.specs.Entries.{act_is, entry_is};
+ghost use Rattle.journal.specs.Entries.{act_is, entry_is};
 ghost use Rattle.step_pictures.specs.Drawn as spec;
 ghost use Rattle.step_pictures.specs.Measures as measures;
 
-use step_entries::{Act, Entry};
+use journal::{Act, Entry};
 
 // No more statements are drawn: of more the first, and the last.
 const MOST_DRAWN: usize = 112;

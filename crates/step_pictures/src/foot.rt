@@ -2,13 +2,13 @@
 
 ghost use Rattle.std.specs.Prelude.{◌≡◌, ◌≤◌, ◌+◌, ◌-◌, map, take};
 ghost use Rattle.text_out.specs.Out.{Writes};
-ghost use Rattle.step_entries.specs.Entries.{entry_is};
+ghost use Rattle.journal.specs.Entries.{entry_is};
 ghost use Rattle.step_pictures.specs.Picture as spec;
 
 use itoa::Buffer;
 use pram_trees::Layout;
 use program_texts::write_fault_text;
-use step_entries::Entry;
+use journal::Entry;
 use text_out::{Out, WriteFault};
 use write_rules::Fault;
 

@@ -2,13 +2,13 @@
 
 ghost use Rattle.std.specs.Prelude.{◌≡◌, ◌≤◌};
 ghost use Rattle.text_out.specs.Out.{Writes};
-ghost use Rattle.step_entries.specs.Entries.{act_is};
+ghost use Rattle.journal.specs.Entries.{act_is};
 ghost use Rattle.step_pictures.specs.Marks as spec;
 
 use itoa::Buffer;
 use pram_trees::Layout;
 use program_texts::write_cell;
-use step_entries::Act;
+use journal::Act;
 use text_out::{Out, WriteFault};
 
 // Which processor it is.

@@ -1,14 +1,14 @@
 //! Where columns and rows stand.
 
 ghost use Rattle.std.specs.Prelude.{◌≡◌, ◌≤◌, ◌<◌, ◌+◌, map};
-ghost use Rattle.step_entries.specs.Entries.{entry_is};
+ghost use Rattle.journal.specs.Entries.{entry_is};
 ghost use Rattle.step_pictures.specs.Measures as spec;
 ghost use Rattle.step_pictures.specs.Measures.{frame_is};
 
 use crate::drawn::{first_drawn, last_drawn};
 use crate::frame::Frame;
 use crate::program_lines::longest;
-use step_entries::Entry;
+use journal::Entry;
 
 // So many columns stand in a band.
 const BAND: usize = 16;

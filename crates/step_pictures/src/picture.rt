@@ -2,7 +2,7 @@
 
 ghost use Rattle.std.specs.Prelude.{◌≡◌, ◌≤◌, drop, map, take};
 ghost use Rattle.text_out.specs.Out.{Writes};
-ghost use Rattle.step_entries.specs.Entries.{entry_is};
+ghost use Rattle.journal.specs.Entries.{entry_is};
 ghost use Rattle.step_pictures.specs.Measures.{frame_is};
 ghost use Rattle.step_pictures.specs.Measures as measures;
 ghost use Rattle.step_pictures.specs.Picture as spec;
@@ -15,7 +15,7 @@ use crate::head::{write_head, write_opening};
 use crate::measure::{bands_end, bands_of, letters_of, picture_height, picture_width};
 use crate::rows::rows_of;
 use pram_trees::Layout;
-use step_entries::Entry;
+use journal::Entry;
 use text_out::{Out, WriteFault};
 
 // The opening of a picture of so many statements.

@@ -3,7 +3,7 @@
 ghost use Rattle.std.specs.Prelude.{◌≡◌, ◌≤◌, ◌<◌, ◌+◌, ◌-◌, ◌++◌, ◌∷◌, ◌⊎◌, ℕ, List, None, Some, [], ℤ, int_lt, true, length};
 ghost use Rattle.std.specs.List.{AllPairs, Contains};
 ghost use Rattle.pram_model.specs.Layout.{SharedEntry};
-ghost use Rattle.step_entries.specs.Entries.{Act, Entry};
+ghost use Rattle.journal.specs.Entries.{Act, Entry};
 ghost use Rattle.step_pictures.specs.Bands.{label, label_line};
 ghost use Rattle.step_pictures.specs.Columns.{column, more_at};
 ghost use Rattle.step_pictures.specs.declared.frame.Part.{Part};

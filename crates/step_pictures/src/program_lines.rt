@@ -2,11 +2,11 @@
 
 ghost use Rattle.std.specs.Prelude.{◌≡◌, ◌≤◌, ◌+◌, length, map};
 ghost use Rattle.text_out.specs.Out.{Writes};
-ghost use Rattle.step_entries.specs.Entries.{entry_is};
+ghost use Rattle.journal.specs.Entries.{entry_is};
 ghost use Rattle.step_pictures.specs.ProgramLines as spec;
 
 use itoa::Buffer;
-use step_entries::Entry;
+use journal::Entry;
 use svg_texts::write_letters;
 use text_out::{Out, WriteFault};
 use text_places::line_text;

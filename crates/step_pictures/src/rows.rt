@@ -2,12 +2,12 @@
 
 ghost use Rattle.std.specs.Prelude.{◌≡◌, ◌≤◌, ◌+◌, ◌-◌, [], length, map, slice_index_or};
 ghost use Rattle.std.specs.Ordering.{int_eq};
-ghost use Rattle.step_entries.specs.Entries.{act_is, entry_is};
+ghost use Rattle.journal.specs.Entries.{act_is, entry_is};
 ghost use Rattle.step_pictures.specs.Drawn as spec;
 
 use crate::drawn::{acts_in, first_drawn, last_drawn, met_of};
 use arrayvec::ArrayVec;
-use step_entries::{Act, Entry};
+use journal::{Act, Entry};
 
 // No more indices have a row.
 const MOST_ROWS: usize = 64;

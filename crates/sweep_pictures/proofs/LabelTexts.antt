@@ -1,7 +1,7 @@
 -- Labels from one on.
 use Rattle.std.proofs.Common.{◌≡◌, ◌∙◌, ℕ, ◌+◌, ◌<◌, List, ◌++◌, Option, ap, drop, get_or, length, sym}
-use Rattle.sweep_texts.proofs.Items.{at_item}
-use Rattle.sweep_texts.specs.declared.size_row.SizeRow.{SizeRow}
+use Rattle.sweeps.proofs.Items.{at_item}
+use Rattle.sweeps.specs.declared.size_row.SizeRow.{SizeRow}
 use Rattle.sweep_pictures.specs.declared.frame.Frame.{Frame}
 use Rattle.sweep_pictures.specs.declared.labels.Kind.{Kind}
 use Rattle.sweep_pictures.specs.declared.labels.Label.{Label}

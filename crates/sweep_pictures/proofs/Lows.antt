@@ -1,6 +1,6 @@
 -- The place of the least size.
 use Rattle.std.proofs.Common.{◌≤◌, List, [], ◌∷◌, arith}
-use Rattle.sweep_texts.specs.declared.size_row.SizeRow.{SizeRow}
+use Rattle.sweeps.specs.declared.size_row.SizeRow.{SizeRow}
 use Rattle.sweep_pictures.specs.Places.{low_place}
 
 pub low_is_small : (rows : List SizeRow) → low_place rows ≤ 65536

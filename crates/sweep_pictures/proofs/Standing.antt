@@ -1,8 +1,8 @@
 -- Texts that stand within others, and the mark of each row in a picture.
 use Rattle.std.proofs.Common.{◌≡◌, ◌∙◌, ℕ, zero, suc, ◌<◌, List, [], ◌∷◌, ◌++◌, ap, append_assoc, arith, get_or, length, refl, subst, sym}
 use Rattle.std.specs.List.{Contains}
-use Rattle.sweep_texts.specs.declared.measure.Measure.TheVariants.{Time, Work}
-use Rattle.sweep_texts.specs.declared.size_row.SizeRow.{SizeRow}
+use Rattle.sweeps.specs.declared.measure.Measure.TheVariants.{Time, Work}
+use Rattle.sweeps.specs.declared.size_row.SizeRow.{SizeRow}
 use Rattle.sweep_pictures.specs.declared.frame.Frame.{Frame}
 use Rattle.sweep_pictures.specs.Marks.{line_text, mark, marks, row_shape}
 use Rattle.sweep_pictures.specs.Picture.{StandsIn, all_labels, cut_text, frame_of, ground, opening, panel, picture}

@@ -1,8 +1,8 @@
 -- The marks of a panel, and the line through its circles.
 use Rattle.std.specs.Prelude.{ℕ, ◌-◌, List, [], ◌∷◌, ◌++◌, codes, decimal}
-use Rattle.sweep_texts.specs.declared.size_row.Ending.{Ending}
-use Rattle.sweep_texts.specs.declared.size_row.Ending.TheVariants.{Ended, GoesOn, Faulted, Refused}
-use Rattle.sweep_texts.specs.declared.size_row.SizeRow.{SizeRow}
+use Rattle.sweeps.specs.declared.size_row.Ending.{Ending}
+use Rattle.sweeps.specs.declared.size_row.Ending.TheVariants.{Ended, GoesOn, Faulted, Refused}
+use Rattle.sweeps.specs.declared.size_row.SizeRow.{SizeRow}
 use Rattle.sweep_pictures.specs.declared.frame.Frame.{Frame}
 use Rattle.sweep_pictures.specs.Places.{mark_y, x_of}
 use Rattle.sweep_pictures.specs.Titles.{titled}

@@ -1,9 +1,9 @@
 -- The picture of a sweep, as SVG 1.1: time against the size, and below it work.
 use Rattle.std.specs.Prelude.{◌≡◌, ℕ, zero, suc, ◌+◌, ◌-◌, ◌*◌, ◌/◌, max, nat_le, nat_lt, if◌then◌else◌, List, [], ◌++◌, length, codes}
 use Rattle.std.specs.Prelude.{decimal}
-use Rattle.sweep_texts.specs.declared.measure.Measure.{Measure}
-use Rattle.sweep_texts.specs.declared.measure.Measure.TheVariants.{Time, Work}
-use Rattle.sweep_texts.specs.declared.size_row.SizeRow.{SizeRow}
+use Rattle.sweeps.specs.declared.measure.Measure.{Measure}
+use Rattle.sweeps.specs.declared.measure.Measure.TheVariants.{Time, Work}
+use Rattle.sweeps.specs.declared.size_row.SizeRow.{SizeRow}
 use Rattle.sweep_pictures.specs.declared.frame.Frame.{Frame}
 use Rattle.sweep_pictures.specs.declared.labels.Kind.TheVariants.{Sizes, Numbers}
 use Rattle.sweep_pictures.specs.Labels.{labels}

@@ -1,10 +1,10 @@
 -- Where sizes and numbers stand in a panel, in pixels.
 use Rattle.std.specs.Prelude.{ℕ, zero, suc, ◌+◌, ◌-◌, ◌*◌, ◌/◌, ◌^◌, min, max, nat_eq, nat_le, nat_lt, if◌then◌else◌, List, [], ◌∷◌, take}
-use Rattle.sweep_texts.specs.Tables.{number}
-use Rattle.sweep_texts.specs.declared.measure.Measure.{Measure}
-use Rattle.sweep_texts.specs.declared.size_row.Ending.{Ending}
-use Rattle.sweep_texts.specs.declared.size_row.Ending.TheVariants.{Ended, GoesOn, Faulted, Refused}
-use Rattle.sweep_texts.specs.declared.size_row.SizeRow.{SizeRow}
+use Rattle.sweeps.specs.SweptTables.{number}
+use Rattle.sweeps.specs.declared.measure.Measure.{Measure}
+use Rattle.sweeps.specs.declared.size_row.Ending.{Ending}
+use Rattle.sweeps.specs.declared.size_row.Ending.TheVariants.{Ended, GoesOn, Faulted, Refused}
+use Rattle.sweeps.specs.declared.size_row.SizeRow.{SizeRow}
 use Rattle.sweep_pictures.specs.declared.frame.Frame.{Frame}
 
 -- of more rows the first are drawn

@@ -1,13 +1,13 @@
 -- What a mark says where it is pointed at: `n 8 time 17`.
 use Rattle.std.specs.Prelude.{ℕ, List, [], ◌++◌, codes, decimal}
 use Rattle.svg_texts.specs.Letters.{letters}
-use Rattle.sweep_texts.specs.Tables.{number}
-use Rattle.sweep_texts.specs.declared.measure.Measure.{Measure}
-use Rattle.sweep_texts.specs.declared.measure.Measure.TheVariants.{Time, Work}
-use Rattle.sweep_texts.specs.declared.size_row.Counts.{Counts}
-use Rattle.sweep_texts.specs.declared.size_row.Ending.{Ending}
-use Rattle.sweep_texts.specs.declared.size_row.Ending.TheVariants.{Ended, GoesOn, Faulted, Refused}
-use Rattle.sweep_texts.specs.declared.size_row.SizeRow.{SizeRow}
+use Rattle.sweeps.specs.SweptTables.{number}
+use Rattle.sweeps.specs.declared.measure.Measure.{Measure}
+use Rattle.sweeps.specs.declared.measure.Measure.TheVariants.{Time, Work}
+use Rattle.sweeps.specs.declared.size_row.Counts.{Counts}
+use Rattle.sweeps.specs.declared.size_row.Ending.{Ending}
+use Rattle.sweeps.specs.declared.size_row.Ending.TheVariants.{Ended, GoesOn, Faulted, Refused}
+use Rattle.sweeps.specs.declared.size_row.SizeRow.{SizeRow}
 
 abbrev pub word : Measure → List ℕ
 word Time = codes " time "

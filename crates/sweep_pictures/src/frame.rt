@@ -1,6 +1,6 @@
 //! What a panel is drawn by.
 
-use sweep_texts::Measure;
+use sweeps::Measure;
 
 /// What a panel tells, the most of it, the places of the least and the greatest size on the doubling scale, and where its axis stands.
 #[derive(Clone, Copy)]

@@ -7,7 +7,7 @@ ghost use Rattle.sweep_pictures.specs.Labels as spec;
 use crate::frame::Frame;
 use crate::measure::{number_of, x_of, y_of};
 use itoa::Buffer;
-use sweep_texts::{Ending, SizeRow};
+use sweeps::{Ending, SizeRow};
 use text_out::{Out, WriteFault};
 
 /// What labels tell: sizes below the axis, or numbers above their marks.

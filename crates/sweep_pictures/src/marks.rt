@@ -7,7 +7,7 @@ ghost use Rattle.sweep_pictures.specs.Marks as spec;
 use crate::frame::Frame;
 use crate::shapes::write_row_shape;
 use crate::titles::write_titled;
-use sweep_texts::SizeRow;
+use sweeps::SizeRow;
 use text_out::{Out, WriteFault};
 
 fn write_mark<W: Out>(

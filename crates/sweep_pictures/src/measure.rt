@@ -5,7 +5,7 @@ ghost use Rattle.sweep_pictures.specs.Picture as picture;
 ghost use Rattle.sweep_pictures.specs.Places as spec;
 
 use crate::frame::Frame;
-use sweep_texts::{Ending, Measure, SizeRow};
+use sweeps::{Ending, Measure, SizeRow};
 
 // No more rows are drawn.
 const MOST_ROWS: usize = 64;

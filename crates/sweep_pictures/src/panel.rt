@@ -11,7 +11,7 @@ use crate::marks::write_marks;
 use crate::measure::{top, y_of};
 use itoa::Buffer;
 use svg_texts::write_letters;
-use sweep_texts::{Measure, SizeRow};
+use sweeps::{Measure, SizeRow};
 use text_out::{Out, WriteFault};
 
 fn heading(measure: Measure) -> &'static [u8]

@@ -7,7 +7,7 @@ ghost use Rattle.sweep_pictures.specs.Picture as spec;
 use crate::measure::{drawn, frame_of};
 use crate::panel::write_panel;
 use itoa::Buffer;
-use sweep_texts::{Measure, SizeRow};
+use sweeps::{Measure, SizeRow};
 use text_out::{Out, WriteFault};
 
 fn write_opening<W: Out>(out: &mut W) -> Result<(), WriteFault>

@@ -2,9 +2,9 @@
 
 ghost use Rattle.std.specs.Prelude.{ℕ, List};
 ghost use Rattle.std.specs.List.{Contains};
-ghost use Rattle.sweep_texts.specs.declared.measure.Measure.{Measure};
-ghost use Rattle.sweep_texts.specs.declared.measure.Measure.TheVariants.{Time, Work};
-ghost use Rattle.sweep_texts.specs.declared.size_row.SizeRow.{SizeRow};
+ghost use Rattle.sweeps.specs.declared.measure.Measure.{Measure};
+ghost use Rattle.sweeps.specs.declared.measure.Measure.TheVariants.{Time, Work};
+ghost use Rattle.sweeps.specs.declared.size_row.SizeRow.{SizeRow};
 ghost use Rattle.sweep_pictures.specs.Picture.{StandsIn, picture};
 ghost use Rattle.sweep_pictures.specs.Places.{drawn};
 ghost use Rattle.sweep_pictures.specs.Titles.{titled};

@@ -7,7 +7,7 @@ ghost use Rattle.sweep_pictures.specs.Marks as spec;
 use crate::frame::Frame;
 use crate::measure::{mark_y, x_of};
 use itoa::Buffer;
-use sweep_texts::{Ending, SizeRow};
+use sweeps::{Ending, SizeRow};
 use text_out::{Out, WriteFault};
 
 // Full where a run ended, hollow where it goes on.

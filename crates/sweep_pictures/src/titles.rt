@@ -6,7 +6,7 @@ ghost use Rattle.sweep_pictures.specs.Titles as spec;
 
 use itoa::Buffer;
 use svg_texts::write_letters;
-use sweep_texts::{Counts, Ending, Measure, SizeRow};
+use sweeps::{Counts, Ending, Measure, SizeRow};
 use text_out::{Out, WriteFault};
 
 fn word(measure: Measure) -> &'static [u8]

@@ -1,6 +1,6 @@
 //! What seeds draw, worked out by a program in Python, and words of intervals.
 
-use drawn_inputs::{Drawing, draw, read_interval};
+use scopes::{Drawing, draw, read_interval};
 use std::alloc::AllocError;
 
 // Seeds, intervals, and the first numbers.

@@ -6,7 +6,7 @@ use pram_trees::Layout;
 use pram_values::{Kind, Place};
 use std::alloc::{AllocError, Global};
 use std::test::Fail;
-use step_entries::{Act, Change, Entry};
+use journal::{Act, Change, Entry};
 use text_out::Buffer;
 use write_rules::Fault;
 

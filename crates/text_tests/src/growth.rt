@@ -1,6 +1,6 @@
 //! Which formulas are found, and their text, by examples.
 
-use growth_formulas::{Formula, Growth, Row, fit, write_growth};
+use sweeps::{Formula, Growth, Row, fit, write_growth};
 use std::alloc::Global;
 use std::process::Abort;
 use std::test::Fail;

@@ -3,7 +3,7 @@
 use std::alloc::Global;
 use std::test::Fail;
 use sweep_pictures::write_sweep_picture;
-use sweep_texts::{Counts, Ending, SizeRow};
+use sweeps::{Counts, Ending, SizeRow};
 use text_out::{Buffer, WriteFault};
 
 fn counts(time: u32, work: u64) -> Counts {

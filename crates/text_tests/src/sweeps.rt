@@ -2,7 +2,7 @@
 
 use std::alloc::{AllocError, Global};
 use std::test::Fail;
-use sweep_texts::{Counts, Ending, SizeRow, growths_of, write_sweep, write_sweep_csv};
+use sweeps::{Counts, Ending, SizeRow, growths_of, write_sweep, write_sweep_csv};
 use text_out::{Buffer, WriteFault};
 
 const EIGHT: Counts = Counts {

@@ -3,7 +3,7 @@
 use std::alloc::Global;
 use std::test::Fail;
 use text_out::Buffer;
-use word_faults::{Given, write_word_fault, wrong_option};
+use command_requests::{Given, write_word_fault, wrong_option};
 
 // The words of a call, which stand there with spaces between them.
 fn words_of(alloc: Global, call: &str) -> Result<Vec<String>, Fail> {

@@ -5,7 +5,7 @@ use Rattle.command_facts.specs.Found.{IsOpening}
 use Rattle.command_facts.specs.Refused.{IsUnknownIn, StopsAtOpening}
 use Rattle.command_facts.proofs.Refusals.{stops_at_code_run}
 use Rattle.command_facts.proofs.Same.{opening_held, opening_stops}
-use Rattle.command_sizes.proofs.Sizes.{hands_on}
+use Rattle.command_requests.proofs.Sizes.{hands_on}
 use Rattle.command_facts.proofs.finding.find_code_run.Goals as goal
 
 pub returns-in_err-check_names-clause-refused : goal.returns-in_err-check_names-clause-refused

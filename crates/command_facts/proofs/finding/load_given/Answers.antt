@@ -1,7 +1,7 @@
 use Rattle.std.proofs.Common.{inr}
 use Rattle.command_facts.proofs.Programs.{program_in}
 use Rattle.command_facts.proofs.Same.{opening_held, stops_behind}
-use Rattle.command_sizes.proofs.Sizes.{hands_on}
+use Rattle.command_requests.proofs.Sizes.{hands_on}
 use Rattle.command_facts.proofs.finding.load_given.Goals as goal
 
 pub returns-in_err-input-clause-refused : goal.returns-in_err-input-clause-refused

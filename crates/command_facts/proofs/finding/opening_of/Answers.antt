@@ -2,7 +2,7 @@ use Rattle.std.proofs.Common.{List, inl, inr, subst}
 use Rattle.pram_model.specs.Layout.{SharedEntry}
 use Rattle.pram_trees.specs.Program.{ProgramTree}
 use Rattle.command_facts.specs.Refused.{IsForeignTo, IsUnknownIn}
-use Rattle.command_sizes.proofs.Sizes.{hands_on}
+use Rattle.command_requests.proofs.Sizes.{hands_on}
 use Rattle.command_facts.proofs.finding.opening_of.Goals as goal
 
 pub returns-in_err-check_names-clause-refused : goal.returns-in_err-check_names-clause-refused

@@ -1,5 +1,5 @@
 use Rattle.std.proofs.Common.{List, ℕ, subst}
-use Rattle.command_sizes.proofs.Sizes.{hands_on}
+use Rattle.command_requests.proofs.Sizes.{hands_on}
 use Rattle.superstep_listing.specs.Text.{longest}
 use Rattle.command_facts.specs.Held.{IsOfCodeIn}
 use Rattle.command_facts.specs.Listings.{IsOfListing}

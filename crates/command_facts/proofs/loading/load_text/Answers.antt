@@ -1,7 +1,7 @@
 use Rattle.std.proofs.Common.{List, subst}
 use Rattle.command_requests.specs.declared.request.SizeWord.{SizeWord}
-use Rattle.command_sizes.specs.Given.{IsOfSizes}
-use Rattle.command_sizes.proofs.Sizes.{hands_on}
+use Rattle.command_requests.specs.Given.{IsOfSizes}
+use Rattle.command_requests.proofs.Sizes.{hands_on}
 use Rattle.command_facts.proofs.Texts.{stops_at_text, stops_with, text_held, unread_text}
 use Rattle.command_facts.proofs.loading.load_text.Goals as goal
 

@@ -1,5 +1,5 @@
 use Rattle.pram_tokens.specs.Scanning.{longest}
-use Rattle.command_sizes.proofs.Sizes.{hands_on}
+use Rattle.command_requests.proofs.Sizes.{hands_on}
 use Rattle.command_facts.specs.Held.{IsOfInput}
 use Rattle.command_facts.proofs.Files.{unread_file}
 use Rattle.command_facts.proofs.opening.load_input.Goals as goal

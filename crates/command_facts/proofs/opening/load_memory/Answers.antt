@@ -1,5 +1,5 @@
 use Rattle.std.proofs.Common.{List, ℕ, subst}
-use Rattle.command_sizes.proofs.Sizes.{hands_on}
+use Rattle.command_requests.proofs.Sizes.{hands_on}
 use Rattle.memory_texts.specs.Memory.{IsRefused}
 use Rattle.command_facts.proofs.Files.{memory_stops, unread_memory}
 use Rattle.command_facts.proofs.opening.load_memory.Goals as goal

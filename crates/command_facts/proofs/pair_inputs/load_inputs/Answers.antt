@@ -4,7 +4,7 @@ use Rattle.command_facts.specs.Held.{StopsAtInput}
 use Rattle.command_facts.specs.Pairs.{IsInputOfFile}
 use Rattle.command_facts.proofs.PairInputs.{any_at, input_held, input_stops, next_input}
 use Rattle.command_facts.proofs.Same.{same_through}
-use Rattle.command_sizes.proofs.Sizes.{hands_on}
+use Rattle.command_requests.proofs.Sizes.{hands_on}
 use Rattle.command_facts.proofs.pair_inputs.load_inputs.Goals as goal
 
 pub returns-in_err-input-clause-refused : goal.returns-in_err-input-clause-refused

@@ -1,7 +1,7 @@
 use Rattle.std.proofs.Common.{map, take}
 use Rattle.std.specs.List.{AllZip}
 use Rattle.system_files.specs.Files.{IsSame}
-use Rattle.comparisons.specs.Found.{values_of}
+use Rattle.comparing.specs.Found.{values_of}
 use Rattle.command_facts.specs.Pairs.{IsInputOfFile}
 use Rattle.command_facts.proofs.pair_inputs.load_inputs.Given as goal
 

@@ -1,6 +1,6 @@
 use Rattle.std.proofs.Common.{refl, subst, sym}
 use Rattle.std.specs.Prelude.{IfOk}
-use Rattle.small_scopes.specs.Scopes.{inputs_of}
+use Rattle.scopes.specs.Scopes.{inputs_of}
 use Rattle.command_requests.specs.declared.input_words.InputWords.{InputWords}
 use Rattle.diagnoses.proofs.Remarked.{if_ok}
 use Rattle.command_facts.specs.Pairs.{IsFoundOn}

@@ -2,7 +2,7 @@ use Rattle.std.proofs.Common.{List, inl, inr, subst}
 use Rattle.pram_model.specs.Layout.{SharedEntry}
 use Rattle.diagnoses.proofs.Remarked.{if_ok}
 use Rattle.command_facts.specs.Pairs.{IsCompared, IsUncommonIn}
-use Rattle.command_sizes.proofs.Sizes.{hands_on}
+use Rattle.command_requests.proofs.Sizes.{hands_on}
 use Rattle.command_facts.proofs.pairing.compare_pair.Goals as goal
 
 pub returns-in_err-compared-clause-refused : goal.returns-in_err-compared-clause-refused

@@ -5,7 +5,7 @@ use Rattle.command_facts.specs.Pairs.{IsCompared}
 use Rattle.command_facts.proofs.PairInputs.{pair_refused, words_held}
 use Rattle.command_facts.proofs.Programs.{of_text}
 use Rattle.command_facts.proofs.Same.{same_through, text_held}
-use Rattle.command_sizes.proofs.Sizes.{hands_on}
+use Rattle.command_requests.proofs.Sizes.{hands_on}
 use Rattle.command_facts.proofs.pairing.find_pair.Goals as goal
 
 pub compare_pair-requires : goal.compare_pair-requires

@@ -1,7 +1,7 @@
 use Rattle.std.proofs.Common.{◌≡◌, ap, refl, subst}
 use Rattle.std.specs.Prelude.{ℕ, Err}
-use Rattle.comparisons.specs.Found.{drawn_inputs}
-use Rattle.comparisons.specs.declared.refusal.ComparisonRefusal.{ComparisonRefusal}
+use Rattle.comparing.specs.Found.{drawn_inputs}
+use Rattle.comparing.specs.declared.refusal.ComparisonRefusal.{ComparisonRefusal}
 use Rattle.command_facts.specs.Pairs.{IsFoundBy, IsTooLong}
 use Rattle.command_facts.proofs.Fitting.{none_told}
 use Rattle.command_facts.proofs.pairing.on_drawn.Goals as goal

@@ -1,7 +1,7 @@
 use Rattle.std.proofs.Common.{◌≡◌, ◌∙◌, Global, List, Vec, ap, map, refl, subst, sym, ℤ}
 use Rattle.std.specs.Prelude.{ℕ, Err, Some}
-use Rattle.comparisons.specs.Found.{longest, too_long, values_of}
-use Rattle.comparisons.specs.declared.refusal.ComparisonRefusal.{ComparisonRefusal}
+use Rattle.comparing.specs.Found.{longest, too_long, values_of}
+use Rattle.comparing.specs.declared.refusal.ComparisonRefusal.{ComparisonRefusal}
 use Rattle.command_facts.specs.Pairs.{IsFoundBy}
 use Rattle.command_facts.proofs.Fitting.{none_told}
 use Rattle.command_facts.proofs.pairing.on_files.Goals as goal

@@ -1,6 +1,6 @@
 use Rattle.std.proofs.Common.{ap, refl}
 use Rattle.std.specs.Prelude.{Err}
-use Rattle.comparisons.specs.declared.refusal.ComparisonRefusal.{ComparisonRefusal}
+use Rattle.comparing.specs.declared.refusal.ComparisonRefusal.{ComparisonRefusal}
 use Rattle.command_facts.proofs.Fitting.{none_told}
 use Rattle.command_facts.proofs.pairing.on_scope.Goals as goal
 

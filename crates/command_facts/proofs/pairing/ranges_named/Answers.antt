@@ -4,8 +4,8 @@ use Rattle.std.proofs.lemmas.Iterator.Splits.{YieldsList-from_str_split}
 use Rattle.std.proofs.lemmas.List.{append-nil, at_drop_all, length_push}
 use Rattle.std.proofs.Common.{drop}
 use Rattle.std.specs.List.{filter_map}
-use Rattle.comparisons.specs.Common.{common_named}
-use Rattle.comparisons.specs.declared.compared.CommonRange.{CommonRange}
+use Rattle.comparing.specs.Common.{common_named}
+use Rattle.comparing.specs.declared.compared.CommonRange.{CommonRange}
 use Rattle.memory_texts.specs.Chosen.{parts}
 use Rattle.command_facts.proofs.PairParts.{kept_more}
 use Rattle.command_facts.proofs.pairing.ranges_named.Goals as goal

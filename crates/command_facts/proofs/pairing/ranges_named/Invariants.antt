@@ -1,6 +1,6 @@
 use Rattle.std.proofs.Common.{◌≡◌, ◌++◌, drop, length}
 use Rattle.std.specs.List.{filter_map}
-use Rattle.comparisons.specs.Common.{common_named}
+use Rattle.comparing.specs.Common.{common_named}
 use Rattle.memory_texts.specs.Chosen.{parts}
 use Rattle.command_facts.proofs.pairing.ranges_named.Given as goal
 

@@ -1,8 +1,8 @@
 use Rattle.std.proofs.Common.{◌≡◌, ◌∙◌, List, false, inr, subst, sym}
 use Rattle.std.specs.List.{list_any}
-use Rattle.sweep_texts.specs.declared.size_row.SizeRow.{SizeRow}
+use Rattle.sweeps.specs.declared.size_row.SizeRow.{SizeRow}
 use Rattle.command_facts.specs.Sweeps.{is_run}
-use Rattle.command_sizes.proofs.Sizes.{hands_on}
+use Rattle.command_requests.proofs.Sizes.{hands_on}
 use Rattle.command_facts.proofs.Same.{refusal_held}
 use Rattle.command_facts.proofs.sweeping.checked_rows.Goals as goal
 

@@ -1,5 +1,5 @@
 use Rattle.std.proofs.Common.{inl}
-use Rattle.command_sizes.proofs.Sizes.{hands_on}
+use Rattle.command_requests.proofs.Sizes.{hands_on}
 use Rattle.command_facts.proofs.sweeping.filled_name.Goals as goal
 
 pub returns-in_err-sizes-clause-unfilled : goal.returns-in_err-sizes-clause-unfilled

@@ -5,7 +5,7 @@ use Rattle.program_texts.specs.declared.stop.Stop.{Stop}
 use Rattle.sized_texts.specs.Filling.{filled}
 use Rattle.command_requests.specs.declared.opening.Opening.TheVariants.{Input}
 use Rattle.command_requests.specs.declared.request.SizeWord.{SizeWord}
-use Rattle.command_sizes.specs.Given.{AreSizesOf}
+use Rattle.command_requests.specs.Given.{AreSizesOf}
 use Rattle.command_facts.specs.Sweeps.{IsUnfilled}
 use Rattle.command_facts.proofs.SweptRows.{comes_by, has_no_input, no_input, words_at}
 use Rattle.command_facts.proofs.sweeping.with_input.Goals as goal

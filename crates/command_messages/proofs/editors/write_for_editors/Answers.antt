@@ -1,5 +1,5 @@
 use Rattle.std.proofs.Common.{inl, inr, refl}
-use Rattle.refusal_messages.specs.Messages.{message_is}
+use Rattle.help.specs.Messages.{message_is}
 use Rattle.command_messages.specs.Editors.{editor_text, unsaid_text}
 use Rattle.command_messages.proofs.editors.write_for_editors.Goals as goal
 

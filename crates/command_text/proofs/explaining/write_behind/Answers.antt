@@ -1,7 +1,7 @@
 use Rattle.std.proofs.Common.{map, refl, subst, sym}
 use Rattle.std.specs.String.{string_bytes}
 use Rattle.program_texts.specs.declared.stop.Stop.{Stop}
-use Rattle.word_faults.specs.Sentences.{word_fault}
+use Rattle.command_requests.specs.Sentences.{word_fault}
 use Rattle.command_text.specs.Explained.{IsSaidBehind, IsWrongOf}
 use Rattle.command_text.proofs.Reporting.{said_else}
 use Rattle.command_text.proofs.explaining.write_behind.Goals as goal

@@ -1,6 +1,6 @@
 use Rattle.std.proofs.Common.{List, ℤ, ◌∙◌, ap, length}
-use Rattle.step_journal.specs.Between.{between}
-use Rattle.step_journal.specs.Entries.{run_entries}
+use Rattle.journal.specs.Between.{between}
+use Rattle.journal.specs.RunEntries.{run_entries}
 use Rattle.command_text.proofs.StepsWritten.{outcome_by}
 use Rattle.command_text.proofs.stepping.excerpt_of.Goals as goal
 

@@ -1,6 +1,6 @@
 use Rattle.std.proofs.Common.{List, ℕ, subst, sym}
 use Rattle.text_out.specs.Out.{Writes}
-use Rattle.sweep_texts.specs.declared.size_row.SizeRow.{SizeRow}
+use Rattle.sweeps.specs.declared.size_row.SizeRow.{SizeRow}
 use Rattle.sweep_pictures.specs.Picture.{picture}
 use Rattle.command_requests.specs.declared.form.Form.{Form}
 use Rattle.command_text.specs.Texts.{swept_text}

@@ -1,9 +1,9 @@
 use Rattle.std.proofs.Common.{List, ap, refl, subst}
 use Rattle.text_out.specs.Out.{Writes}
 use Rattle.write_rules.specs.Verdict.{verdict_of}
-use Rattle.work_time.specs.declared.line_cost.LineCost.{LineCost}
+use Rattle.costs.specs.declared.line_cost.LineCost.{LineCost}
 use Rattle.text_out.proofs.Progress.{breaks_off, closes, goes_on, starts}
-use Rattle.cost_texts.specs.CostText.{cost_text, lines_text}
+use Rattle.costs.specs.CostText.{cost_text, lines_text}
 use Rattle.command_text.specs.Costs.{if_asked}
 use Rattle.command_text.proofs.writing.write_numbers.Goals as goal
 

@@ -1,5 +1,5 @@
 use Rattle.std.proofs.Common.{◌∙◌, ap, map}
-use Rattle.scope_names.specs.InScope.{known_is}
+use Rattle.help.specs.InScope.{known_is}
 use Rattle.diagnoses.proofs.Fitted.{by_cut, no_cut}
 use Rattle.diagnoses.proofs.Remarked.{if_ok}
 use Rattle.diagnoses.proofs.fitting.fitting_names.Goals as goal

@@ -1,5 +1,5 @@
 use Rattle.std.proofs.Common.{◌≡◌, ◌+◌, ◌++◌, drop, map}
-use Rattle.syntax_hints.specs.Hints.{before}
+use Rattle.help.specs.Hints.{before}
 use Rattle.diagnoses.proofs.fitting.fronts.Given as goal
 
 -- the rest of the blocks is still to come

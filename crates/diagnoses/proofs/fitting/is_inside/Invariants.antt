@@ -1,5 +1,5 @@
 use Rattle.std.proofs.Common.{◌≡◌, drop, map}
-use Rattle.scope_names.specs.InScope.{known_is}
+use Rattle.help.specs.InScope.{known_is}
 use Rattle.diagnoses.specs.Fitting.{is_inside}
 use Rattle.diagnoses.proofs.fitting.is_inside.Given as goal
 

@@ -1,6 +1,6 @@
 use Rattle.std.proofs.Common.{◌≡◌, ◌++◌, drop, map}
 use Rattle.std.specs.List.{filter}
-use Rattle.scope_names.specs.InScope.{known_is}
+use Rattle.help.specs.InScope.{known_is}
 use Rattle.diagnoses.specs.Fitting.{fits_by}
 use Rattle.diagnoses.proofs.fitting.keep.Given as goal
 

@@ -1,5 +1,5 @@
 use Rattle.std.proofs.Common.{subst}
-use Rattle.syntax_hints.specs.Hints.{IsHint}
+use Rattle.help.specs.Hints.{IsHint}
 use Rattle.diagnoses.specs.Remarks.{Expects}
 use Rattle.diagnoses.proofs.remark.hinted.Goals as goal
 

@@ -1,5 +1,5 @@
 use Rattle.std.proofs.Common.{◌∙◌, ap, map}
-use Rattle.scope_names.specs.InScope.{known_is}
+use Rattle.help.specs.InScope.{known_is}
 use Rattle.diagnoses.proofs.Remarked.{if_ok, of_unknown}
 use Rattle.diagnoses.proofs.remark.remark_at.Goals as goal
 

@@ -1,5 +1,5 @@
 use Rattle.std.proofs.Common.{inl, inr, refl}
-use Rattle.refusal_messages.specs.Messages.{message_is}
+use Rattle.help.specs.Messages.{message_is}
 use Rattle.diagnoses.specs.Stops.{text_about, unsaid}
 use Rattle.diagnoses.proofs.stops.write_stop_diagnosis.Goals as goal
 

@@ -1,5 +1,5 @@
 use Rattle.std.proofs.Common.{◌≡◌, map, take}
-use Rattle.token_choices.specs.ChoiceTexts.{choice_text}
+use Rattle.help.specs.ChoiceTexts.{choice_text}
 use Rattle.diagnoses.proofs.syntax_messages.choice_texts.Given as goal
 
 abbrev pub invariant-loop-choice : goal.invariant-loop-choice

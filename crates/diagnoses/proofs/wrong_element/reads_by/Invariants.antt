@@ -1,5 +1,5 @@
 use Rattle.std.proofs.Common.{◌≡◌, drop, map}
-use Rattle.step_entries.specs.Entries.{act_is}
+use Rattle.journal.specs.Entries.{act_is}
 use Rattle.diagnoses.specs.WrongElements.{reads_by}
 use Rattle.diagnoses.proofs.wrong_element.reads_by.Given as goal
 

@@ -1,5 +1,5 @@
 use Rattle.std.proofs.Common.{◌≡◌, ◌++◌, drop, map}
-use Rattle.step_entries.specs.Entries.{act_is}
+use Rattle.journal.specs.Entries.{act_is}
 use Rattle.flow_pictures.specs.Drawing.{written_by}
 use Rattle.flow_pictures.specs.Values.{value_at}
 use Rattle.flow_pictures.proofs.column.written_by.Given as goal

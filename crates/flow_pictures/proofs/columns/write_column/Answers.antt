@@ -1,6 +1,6 @@
 use Rattle.std.proofs.Common.{◌++◌, refl}
 use Rattle.text_out.proofs.Progress.{breaks_off, closes, goes_on, starts}
-use Rattle.step_entries.specs.Entries.{entry_is}
+use Rattle.journal.specs.Entries.{entry_is}
 use Rattle.flow_pictures.specs.Columns.{column_fault, heading}
 use Rattle.flow_pictures.specs.Drawing.{column_is}
 use Rattle.flow_pictures.specs.Texts.{marks_text}

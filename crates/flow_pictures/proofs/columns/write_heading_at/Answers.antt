@@ -1,6 +1,6 @@
 use Rattle.std.proofs.Common.{refl}
 use Rattle.text_out.proofs.Progress.{breaks_off, closes, goes_on, starts}
-use Rattle.step_entries.specs.Entries.{entry_is}
+use Rattle.journal.specs.Entries.{entry_is}
 use Rattle.flow_pictures.specs.Columns.{line_source, place_text}
 use Rattle.flow_pictures.proofs.columns.write_heading_at.Goals as goal
 

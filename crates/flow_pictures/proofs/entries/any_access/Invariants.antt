@@ -1,6 +1,6 @@
 use Rattle.std.proofs.Common.{◌≡◌, drop, map}
 use Rattle.std.specs.List.{list_any}
-use Rattle.step_entries.specs.Entries.{act_is}
+use Rattle.journal.specs.Entries.{act_is}
 use Rattle.flow_pictures.specs.Choice.{is_access}
 use Rattle.flow_pictures.proofs.entries.any_access.Given as goal
 

@@ -1,6 +1,6 @@
 use Rattle.std.proofs.Common.{◌≡◌, ◌+◌, ◌-◌, ◌≤◌, Some, drop, length, map}
 use Rattle.std.specs.List.{position_or_len}
-use Rattle.step_entries.specs.Entries.{Act, act_is}
+use Rattle.journal.specs.Entries.{Act, act_is}
 use Rattle.flow_pictures.specs.Marks.{is_written}
 use Rattle.flow_pictures.proofs.links.first_writer.Given as goal
 

@@ -1,7 +1,7 @@
 use Rattle.std.proofs.Common.{◌++◌, map, refl}
 use Rattle.text_out.proofs.Progress.{breaks_off, closes, goes_on, starts}
 use Rattle.std.specs.List.{flat_map}
-use Rattle.step_entries.specs.Entries.{act_is}
+use Rattle.journal.specs.Entries.{act_is}
 use Rattle.flow_pictures.specs.Marks.{arrows, nodes, readings, value_in}
 use Rattle.flow_pictures.specs.Texts.{arrow_text, node_text, reading_text}
 use Rattle.flow_pictures.proofs.marks.write_acts.Goals as goal

@@ -3,7 +3,7 @@ use Rattle.std.proofs.lemmas.List.{get_or_default}
 use Rattle.text_out.proofs.Writing.{writes_stopped}
 use Rattle.text_out.proofs.Progress.{goes_on, stops}
 use Rattle.flow_pictures.proofs.Kept.{all_kept_at}
-use Rattle.step_entries.specs.Entries.{act_is}
+use Rattle.journal.specs.Entries.{act_is}
 use Rattle.flow_pictures.specs.Marks.{arrows_to, writes}
 use Rattle.flow_pictures.specs.Texts.{arrow_text}
 use Rattle.flow_pictures.proofs.marks.write_arrows.Goals as goal

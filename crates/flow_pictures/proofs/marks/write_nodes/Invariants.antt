@@ -1,7 +1,7 @@
 use Rattle.std.proofs.Common.{drop, map}
 use Rattle.text_out.proofs.Progress.{Progress}
 use Rattle.std.specs.List.{filter, flat_map}
-use Rattle.step_entries.specs.Entries.{act_is}
+use Rattle.journal.specs.Entries.{act_is}
 use Rattle.flow_pictures.specs.Marks.{node, value_in, writes}
 use Rattle.flow_pictures.specs.Texts.{node_text}
 use Rattle.flow_pictures.proofs.marks.write_nodes.Given as goal

@@ -4,7 +4,7 @@ use Rattle.text_out.proofs.Writing.{writes_stopped}
 use Rattle.text_out.proofs.Progress.{goes_on, stops}
 use Rattle.flow_pictures.proofs.Kept.{kept_at}
 use Rattle.std.specs.Prelude.{None}
-use Rattle.step_entries.specs.Entries.{act_is}
+use Rattle.journal.specs.Entries.{act_is}
 use Rattle.flow_pictures.specs.Marks.{carries, reading}
 use Rattle.flow_pictures.specs.Texts.{reading_text}
 use Rattle.flow_pictures.proofs.marks.write_readings.Goals as goal

@@ -2,7 +2,7 @@ use Rattle.std.proofs.Common.{drop, map}
 use Rattle.text_out.proofs.Progress.{Progress}
 use Rattle.std.specs.List.{filter, flat_map}
 use Rattle.std.specs.Prelude.{None}
-use Rattle.step_entries.specs.Entries.{act_is}
+use Rattle.journal.specs.Entries.{act_is}
 use Rattle.flow_pictures.specs.Marks.{carries, reading}
 use Rattle.flow_pictures.specs.Texts.{reading_text}
 use Rattle.flow_pictures.proofs.marks.write_readings.Given as goal

@@ -2,7 +2,7 @@ use Rattle.std.proofs.Common.{◌∙◌, FitsSigned, ap, get_or, nat_eq, pos, re
 use Rattle.std.proofs.lemmas.Int.{to_z-of_z}
 use Rattle.std.proofs.lemmas.List.{get_or_default}
 use Rattle.std.specs.Prelude.{if◌then◌else◌}
-use Rattle.step_entries.specs.declared.change.Change.{Change}
+use Rattle.journal.specs.declared.change.Change.{Change}
 use Rattle.flow_pictures.specs.Values.{value_at}
 use Rattle.flow_pictures.proofs.CellValues.{changes_end, changes_go}
 use Rattle.flow_pictures.proofs.values.put_all.Goals as goal

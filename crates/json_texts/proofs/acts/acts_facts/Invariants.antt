@@ -1,6 +1,6 @@
 use Rattle.std.proofs.Common.{◌≡◌, map, take}
 use Rattle.serde_json.specs.View.{view}
-use Rattle.step_entries.specs.Entries.{act_is}
+use Rattle.journal.specs.Entries.{act_is}
 use Rattle.json_texts.specs.ActFacts.{act_facts}
 use Rattle.json_texts.proofs.acts.acts_facts.Given as goal
 

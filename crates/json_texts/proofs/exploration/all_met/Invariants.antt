@@ -1,6 +1,6 @@
 use Rattle.std.proofs.Common.{◌≡◌, map, take}
 use Rattle.serde_json.specs.View.{view}
-use Rattle.explorations.specs.Found.{met_is}
+use Rattle.scopes.specs.Found.{met_is}
 use Rattle.json_texts.specs.ExplorationFacts.{met_facts}
 use Rattle.json_texts.proofs.exploration.all_met.Given as goal
 

@@ -1,6 +1,6 @@
 use Rattle.std.proofs.Common.{subst, sym}
 use Rattle.json_lines.specs.Small.{IsReadable}
-use Rattle.refusal_messages.specs.Messages.{message_is}
+use Rattle.help.specs.Messages.{message_is}
 use Rattle.json_texts.proofs.MessageReadable.{readable_refusal}
 use Rattle.json_texts.proofs.message.json_refusal.Goals as goal
 

@@ -1,8 +1,8 @@
 use Rattle.std.proofs.Common.{List, map}
 use Rattle.json_lines.proofs.Json.{goes_on}
-use Rattle.sweep_texts.proofs.Items.{at_item}
-use Rattle.comparisons.specs.Found.{differing_is}
-use Rattle.comparisons.specs.declared.comparison.FoundDifference.{FoundDifference}
+use Rattle.sweeps.proofs.Items.{at_item}
+use Rattle.comparing.specs.Found.{differing_is}
+use Rattle.comparing.specs.declared.comparison.FoundDifference.{FoundDifference}
 use Rattle.json_texts.specs.PairFacts.{differing_facts}
 use Rattle.json_texts.proofs.pair.differing_text.Goals as goal
 

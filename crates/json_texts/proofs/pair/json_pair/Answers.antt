@@ -2,8 +2,8 @@ use Rattle.std.proofs.Common.{[], ◌∷◌, List, map, subst}
 use Rattle.std.specs.Prelude.{string_bytes}
 use Rattle.json_lines.proofs.Json.{adds_then}
 use Rattle.json_lines.specs.Lines.{IsJson}
-use Rattle.comparisons.specs.Found.{differing_is, found_is}
-use Rattle.comparisons.specs.declared.comparison.FoundDifference.{FoundDifference}
+use Rattle.comparing.specs.Found.{differing_is, found_is}
+use Rattle.comparing.specs.declared.comparison.FoundDifference.{FoundDifference}
 use Rattle.json_texts.specs.PairFacts.{differing_facts, whole_facts}
 use Rattle.json_texts.proofs.pair.json_pair.Goals as goal
 

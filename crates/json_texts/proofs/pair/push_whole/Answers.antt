@@ -1,6 +1,6 @@
 use Rattle.std.proofs.Common.{subst, sym}
 use Rattle.json_lines.specs.Small.{IsReadable}
-use Rattle.comparisons.specs.Found.{found_is}
+use Rattle.comparing.specs.Found.{found_is}
 use Rattle.json_texts.proofs.PairReadable.{readable_whole}
 use Rattle.json_texts.proofs.pair.push_whole.Goals as goal
 

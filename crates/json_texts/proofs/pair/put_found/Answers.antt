@@ -3,8 +3,8 @@ use Rattle.std.proofs.lemmas.Result.{on_ok_weaker}
 use Rattle.json_lines.proofs.Small.{put_then}
 use Rattle.json_lines.specs.Facts.{with_fields}
 use Rattle.json_lines.specs.Shown.{shown}
-use Rattle.comparisons.specs.Found.{differing_is, found_is}
-use Rattle.comparisons.specs.declared.comparison.FoundDifference.{FoundDifference}
+use Rattle.comparing.specs.Found.{differing_is, found_is}
+use Rattle.comparing.specs.declared.comparison.FoundDifference.{FoundDifference}
 use Rattle.json_texts.specs.PairFacts.{first_fields, told_fields}
 use Rattle.json_texts.proofs.pair.put_found.Goals as goal
 

@@ -1,6 +1,6 @@
 use Rattle.std.proofs.Common.{◌≡◌, map, take}
 use Rattle.serde_json.specs.View.{view}
-use Rattle.rule_comparison.specs.Compared.{rules}
+use Rattle.comparing.specs.Compared.{rules}
 use Rattle.json_texts.specs.RuleFacts.{rule_facts}
 use Rattle.json_texts.proofs.rules.findings.Given as goal
 

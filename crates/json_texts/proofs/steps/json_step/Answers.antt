@@ -1,6 +1,6 @@
 use Rattle.std.proofs.Common.{subst, sym}
 use Rattle.json_lines.specs.Small.{IsReadable}
-use Rattle.step_entries.specs.Entries.{entry_is}
+use Rattle.journal.specs.Entries.{entry_is}
 use Rattle.json_texts.proofs.Readable.{readable_step}
 use Rattle.json_texts.proofs.steps.json_step.Goals as goal
 

@@ -1,6 +1,6 @@
 use Rattle.std.proofs.Common.{◌∷◌, [], map}
 use Rattle.json_lines.proofs.Json.{adds_then}
-use Rattle.step_entries.specs.Entries.{entry_is}
+use Rattle.journal.specs.Entries.{entry_is}
 use Rattle.write_rules.specs.Verdict.{verdict_of}
 use Rattle.json_texts.specs.OutcomeFacts.{outcome_facts}
 use Rattle.json_texts.specs.StepFacts.{steps_from}

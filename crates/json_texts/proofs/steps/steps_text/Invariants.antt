@@ -1,6 +1,6 @@
 use Rattle.std.proofs.Common.{◌≡◌, ◌+◌, drop, map, string_bytes}
 use Rattle.json_lines.proofs.Json.{SoFar}
-use Rattle.step_entries.specs.Entries.{entry_is}
+use Rattle.journal.specs.Entries.{entry_is}
 use Rattle.json_texts.specs.StepFacts.{steps_from}
 use Rattle.json_texts.proofs.steps.steps_text.Given as goal
 

@@ -1,7 +1,7 @@
 use Rattle.std.proofs.Common.{List, map}
 use Rattle.json_lines.proofs.Json.{goes_on}
-use Rattle.sweep_texts.proofs.Items.{at_item}
-use Rattle.sweep_texts.specs.declared.size_row.SizeRow.{SizeRow}
+use Rattle.sweeps.proofs.Items.{at_item}
+use Rattle.sweeps.specs.declared.size_row.SizeRow.{SizeRow}
 use Rattle.json_texts.specs.SweepFacts.{row_facts}
 use Rattle.json_texts.proofs.sweep.rows_text.Goals as goal
 

@@ -1,5 +1,5 @@
 use Rattle.std.proofs.Common.{map}
-use Rattle.step_entries.specs.Entries.{entry_is}
+use Rattle.journal.specs.Entries.{entry_is}
 use Rattle.step_pictures.specs.Bands.{columns_from}
 use Rattle.step_pictures.specs.Measures.{frame_is}
 use Rattle.step_pictures.proofs.ColumnTexts.{InColumns}

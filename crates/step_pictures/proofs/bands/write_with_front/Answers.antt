@@ -1,6 +1,6 @@
 use Rattle.std.proofs.Common.{◌++◌, ap, refl, sym}
 use Rattle.text_out.proofs.Progress.{breaks_off, closes, goes_on, starts}
-use Rattle.step_entries.specs.Entries.{entry_is}
+use Rattle.journal.specs.Entries.{entry_is}
 use Rattle.step_pictures.specs.Bands.{front_of}
 use Rattle.step_pictures.specs.Columns.{column}
 use Rattle.step_pictures.specs.Measures.{column_at, column_is, frame_is}

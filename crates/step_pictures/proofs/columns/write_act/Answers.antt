@@ -1,7 +1,7 @@
 use Rattle.std.proofs.Common.{ℕ, List, ◌∙◌, ap, rules, subst, sym, w64, FitsSigned}
 use Rattle.std.proofs.lemmas.Int.{to_z-of_z}
 use Rattle.text_out.specs.Out.{Writes}
-use Rattle.step_entries.specs.Entries.{act_is}
+use Rattle.journal.specs.Entries.{act_is}
 use Rattle.step_pictures.specs.Columns.{act_at, act_drawn_by}
 use Rattle.step_pictures.specs.Drawn.{place_of}
 use Rattle.step_pictures.specs.Measures.{column_is}

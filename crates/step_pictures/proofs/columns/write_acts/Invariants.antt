@@ -1,6 +1,6 @@
 use Rattle.std.proofs.Common.{drop, map}
 use Rattle.text_out.proofs.Progress.{Progress}
-use Rattle.step_entries.specs.Entries.{act_is}
+use Rattle.journal.specs.Entries.{act_is}
 use Rattle.step_pictures.specs.Columns.{acts_drawn}
 use Rattle.step_pictures.specs.Measures.{column_is}
 use Rattle.step_pictures.proofs.columns.write_acts.Given as goal

@@ -1,6 +1,6 @@
 use Rattle.std.proofs.Common.{◌≡◌, ◌++◌, ap, map, sym}
 use Rattle.text_out.proofs.Progress.{breaks_off, closes, goes_on, starts}
-use Rattle.step_entries.specs.Entries.{act_is, entry_is}
+use Rattle.journal.specs.Entries.{act_is, entry_is}
 use Rattle.step_pictures.specs.Columns.{heading, processors}
 use Rattle.step_pictures.specs.Drawn.{acts_in, met_in}
 use Rattle.step_pictures.specs.Measures.{column_is}

@@ -1,6 +1,6 @@
 use Rattle.std.proofs.Common.{◌++◌, map, refl}
 use Rattle.text_out.proofs.Progress.{breaks_off, closes, goes_on, starts}
-use Rattle.step_entries.specs.Entries.{act_is}
+use Rattle.journal.specs.Entries.{act_is}
 use Rattle.step_pictures.specs.Columns.{all_met, missing_text}
 use Rattle.step_pictures.specs.Measures.{column_is}
 use Rattle.step_pictures.proofs.columns.write_processors.Goals as goal

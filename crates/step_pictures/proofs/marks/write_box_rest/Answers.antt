@@ -1,6 +1,6 @@
 use Rattle.std.proofs.Common.{refl}
 use Rattle.text_out.proofs.Progress.{breaks_off, closes, goes_on, starts}
-use Rattle.step_entries.specs.Entries.{act_is}
+use Rattle.journal.specs.Entries.{act_is}
 use Rattle.step_pictures.specs.Marks.{marks}
 use Rattle.step_pictures.proofs.marks.write_box_rest.Goals as goal
 

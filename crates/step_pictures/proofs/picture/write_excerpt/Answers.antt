@@ -1,6 +1,6 @@
 use Rattle.std.proofs.Common.{List, ap, map, subst, ℕ}
 use Rattle.text_out.specs.Out.{Writes}
-use Rattle.step_entries.specs.Entries.{entry_is}
+use Rattle.journal.specs.Entries.{entry_is}
 use Rattle.step_pictures.specs.declared.frame.Part.{Part}
 use Rattle.step_pictures.specs.Picture.{picture}
 use Rattle.step_pictures.proofs.picture.write_excerpt.Goals as goal

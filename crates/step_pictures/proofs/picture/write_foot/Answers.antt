@@ -1,7 +1,7 @@
 use Rattle.std.proofs.Common.{◌++◌, ◌∙◌, ap, codes, map, sym}
 use Rattle.std.proofs.lemmas.List.{length-map}
 use Rattle.text_out.proofs.Progress.{breaks_off, closes, goes_on, starts}
-use Rattle.step_entries.specs.Entries.{entry_is}
+use Rattle.journal.specs.Entries.{entry_is}
 use Rattle.step_pictures.specs.Measures.{frame_is}
 use Rattle.step_pictures.specs.Picture.{ending, foot_line}
 use Rattle.step_pictures.proofs.picture.write_foot.Goals as goal

@@ -1,7 +1,7 @@
 use Rattle.std.proofs.Common.{◌≡◌, ◌++◌, ap, length, map, refl}
 use Rattle.text_out.proofs.Progress.{breaks_off, closes, goes_on, starts}
 use Rattle.std.proofs.lemmas.List.{length-map}
-use Rattle.step_entries.specs.Entries.{entry_is}
+use Rattle.journal.specs.Entries.{entry_is}
 use Rattle.step_pictures.specs.Measures.{frame_is}
 use Rattle.step_pictures.specs.Picture.{foot, head, opening, picture_of, table}
 use Rattle.step_pictures.proofs.picture.write_framed.Goals as goal

@@ -1,6 +1,6 @@
 use Rattle.std.proofs.Common.{ℕ, List, ◌∙◌, map, subst}
 use Rattle.text_out.specs.Out.{Writes}
-use Rattle.step_entries.specs.Entries.{entry_is}
+use Rattle.journal.specs.Entries.{entry_is}
 use Rattle.step_pictures.specs.Picture.{picture_of}
 use Rattle.step_pictures.proofs.picture.write_part.Goals as goal
 

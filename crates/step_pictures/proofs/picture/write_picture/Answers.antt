@@ -1,7 +1,7 @@
 use Rattle.std.proofs.Common.{ℕ, ◌-◌, List, ◌∙◌, ap, drop, map, subst, sym, take}
 use Rattle.std.proofs.lemmas.List.{drop-map, length-map, take-map}
 use Rattle.text_out.specs.Out.{Writes}
-use Rattle.step_entries.specs.Entries.{entry_is}
+use Rattle.journal.specs.Entries.{entry_is}
 use Rattle.step_pictures.specs.Picture.{part_of, picture}
 use Rattle.step_pictures.proofs.picture.write_picture.Goals as goal
 

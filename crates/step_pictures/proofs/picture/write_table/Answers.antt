@@ -1,6 +1,6 @@
 use Rattle.std.proofs.Common.{◌≡◌, ◌++◌, ap, map, sym}
 use Rattle.text_out.proofs.Progress.{breaks_off, closes, goes_on, starts}
-use Rattle.step_entries.specs.Entries.{entry_is}
+use Rattle.journal.specs.Entries.{entry_is}
 use Rattle.step_pictures.specs.Bands.{columns_from}
 use Rattle.step_pictures.specs.Drawn.{first_drawn, last_drawn, last_number}
 use Rattle.step_pictures.specs.Measures.{frame_is}

@@ -1,4 +1,4 @@
-use Rattle.sweep_texts.proofs.Items.{at_item}
+use Rattle.sweeps.proofs.Items.{at_item}
 use Rattle.text_out.proofs.Writing.{writes_stopped}
 use Rattle.text_out.proofs.Progress.{goes_on, stops}
 use Rattle.sweep_pictures.specs.Marks.{marks}

@@ -1,6 +1,6 @@
 use Rattle.std.proofs.Common.{◌++◌, refl}
 use Rattle.std.specs.Prelude.{codes}
-use Rattle.sweep_texts.specs.declared.measure.Measure.TheVariants.{Time, Work}
+use Rattle.sweeps.specs.declared.measure.Measure.TheVariants.{Time, Work}
 use Rattle.sweep_pictures.specs.Picture.{frame_of, panel}
 use Rattle.text_out.proofs.Progress.{breaks_off, closes, goes_on, starts}
 use Rattle.sweep_pictures.proofs.picture.write_panels.Goals as goal

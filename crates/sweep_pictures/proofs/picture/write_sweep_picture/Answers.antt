@@ -1,6 +1,6 @@
 use Rattle.std.proofs.Common.{List, length, subst}
 use Rattle.text_out.specs.Out.{Writes}
-use Rattle.sweep_texts.specs.declared.size_row.SizeRow.{SizeRow}
+use Rattle.sweeps.specs.declared.size_row.SizeRow.{SizeRow}
 use Rattle.sweep_pictures.specs.Picture.{picture_of}
 use Rattle.sweep_pictures.proofs.picture.write_sweep_picture.Goals as goal
 

@@ -1,5 +1,5 @@
 use Rattle.std.proofs.Common.{refl}
-use Rattle.step_entries.specs.Entries.{entry_is}
+use Rattle.journal.specs.Entries.{entry_is}
 use Rattle.flow_pictures.proofs.Taken.{has_passed}
 use Rattle.flow_pictures.proofs.flow.Flow.pass.Goals as goal
 

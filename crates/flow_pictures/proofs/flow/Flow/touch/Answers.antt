@@ -1,5 +1,5 @@
 use Rattle.std.proofs.Common.{◌∙◌, ap, if◌then◌else◌, map, nat_eq, refl}
-use Rattle.step_entries.specs.Entries.{entry_is}
+use Rattle.journal.specs.Entries.{entry_is}
 use Rattle.flow_pictures.specs.Choice.{acts_in}
 use Rattle.flow_pictures.specs.Drawing.{column_is, written_by}
 use Rattle.flow_pictures.specs.Taken.{with_faulted, with_ran}

@@ -1,0 +1,91 @@
+-- What is said of a word of the command line that is wrong.
+use Rattle.std.specs.Prelude.{ℕ, ◌==◌, ◌+◌, ◌/◌, ◌%◌, nat_lt, ◌||◌, List, [], ◌∷◌, ◌++◌, Option, Some, None, codes, if◌then◌else◌}
+use Rattle.pram_model.specs.Names.{same_text}
+use Rattle.command_requests.specs.declared.given.Given.{Given}
+use Rattle.command_requests.specs.declared.given.Given.TheVariants as given
+use Rattle.command_requests.specs.Options.{name}
+
+-- 0 to 9 and a to f
+abbrev pub digit : ℕ → ℕ
+digit n = if nat_lt n 10 then 48 + n else 87 + n
+
+-- a byte in a sentence, which is one line: a control byte as `\n` or `\x1b`
+abbrev pub letter : ℕ → List ℕ
+letter b =
+    if b == 10 then codes "\\n"
+    else if nat_lt b 32 || b == 127 then codes "\\x" ++ (digit (b / 16) ∷ digit (b % 16) ∷ [])
+    else b ∷ []
+
+abbrev pub letters : List ℕ → List ℕ
+letters [] = []
+letters (b ∷ bytes) = letter b ++ letters bytes
+
+-- what an option wants
+abbrev pub wanted : Given → List ℕ
+wanted given.Bound = codes "a number from 0 to 4294967295"
+wanted given.Seconds = codes "a number from 1 to 4294967295"
+wanted given.Workers = codes "a number from 1 to 32"
+wanted given.ToldWorkers = codes "a number from 1 to 4294967295"
+wanted given.Map = codes "identity, or affine:A,B with A odd, and A and B from 0 to 4294967295"
+wanted given.Reserve = codes "ITEMS,EXCHANGES, two numbers from 0 to 4294967295"
+wanted given.Schedule = codes "a number from 1 to 4294967295"
+wanted given.From = codes "a number from 0 to 4294967295"
+wanted given.To = codes "a number from 0 to 4294967295"
+wanted given.Random = codes "LO..HI, as -5..5, two numbers of 64 bits of which LO is at most HI"
+wanted given.Seed = codes "a number from 0 to 4294967295"
+wanted given.Cells = codes "a number from 0 to 1048576"
+wanted given.Values =
+    codes "LO..HI, as 0..4, two numbers of 64 bits of which LO is at most HI, for at most 100000000 inputs"
+wanted given.Permutations = codes "a number from 1 to 10"
+wanted given.Under = codes "erew, crew, common, priority or sum"
+wanted given.Count = codes "a number from 1 to 1000000"
+wanted given.TimeAtMost = codes "a number, or an expression of the sizes of FILE2, as 4*log(n)+10"
+wanted given.WorkAtMost = codes "a number, or an expression of the sizes of FILE2, as 4*log(n)+10"
+wanted given.Size = codes "NAME=VALUE, once for each size that the program declares, VALUE from 0 to 9223372036854775807"
+wanted given.Sweep = codes "NAME=SIZES for a size that the program declares, 1 to 1000 of them, as n=4,8,16 or n=4..64*2 or n=10..50+10"
+wanted given.Format = codes "text or json, or csv with --sweep, or gnu with check"
+wanted given.Show = codes "names of shared declarations of the program, as a,b"
+wanted given.Only = codes "names that the program declares, as a,b: of cells alone with --flow and compare, and with compare of both programs, or output"
+wanted given.Bsp = codes "G,L, two numbers from 0 to 4294967295"
+wanted given.Subject = codes "a refusal, as E6, a fault, as read-conflict, a command, language or options"
+
+abbrev pub wanted_text : Given → List ℕ
+wanted_text g = codes "` for `" ++ (name g ++ (codes "`: it wants " ++ (wanted g ++ codes "\n")))
+
+-- `invalid `x` for `--bound`: it wants a number from 0 to 4294967295`
+abbrev pub value_sentence : Given → (word : List ℕ) → List ℕ
+value_sentence g word = codes "invalid `" ++ (letters word ++ wanted_text g)
+
+-- an option that a command wants, in the place of others; of any other word nothing
+abbrev pub command_sentence : (word : List ℕ) → List ℕ
+command_sentence word =
+    if same_text word (codes "--input") then codes "`compare` wants `--input`, `--cells` with `--values`, `--permutations`, or `--random` with `--count`, and one of these alone\n"
+    else if same_text word (codes "--cells") then codes "`explore` wants `--cells` with `--values`, or `--permutations` in their place; `compare` takes `--cells` with `--random` too\n"
+    else if same_text word (codes "--values") then codes "`--values` goes with `--cells` alone\n"
+    else if same_text word (codes "--count") then codes "`--count` goes with `--random` alone\n"
+    else if same_text word (codes "--permutations") then codes "`--permutations` goes with none of `--cells`, `--values` and `--random`\n"
+    else if same_text word (codes "--listing") then codes "`export` wants a FILE, or `--listing` in its place, which goes without `--size`\n"
+    else []
+
+-- an option that doesn't go with others of the call
+abbrev pub option_sentence : (word : List ℕ) → List ℕ
+option_sentence word =
+    if same_text word (codes "--memory") then codes "`--memory` goes with neither `--input` nor `--random`\n"
+    else if same_text word (codes "--random") then codes "`--random` goes with neither `--input` nor `--memory`, and with `compare` it wants `--count`\n"
+    else if same_text word (codes "--seed") then codes "`--seed` goes with `--random` alone\n"
+    else if same_text word (codes "--quiet") then codes "`--quiet` doesn't go with `--show`\n"
+    else if same_text word (codes "--html") then codes "`--html` goes with neither `--svg` nor another `--format` than text\n"
+    else if same_text word (codes "--svg") then codes "`--svg` goes with no other `--format` than text, and with cost it wants `--sweep`\n"
+    else if same_text word (codes "--flow") then codes "`--flow` goes with neither `--svg` nor `--html` nor another `--format` than text\n"
+    else if same_text word (codes "--outcome") then codes "`--outcome` doesn't go with `--svg`\n"
+    else if same_text word (codes "--bsp") then codes "`--bsp` doesn't go with `--svg`\n"
+    else if same_text word (codes "--schedule") then codes "`--schedule` doesn't go with `--sweep`\n"
+    else if same_text word (codes "--lines") then codes "`--lines` doesn't go with `--sweep`\n"
+    else if same_text word (codes "--seconds") then codes "`--seconds` doesn't go with `--sweep`\n"
+    else if same_text word (codes "--only") then codes "`--only` goes with neither `--svg` nor `--html` nor another `--format` than text\n"
+    else command_sentence word
+
+-- what is said of a word, by the option that doesn't take it, if there is one
+abbrev pub word_fault : Option Given → (word : List ℕ) → List ℕ
+word_fault (Some g) word = value_sentence g word
+word_fault None word = option_sentence word

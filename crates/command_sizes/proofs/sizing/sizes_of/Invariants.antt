@@ -1,7 +1,0 @@
-use Rattle.std.proofs.Common.{take}
-use Rattle.command_sizes.specs.Given.{AreSizesOf}
-use Rattle.command_sizes.proofs.sizing.sizes_of.Given as goal
-
--- the sizes so far are those of the words so far
-abbrev pub invariant-loop-word : goal.invariant-loop-word
-invariant-loop-word l = AreSizesOf (take l.word-index l.words) l.sizes.items

@@ -1,5 +1,0 @@
-use Rattle.communication.proofs.Bounded.{costs_tell_communication, work_bounds_communication}
-use Rattle.communication.proofs.communication_law.work_bounds_communication.Goals as goal
-
-pub returns : goal.returns
-returns c = record { words = work_bounds_communication; told = costs_tell_communication }

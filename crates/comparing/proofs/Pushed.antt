@@ -1,0 +1,76 @@
+-- What is found with one input more.
+use Rattle.std.proofs.Common.{◌≡◌, ◌<◌, ◌≤◌, ℕ, Bool, true, false, nat_lt, cond, Option, Some, None, ℤ, List, [], ◌∷◌, ◌++◌, length, take}
+use Rattle.std.proofs.Common.{ap, sym, inl, inr, ◌∙◌, arith}
+use Rattle.std.proofs.lemmas.Bool.{cases_lt}
+use Rattle.std.proofs.lemmas.Bool.Decides.{nat_tests}
+use Rattle.std.proofs.lemmas.List.{append-nil, length-take-le, length_push, take-append-le}
+use Rattle.std.proofs.lemmas.List.Elements.{filter-append, filter_map-append}
+use Rattle.std.specs.List.{cons_option}
+use Rattle.std.specs.Option.{option_map}
+use Rattle.std.specs.Prelude.{if◌then◌else◌, is_none}
+use Rattle.pram_check.specs.Checked.{Checked}
+use Rattle.comparing.specs.declared.compared.Compared.{Compared}
+use Rattle.comparing.specs.declared.difference.Difference.{Difference}
+use Rattle.comparing.specs.Found.{Differing, added, difference_on, differing, differing_on, found, same, with_more}
+use Rattle.comparing.proofs.Lists.{take_over}
+
+-- ---- one more of those that are told
+
+fitting : (most : ℕ) (ds : List Differing) (d : Differing) → length ds < most → with_more most (take most ds) d ≡ take most (ds ++ d ∷ [])
+fitting most ds d lt =
+    let all : take most ds ≡ ds = take_over ds most (omega (arith, lt)) in
+    let room : nat_lt (length ds) most ≡ true = grind (arith, nat_tests) in
+    let long = length_push ds d in
+    ap (λ (es : List Differing). with_more most es d) all ∙ ap (λ (b : Bool). if b then ds ++ d ∷ [] else ds) room
+    ∙ sym (take_over (ds ++ d ∷ []) most (omega (arith, lt, long)))
+
+no_room : (most many : ℕ) → many ≡ most → nat_lt many most ≡ false
+no_room most many e = grind (arith, nat_tests)
+
+full : (most : ℕ) (ds : List Differing) (d : Differing) → most ≤ length ds → with_more most (take most ds) d ≡ take most (ds ++ d ∷ [])
+full most ds d le =
+    let many : length (take most ds) ≡ most = length-take-le most ds le in
+    ap (λ (b : Bool). if b then take most ds ++ d ∷ [] else take most ds) (no_room most (length (take most ds)) many)
+    ∙ sym (take-append-le most ds (d ∷ []) le)
+
+pub one_more : (most : ℕ) (ds : List Differing) (d : Differing) → with_more most (take most ds) d ≡ take most (ds ++ d ∷ [])
+one_more most ds d = elim (cases_lt (length ds) most) [
+  | inl lt ↦ fitting most ds d lt
+  | inr le ↦ full most ds d le
+]
+
+-- ---- one input more
+
+kept : (p q : Checked) (c : Compared) (n : ℕ) (xs : List (List ℤ)) (x : List ℤ) (o : Option Difference) → difference_on p q c n x ≡ o →
+    same p q c n (xs ++ x ∷ []) ≡ same p q c n xs ++ cond (is_none o) (x ∷ []) []
+kept p q c n xs x o e =
+    filter-append (λ (y : List ℤ). is_none (difference_on p q c n y)) xs (x ∷ [])
+    ∙ ap (λ (v : Option Difference). same p q c n xs ++ cond (is_none v) (x ∷ []) []) e
+
+told : (p q : Checked) (c : Compared) (n : ℕ) (xs : List (List ℤ)) (x : List ℤ) (o : Option Difference) → difference_on p q c n x ≡ o →
+    differing p q c n (xs ++ x ∷ [])
+    ≡ differing p q c n xs ++ cons_option (option_map (λ (d : Difference). record { input = x; difference = d }) o) []
+told p q c n xs x o e =
+    filter_map-append (differing_on p q c n) xs (x ∷ [])
+    ∙ ap (λ (v : Option Difference). differing p q c n xs
+    ++ cons_option (option_map (λ (d : Difference). record { input = x; difference = d }) v) []) e
+
+pub added_is : (p q : Checked) (c : Compared) (n most : ℕ) (xs : List (List ℤ)) (x : List ℤ) (o : Option Difference) →
+    difference_on p q c n x ≡ o → found p q c n most (xs ++ x ∷ []) ≡ added most o x (found p q c n most xs)
+added_is p q c n most xs x None e =
+    let ss = kept p q c n xs x None e in
+    let ds = told p q c n xs x None e ∙ append-nil (differing p q c n xs) in
+    λ i. record {
+      inputs = (length_push xs x) i;
+      same = (ap (λ (ys : List (List ℤ)). length ys) ss ∙ length_push (same p q c n xs) x) i;
+      told = take most (ds i);
+    }
+added_is p q c n most xs x (Some d) e =
+    let ss = kept p q c n xs x (Some d) e ∙ append-nil (same p q c n xs) in
+    let m : Differing = record { input = x; difference = d } in
+    let ds = told p q c n xs x (Some d) e in
+    λ i. record {
+      inputs = (length_push xs x) i;
+      same = length (ss i);
+      told = (ap (take most) ds ∙ sym (one_more most (differing p q c n xs) m)) i;
+    }

@@ -1,0 +1,9 @@
+use Rattle.costs.specs.Cost.{time, work}
+use Rattle.costs.specs.Steps.{run_steps}
+use Rattle.scopes.specs.Found.{verdict_on}
+use Rattle.comparing.proofs.Runs.{as_itself}
+use Rattle.comparing.proofs.comparison_laws.a_program_is_as_itself.Goals as goal
+
+pub returns : goal.returns
+returns c = λ p k n input same no_time no_work.
+    as_itself k (verdict_on p n input) (time (run_steps p input n)) (work (run_steps p input n)) same no_time no_work

@@ -1,0 +1,36 @@
+use Rattle.std.proofs.Common.{◌++◌, codes, refl}
+use Rattle.text_out.proofs.Progress.{breaks_off, closes, goes_on, starts}
+use Rattle.program_texts.specs.Shown.{cell_text}
+use Rattle.comparing.specs.ComparisonText.{values_text}
+use Rattle.comparing.proofs.difference_text.write_unequal_cell.Goals as goal
+
+pub returns-in_err-write_cell : goal.returns-in_err-write_cell
+returns-in_err-write_cell g c =
+    let cell = cell_text c.args.layout.now c.args.cell in
+    let values = values_text c.args.first c.args.second in
+    record {
+      written = breaks_off _ _ _ _ _ cell (codes " is " ++ values)
+          c.from_residual.result _ c.from_residual.ensures.1 (starts _ _) refl c.in_err-write_cell.ensures.written;
+    }
+
+pub returns-in_err-write_all : goal.returns-in_err-write_all
+returns-in_err-write_all g c =
+    let cell = cell_text c.args.layout.now c.args.cell in
+    let values = values_text c.args.first c.args.second in
+    let after_1 = goes_on _ _ _ _ _ cell (codes " is " ++ values) (starts _ _) refl
+    c.in_ok-write_cell.ensures.written in
+    record {
+      written = breaks_off _ _ _ _ _ (codes " is ") values
+          c.from_residual-in_err-write_all.result _ c.from_residual-in_err-write_all.ensures.1 after_1 refl
+          c.in_err-write_all.ensures.written;
+    }
+
+pub returns : goal.returns
+returns g c =
+    let cell = cell_text c.args.layout.now c.args.cell in
+    let values = values_text c.args.first c.args.second in
+    let after_1 = goes_on _ _ _ _ _ cell (codes " is " ++ values) (starts _ _) refl
+    c.in_ok-write_cell.ensures.written in
+    let after_2 = goes_on _ _ _ _ _ (codes " is ") values after_1 refl
+    c.in_ok-write_all.ensures.written in
+    record { written = closes _ _ _ _ _ c.write_values.result after_2 c.write_values.ensures.written }

@@ -1,0 +1,83 @@
+-- What two programs both declare: the declarations of one name with the same bounds, and their cells.
+use Rattle.std.specs.Prelude.{◌≡◌, ℕ, ◌+◌, ℤ, Bool, true, false, ◌&&◌, List, [], ◌∷◌, ◌++◌, Option, Some, None, map, if◌then◌else◌}
+use Rattle.std.specs.List.{filter_map, find}
+use Rattle.std.specs.Option.{option_map}
+use Rattle.std.specs.Ordering.{int_eq}
+use Rattle.pram_model.specs.Layout.{SharedEntry, size, total_size}
+use Rattle.pram_model.specs.Names.{same_text}
+use Rattle.comparing.specs.declared.compared.CommonRange.{CommonRange}
+
+-- ---- one declaration
+
+abbrev pub same_bounds : Option (ℤ × ℤ) → Option (ℤ × ℤ) → Bool
+same_bounds None None = true
+same_bounds None (Some b) = false
+same_bounds (Some a) None = false
+same_bounds (Some (low, high)) (Some (from, to)) = int_eq low from && int_eq high to
+
+-- of one name, with the same bounds
+abbrev pub same_entry : SharedEntry → SharedEntry → Bool
+same_entry e f = same_text e.name f.name && same_bounds e.bounds f.bounds
+
+-- a declaration, and the number of its first cell
+pub record Placed : Type 0 where
+  pub entry : SharedEntry
+  pub start : ℕ
+
+-- those of a program in order, where the cells are numbered on from a number
+abbrev pub placed : ℕ → List SharedEntry → List Placed
+placed start [] = []
+placed start (e ∷ es) = record { entry = e; start = start } ∷ placed (start + size e.bounds) es
+
+-- ---- what both declare
+
+-- a declaration, and its cells in both
+pub record Shared : Type 0 where
+  pub entry : SharedEntry
+  pub range : CommonRange
+
+abbrev pub range_of : Shared → CommonRange
+range_of s = s.range
+
+abbrev pub both : Placed → Placed → Shared
+both p q = record { entry = p.entry; range = record { first_start = p.start; second_start = q.start; length = size p.entry.bounds } }
+
+-- the same among the declarations of another program
+abbrev pub shared_with : List SharedEntry → Placed → Option Shared
+shared_with second p = option_map (both p) (find (λ q. same_entry p.entry q.entry) (placed 0 second))
+
+-- the declarations that both have, in the order of the first
+abbrev pub shared : (first second : List SharedEntry) → List Shared
+shared first second = filter_map (shared_with second) (placed 0 first)
+
+abbrev pub common : (first second : List SharedEntry) → List CommonRange
+common first second = map range_of (shared first second)
+
+-- that of a name
+abbrev pub is_named : List ℕ → Shared → Bool
+is_named name s = same_text s.entry.name name
+
+abbrev pub common_named : (first second : List SharedEntry) → List ℕ → Option CommonRange
+common_named first second name = option_map range_of (find (is_named name) (shared first second))
+
+-- ---- where both begin
+
+-- the declarations with which both begin: the longest beginning that they have in common
+abbrev pub front : (first second : List SharedEntry) → List SharedEntry
+front [] second = []
+front (e ∷ es) [] = []
+front (e ∷ es) (f ∷ fs) = if same_entry e f then e ∷ front es fs else []
+
+-- the cells of these, which have the same numbers in both
+abbrev pub front_cells : (first second : List SharedEntry) → ℕ
+front_cells first second = total_size (front first second)
+
+abbrev pub IsBeginning : (before all : List SharedEntry) → Type 0
+IsBeginning before all = (behind : List SharedEntry) × (all ≡ before ++ behind)
+
+-- ---- where a declaration stands
+
+-- a program has it, with its cells from that number on
+abbrev pub StandsAt : List SharedEntry → SharedEntry → (start : ℕ) → Type 0
+StandsAt l e start =
+    (before : List SharedEntry) × (behind : List SharedEntry) × (l ≡ before ++ e ∷ behind) × (start ≡ total_size before)

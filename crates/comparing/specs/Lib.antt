@@ -1,0 +1,13 @@
+pub mod Common
+pub mod Differences
+pub mod Ends
+pub mod Found
+pub mod Told
+pub mod Unequal
+pub mod ComparisonText
+pub mod RulesFound
+pub mod Compared
+pub mod FirstEnd
+pub mod RulesText
+pub mod Judged
+pub mod RulesTold

@@ -1,0 +1,238 @@
+//! The runs of two programs on the same inputs.
+
+ghost use Rattle.std.specs.Prelude.{◌≡◌, ◌≢◌, ◌↔◌, ◌+◌, ◌<◌, ◌^◌, [], ◌∷◌, ◌++◌, IfOk, OnOk, Some, length, map, List, ℤ};
+ghost use Rattle.scopes.specs.Scopes.{inputs_of};
+ghost use Rattle.comparing.specs.Found.{difference_on, drawn_inputs, found, found_is, values_of};
+ghost use Rattle.comparing.specs.Found as spec;
+ghost use Rattle.comparing.specs.declared.refusal.Side as rust;
+
+use crate::compared::Compared;
+use crate::comparison::Comparison;
+use crate::difference::Difference;
+use crate::most::most_told;
+use crate::outcomes::first_difference;
+use crate::refusal::{ComparisonRefusal, longest, too_long};
+use scopes::{Drawing, Scope, draw, first_input};
+use pram_check::Program;
+use pram_meaning::reference_run;
+use std::alloc::Global;
+use costs::time_and_work;
+
+// What differs first on an input that is not too long for either program.
+fn difference(
+    alloc: Global,
+    first: &Program,
+    second: &Program,
+    compared: &Compared,
+    input: &[i64],
+    bound: u32,
+) -> Result<Option<Difference>, ComparisonRefusal>
+    ensures difference { IfOk result (λ d. d ≡ difference_on first.now second.now compared.now bound input.now) }
+    ensures memory { (side : rust.Side) → result ≢ Err (ComparisonRefusal.InputTooLong side) }
+{
+    let Ok(outcome) = reference_run(alloc, first, input, bound) else {
+        return Err(ComparisonRefusal::OutOfMemory);
+    };
+    let Ok((other, counted)) = time_and_work(alloc, second, input, bound) else {
+        return Err(ComparisonRefusal::OutOfMemory);
+    };
+    let time = u64::from(counted.time);
+    Ok(first_difference(compared, &outcome, &other, time, counted.work))
+}
+
+/// Runs two programs on an input, each for at most `bound` statements, and says what differs first, or that they come to the same.
+/// E11 where the input has more values than one of them has cells; E16 only where memory was refused.
+pub fn compare_two(
+    alloc: Global,
+    first: &Program,
+    second: &Program,
+    compared: &Compared,
+    input: &[i64],
+    bound: u32,
+) -> Result<Option<Difference>, ComparisonRefusal>
+    // It tells what differs first between the two runs: how they come out, an output item, a common cell, time or work
+    // above a limit; nothing where they agree.
+    ensures difference { IfOk result (λ d. d ≡ difference_on first.now second.now compared.now bound input.now) }
+    // The input is refused exactly where a program has fewer cells than it has values, the first program before the
+    // second.
+    ensures too_long { (side : rust.Side) → (result ≡ Err (ComparisonRefusal.InputTooLong side))
+        ↔ (spec.too_long first.now second.now (length input.now) ≡ Some side) }
+{
+    match too_long(first, second, input.len()) {
+        Some(side) => Err(ComparisonRefusal::InputTooLong(side)),
+        None => difference(alloc, first, second, compared, input, bound),
+    }
+}
+
+// Runs both programs on one input more.
+fn try_input(
+    alloc: Global,
+    first: &Program,
+    second: &Program,
+    compared: &Compared,
+    input: &[i64],
+    bound: u32,
+    most: usize,
+    comparison: &mut Comparison,
+) -> Result<(), ComparisonRefusal>
+    requires room { comparison.old.inputs + 1 < 2 ^ 64 }
+    ensures found { OnOk result ((before : List (List ℤ)) →
+        found_is comparison.old ≡ found first.now second.now compared.now bound most before →
+        found_is comparison.new ≡ found first.now second.now compared.now bound most (before ++ input.now ∷ [])) }
+    ensures memory { (side : rust.Side) → result ≢ Err (ComparisonRefusal.InputTooLong side) }
+{
+    let difference = difference(alloc, first, second, compared, input, bound)?;
+    match comparison.add(alloc, most, difference, input) {
+        Ok(()) => Ok(()),
+        Err(_) => Err(ComparisonRefusal::OutOfMemory),
+    }
+}
+
+/// Runs two programs on each input of a scope, each run for at most `bound` statements, and says what is found over just these inputs
+/// in their order: on how many the programs come to the same, and the first on which they don't, as many as [`most_told`] says. E11 where
+/// an input has more values than one of the programs has cells; E16 only where memory was refused.
+pub fn compare_scope(
+    alloc: Global,
+    first: &Program,
+    second: &Program,
+    compared: &Compared,
+    scope: Scope,
+    bound: u32,
+) -> Result<Comparison, ComparisonRefusal>
+    requires few { length (inputs_of scope) < 2 ^ 64 }
+    // Over just the scope's inputs it tells on how many the programs come to the same, and the first on which they
+    // don't, as many as may be told.
+    ensures found { IfOk result (λ r. found_is r ≡ found first.now second.now compared.now bound (spec.most_told scope.count)
+        (inputs_of scope)) }
+    // The inputs are refused exactly where a program has fewer cells than they have values, the first program before
+    // the second.
+    ensures too_long { (side : rust.Side) → (result ≡ Err (ComparisonRefusal.InputTooLong side))
+        ↔ (spec.too_long first.now second.now scope.count ≡ Some side) }
+{
+    if let Some(side) = too_long(first, second, scope.count as usize) {
+        return Err(ComparisonRefusal::InputTooLong(side));
+    }
+    let Ok(mut inputs) = first_input(alloc, scope) else {
+        return Err(ComparisonRefusal::OutOfMemory);
+    };
+    let most = most_told(scope.count as usize);
+    let mut comparison = Comparison::new(alloc);
+    'trying: while !inputs.is_over() {
+        let input = inputs.values();
+        try_input(
+            alloc,
+            first,
+            second,
+            compared,
+            input,
+            bound,
+            most,
+            &mut comparison,
+        )?;
+        inputs.advance();
+    }
+    Ok(comparison)
+}
+
+/// The same on each of these inputs. E11 where any of them has more values than one of the programs has cells.
+pub fn compare_inputs(
+    alloc: Global,
+    first: &Program,
+    second: &Program,
+    compared: &Compared,
+    inputs: &[Vec<i64>],
+    bound: u32,
+) -> Result<Comparison, ComparisonRefusal>
+    // Over just these inputs it tells on how many the programs come to the same, and the first on which they don't, as
+    // many as may be told.
+    ensures found { IfOk result (λ r. found_is r ≡ found first.now second.now compared.now bound
+        (spec.most_told (spec.longest (map values_of inputs.now))) (map values_of inputs.now)) }
+    // They are refused exactly where a program has fewer cells than the longest has values, the first program before
+    // the second.
+    ensures too_long { (side : rust.Side) → (result ≡ Err (ComparisonRefusal.InputTooLong side))
+        ↔ (spec.too_long first.now second.now (spec.longest (map values_of inputs.now)) ≡ Some side) }
+{
+    let values = longest(inputs);
+    if let Some(side) = too_long(first, second, values) {
+        return Err(ComparisonRefusal::InputTooLong(side));
+    }
+    let most = most_told(values);
+    let mut comparison = Comparison::new(alloc);
+    for input in inputs {
+        try_input(
+            alloc,
+            first,
+            second,
+            compared,
+            input,
+            bound,
+            most,
+            &mut comparison,
+        )?;
+    }
+    Ok(comparison)
+}
+
+// The input that a seed draws.
+fn draw_input(
+    alloc: Global,
+    drawing: Drawing,
+    turn: u32,
+    cells: u32,
+) -> Result<Vec<i64>, ComparisonRefusal>
+    requires seeds { drawing.seed + turn < 2 ^ 64 }
+    ensures drawn { IfOk result (λ input. input.items ≡ spec.drawn_by drawing.low drawing.high cells (drawing.seed + turn)) }
+    ensures memory { (side : rust.Side) → result ≢ Err (ComparisonRefusal.InputTooLong side) }
+{
+    let drawing = Drawing {
+        low: drawing.low,
+        high: drawing.high,
+        seed: drawing.seed + u64::from(turn),
+    };
+    match draw(alloc, drawing, cells) {
+        Ok(input) => Ok(input),
+        Err(_) => Err(ComparisonRefusal::OutOfMemory),
+    }
+}
+
+/// The same on inputs that are drawn, each of `cells` values: what the seed of the drawing draws, what the next seed draws, and so on, as
+/// many as `count`. E11 where one of the programs has fewer cells.
+pub fn compare_drawn(
+    alloc: Global,
+    first: &Program,
+    second: &Program,
+    compared: &Compared,
+    drawing: Drawing,
+    cells: u32,
+    count: u32,
+    bound: u32,
+) -> Result<Comparison, ComparisonRefusal>
+    requires seeds { drawing.seed + count < 2 ^ 64 }
+    // Over just the inputs that these seeds draw it tells on how many the programs come to the same, and the first on
+    // which they don't, as many as allowed.
+    ensures found { IfOk result (λ r. found_is r ≡ found first.now second.now compared.now bound
+        (spec.most_told cells) (drawn_inputs drawing.low drawing.high drawing.seed cells count)) }
+    // They are refused exactly where a program has fewer cells than are drawn, the first program before the second.
+    ensures too_long { (side : rust.Side) → (result ≡ Err (ComparisonRefusal.InputTooLong side))
+        ↔ (spec.too_long first.now second.now cells ≡ Some side) }
+{
+    if let Some(side) = too_long(first, second, cells as usize) {
+        return Err(ComparisonRefusal::InputTooLong(side));
+    }
+    let most = most_told(cells as usize);
+    let mut comparison = Comparison::new(alloc);
+    for turn in 0..count {
+        let input = draw_input(alloc, drawing, turn, cells)?;
+        try_input(
+            alloc,
+            first,
+            second,
+            compared,
+            &input,
+            bound,
+            most,
+            &mut comparison,
+        )?;
+    }
+    Ok(comparison)
+}

@@ -1,0 +1,39 @@
+//! Two programs beside each other on the same inputs, and one program under each rule.
+#![tactic(auto)]
+
+mod common;
+mod compare;
+mod compared;
+mod comparing;
+mod comparison;
+pub mod comparison_laws;
+mod comparison_text;
+mod difference;
+mod difference_text;
+mod ends;
+mod finding;
+mod first_end;
+mod input;
+mod most;
+mod noting;
+mod outcomes;
+mod refusal;
+pub mod rule_laws;
+mod rules;
+mod show;
+mod unequal;
+
+pub use common::{common_ranges, front_cells, named_range};
+pub use compare::compare_rules;
+pub use compared::{CommonRange, Compared, Limits};
+pub use comparing::{compare_drawn, compare_inputs, compare_scope, compare_two};
+pub use comparison::{Comparison, FoundDifference};
+pub use comparison_text::write_comparison;
+pub use difference::{Difference, Ending};
+pub use difference_text::write_difference;
+pub use finding::Finding;
+pub use most::most_told;
+pub use outcomes::first_difference;
+pub use refusal::{ComparisonRefusal, Side, longest};
+pub use rules::UnderRules;
+pub use show::show_comparison;

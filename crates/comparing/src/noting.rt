@@ -1,0 +1,63 @@
+//! How one input more is noted.
+
+ghost use Rattle.std.specs.Prelude.{◌≡◌, ◌+◌, ◌<◌, ◌^◌, OnOk, map};
+ghost use Rattle.comparing.specs.Found.{added, differing_is, found_is, nothing, with_more};
+
+use crate::comparison::{Comparison, FoundDifference};
+use crate::difference::Difference;
+use std::alloc::{AllocError, Global};
+
+// Keeps an input and what differs on it behind earlier ones, where fewer than so many are kept.
+fn keep(
+    alloc: Global,
+    told: &mut Vec<FoundDifference>,
+    most: usize,
+    difference: Difference,
+    input: &[i64],
+) -> Result<(), AllocError>
+    ensures { OnOk result (map differing_is told.new.items
+        ≡ with_more most (map differing_is told.old.items) (record { input = input.now; difference = difference })) }
+{
+    if told.len() >= most {
+        return Ok(());
+    }
+    let mut copy = Vec::new(alloc);
+    copy.extend_from_slice(input)?;
+    told.push(FoundDifference {
+        input: copy,
+        difference,
+    })?;
+    Ok(())
+}
+
+impl Comparison {
+    /// What is found on no input.
+    pub(crate) fn new(alloc: Global) -> Comparison
+        ensures { found_is result ≡ nothing }
+    {
+        Comparison {
+            inputs: 0,
+            same: 0,
+            told: Vec::new(alloc),
+        }
+    }
+
+    /// Notes an input more, and what differs on it, of which at most so many are told.
+    pub(crate) fn add(
+        &mut self,
+        alloc: Global,
+        most: usize,
+        difference: Option<Difference>,
+        input: &[i64],
+    ) -> Result<(), AllocError>
+        requires room { self.old.inputs + 1 < 2 ^ 64 }
+        ensures { OnOk result (found_is self.new ≡ added most difference input.now (found_is self.old)) }
+    {
+        self.inputs += 1;
+        match difference {
+            None => self.same += 1,
+            Some(difference) => keep(alloc, &mut self.told, most, difference, input)?,
+        }
+        Ok(())
+    }
+}

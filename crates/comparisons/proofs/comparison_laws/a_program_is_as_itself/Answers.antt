@@ -1,9 +1,0 @@
-use Rattle.work_time.specs.Cost.{time, work}
-use Rattle.work_time.specs.Steps.{run_steps}
-use Rattle.explorations.specs.Found.{verdict_on}
-use Rattle.comparisons.proofs.Runs.{as_itself}
-use Rattle.comparisons.proofs.comparison_laws.a_program_is_as_itself.Goals as goal
-
-pub returns : goal.returns
-returns c = λ p k n input same no_time no_work.
-    as_itself k (verdict_on p n input) (time (run_steps p input n)) (work (run_steps p input n)) same no_time no_work

@@ -1,0 +1,16 @@
+pub mod Steps
+pub mod MomentEvents
+pub mod Communication
+pub mod Cost
+pub mod Time
+pub mod Totals
+pub mod Spending
+pub mod Accounts
+pub mod Ledgers
+pub mod Heard
+pub mod HeardLaws
+pub mod Counted
+pub mod RowCosts
+pub mod Words
+pub mod Timed
+pub mod CostText

@@ -1,3 +1,0 @@
-pub mod Dots
-pub mod Parts
-pub mod Turns

@@ -1,5 +1,0 @@
-use Rattle.drawn_inputs.proofs.Turns.{fewer_drawn}
-use Rattle.drawn_inputs.proofs.draw_laws.fewer_are_the_first_of_more.Goals as goal
-
-pub returns : goal.returns
-returns c = λ low high seed few more le. fewer_drawn low high seed few more le

@@ -1,5 +1,0 @@
-use Rattle.drawn_inputs.proofs.Turns.{IsDrawnTo}
-use Rattle.drawn_inputs.proofs.numbers.draw.Given as goal
-
-abbrev pub invariant-loop-turn : goal.invariant-loop-turn
-invariant-loop-turn l = IsDrawnTo l.drawing.low l.drawing.high l.drawing.seed l.count l.found.items l.turn l.generator

@@ -1,4 +1,0 @@
-pub mod Firsts
-pub mod Found
-pub mod Merged
-pub mod Told

@@ -1,3 +1,0 @@
-pub mod Causes
-pub mod Faults
-pub mod Answers

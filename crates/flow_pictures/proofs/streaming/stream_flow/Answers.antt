@@ -1,0 +1,24 @@
+use Rattle.std.proofs.Common.{◌≡◌, ◌∙◌, ap, subst}
+use Rattle.text_out.specs.Out.{StopsIn, with_bytes}
+use Rattle.flow_pictures.specs.Drawing.{drawing_is}
+use Rattle.flow_pictures.specs.Picture.{picture}
+use Rattle.flow_pictures.proofs.streaming.stream_flow.Goals as goal
+
+pub returns-in-Ok-write_flow-clause-written : goal.returns-in-Ok-write_flow-clause-written
+returns-in-Ok-write_flow-clause-written g c =
+    let text = c.args.text.now in
+    let only = c.args.only.now in
+    let shows = ap (λ l. picture l text only (drawing_is c.in-Ok.drawing)) c.layout-2.ensures
+    ∙ c.in-Ok.ensures.drawn c.args.program.now.layout text only in
+    subst (λ t. g.W.Out.state c.write_flow.new.out ≡ with_bytes (g.W.Out.state c.args.out.now) t) shows c.in-Ok-write_flow.ensures.written
+
+pub returns-in-Err-clause-written : goal.returns-in-Err-clause-written
+returns-in-Err-clause-written g c =
+    let text = c.args.text.now in
+    let only = c.args.only.now in
+    let shows = ap (λ l. picture l text only (drawing_is c.in-Ok.drawing)) c.layout-2.ensures
+    ∙ c.in-Ok.ensures.drawn c.args.program.now.layout text only in (
+      c.in-Ok.outcome,
+      c.in-Ok.ensures.outcome,
+      subst (λ t. StopsIn (g.W.Out.state c.args.out.now) (g.W.Out.state c.write_flow.new.out) t) shows c.in-Err.ensures.written,
+    )

@@ -1,3 +1,0 @@
-pub mod Takes
-pub mod TakesLaws
-pub mod Streamed

@@ -1,9 +1,0 @@
-use Rattle.std.proofs.Common.{◌≡◌, ◌↔◌, ℕ, ◌<◌, pos}
-use Rattle.growth_formulas.specs.Echelons.{SolveFirst}
-use Rattle.growth_formulas.specs.Equations.{IsBounded, Vector, dot, entry}
-use Rattle.growth_formulas.proofs.echelon.reduced.Given as goal
-
-abbrev pub invariant-loop-i : goal.invariant-loop-i
-invariant-loop-i l =
-    IsBounded l.i l.left × ((k : ℕ) → k < l.i → entry l.left k ≡ pos 0)
-    × ((z : Vector) → SolveFirst l.pivots l.column z → (dot 6 (entry l.equation) z ≡ pos 0) ↔ (dot 6 (entry l.left) z ≡ pos 0))

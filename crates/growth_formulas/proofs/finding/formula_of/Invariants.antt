@@ -1,8 +1,0 @@
-use Rattle.std.proofs.Common.{◌≡◌, ◌≤◌}
-use Rattle.growth_formulas.specs.declared.formula.Formula.{Formula}
-use Rattle.growth_formulas.specs.Formulas.{term_count}
-use Rattle.growth_formulas.specs.Tables.{IsCandidate, term_set}
-use Rattle.growth_formulas.proofs.finding.formula_of.Given as goal
-
-abbrev pub invariant-loop-bits : goal.invariant-loop-bits
-invariant-loop-bits l = (g : Formula) → IsCandidate g l.table → term_count g ≡ l.count → l.bits ≤ term_set g

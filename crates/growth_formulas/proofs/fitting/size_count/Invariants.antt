@@ -1,6 +1,0 @@
-use Rattle.std.proofs.Common.{◌≡◌, ◌+◌, ◌≤◌, drop}
-use Rattle.growth_formulas.specs.Tables.{size_count}
-use Rattle.growth_formulas.proofs.fitting.size_count.Given as goal
-
-abbrev pub invariant-loop-i : goal.invariant-loop-i
-invariant-loop-i l = (l.count + size_count (drop l.i l.table) ≡ size_count l.table) × (l.count ≤ l.i)

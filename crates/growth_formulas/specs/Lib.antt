@@ -1,9 +1,0 @@
-pub mod Formulas
-pub mod Tables
-pub mod GrowthText
-pub mod Naturals
-pub mod Wides
-pub mod Equations
-pub mod Choices
-pub mod Echelons
-pub mod Solutions

@@ -1,0 +1,15 @@
+pub mod StatementLocals
+pub mod StatementNames
+pub mod StatementBound
+pub mod Alike
+pub mod Beginnings
+pub mod Gathering
+pub mod Listing
+pub mod Samples
+pub mod Reaching
+pub mod Inserting
+pub mod Farthest
+pub mod Together
+pub mod OpenBlocks
+pub mod OneHint
+pub mod Single

@@ -1,0 +1,16 @@
+use Rattle.std.proofs.Common.{◌++◌, ap, refl, sym}
+use Rattle.help.specs.ChoiceTexts.{choice_text}
+use Rattle.text_places.proofs.Pieces.{both, stops_in_first}
+use Rattle.help.proofs.writing.write_among.Goals as goal
+
+pub returns-in_err-write_choice : goal.returns-in_err-write_choice
+returns-in_err-write_choice g c = record {
+  written = stops_in_first _ _ _ _ _ c.from_residual.result _ refl c.from_residual.ensures.1 c.in_err-write_choice.ensures.written;
+}
+
+pub returns : goal.returns
+returns g c = record {
+  written =
+      both _ _ _ _ _ _ c.write_all.result (ap (λ t. choice_text c.args.choice ++ t) (sym c.gap.ensures))
+      c.in_ok-write_choice.ensures.written c.write_all.ensures.written;
+}

@@ -1,0 +1,17 @@
+pub mod InScope
+pub mod Locals
+pub mod Nearness
+pub mod Bound
+pub mod Nearest
+pub mod Kinds
+pub mod Choices
+pub mod ChoiceTexts
+pub mod Strays
+pub mod Signs
+pub mod Habits
+pub mod Blocks
+pub mod Missing
+pub mod Hints
+pub mod OpenBlocks
+pub mod Messages
+pub mod GnuLines

@@ -1,0 +1,46 @@
+//! What helps with a text that is refused: names that are near, tokens that could stand there, habits of other languages, and the lines of a message.
+#![tactic(auto)]
+
+mod asking;
+mod blocks;
+mod bound;
+mod choice;
+mod gnu;
+mod habit;
+mod hint;
+mod hint_laws;
+mod hinting;
+mod in_scope;
+mod known;
+mod locals;
+mod message;
+mod message_laws;
+mod missing;
+mod nearest;
+mod nearness;
+pub mod sample_laws;
+mod sign;
+mod stray;
+mod text;
+mod words;
+mod writing;
+
+pub use asking::choices_behind;
+pub use blocks::{Block, open_blocks};
+pub use bound::bound_in;
+pub use choice::{Choice, sample};
+pub use gnu::write_gnu;
+pub use habit::{Habit, habit_text};
+pub use hint::Hint;
+pub use hint_laws::{a_place_has_one_hint, an_open_block_has_no_end};
+pub use hinting::{hint_at, tokens_before};
+pub use in_scope::names_at;
+pub use known::{Known, Sort};
+pub use locals::{local_name, locals_at, variable_name};
+pub use message::{Message, Other, Point};
+pub use message_laws::a_message_is_lines;
+pub use nearest::nearest_name;
+pub use nearness::{find, nearest};
+pub use stray::stray_sentence;
+pub use text::write_message;
+pub use writing::{write_choice, write_choices};

@@ -1,0 +1,55 @@
+//! A run told statement by statement: who reads, writes and changes what, and why it faults.
+#![tactic(auto)]
+
+mod act;
+mod acts;
+mod alone;
+mod cause;
+pub mod cause_laws;
+mod cells;
+mod change;
+mod differences;
+mod effects;
+mod entry;
+mod excerpt;
+mod fault_locals;
+mod fault_run;
+mod faults;
+mod journal;
+pub mod journal_laws;
+mod kept;
+mod last_fault;
+mod listening;
+mod local_change;
+mod locals;
+mod looker;
+mod meetings;
+mod own_locals;
+mod ran;
+mod reading;
+mod seeing;
+mod set_effects;
+mod teller;
+mod telling;
+mod timed_teller;
+mod timing;
+mod together;
+mod value;
+mod whole;
+mod window;
+
+pub use act::Act;
+pub use alone::cause_alone;
+pub use cause::Cause;
+pub use change::Change;
+pub use entry::Entry;
+pub use excerpt::{Excerpt, steps_between};
+pub use fault_run::fault_of;
+pub use local_change::LocalChange;
+pub use own_locals::OwnLocals;
+pub use reading::Reading;
+pub use teller::Teller;
+pub use telling::tell_run;
+pub use timing::{bound_in_time, steps_bound_in_time};
+pub use together::cause_on;
+pub use whole::steps_of;

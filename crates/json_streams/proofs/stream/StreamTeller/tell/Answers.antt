@@ -1,4 +1,0 @@
-use Rattle.json_streams.proofs.stream.StreamTeller.tell.Goals as goal
-
-pub line-requires : goal.line-requires
-line-requires g c = record { few = c.is_asked.ensures.few c.if-not-is_asked.false }

@@ -1,3 +1,0 @@
-pub mod OneEntry
-pub mod Whole
-pub mod ReadBack

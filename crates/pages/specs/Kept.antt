@@ -1,0 +1,25 @@
+-- Lines of facts that are put one behind the other, of which the first and the last bytes are kept.
+use Rattle.std.specs.Prelude.{◌≡◌, ◌<◌, ◌≤◌, ◌+◌, ◌⊎◌, ℕ, List, drop, length, take}
+use Rattle.pages.specs.Cut.{room}
+use Rattle.pages.specs.Facts.{BeginsLine, embedded, line_count}
+use Rattle.pages.specs.declared.lines.KeptLines.{KeptLines}
+
+-- Of this text the first bytes are kept, as many as a page has room for; those behind some place, which are more than that, or all; and how
+-- many lines end in it.
+pub record Holds (k : KeptLines) (text : List ℕ) : Type 0 where
+  pub first : k.first.items ≡ take room text
+  pub last : k.last.items ≡ drop k.before text
+  pub within : k.before ≤ length text
+  pub enough : (k.before ≡ 0) ⊎ (room < length k.last.items)
+  pub count : k.count ≡ line_count text
+
+-- whole lines that end within the first `most` bytes and have room beside so many others
+pub record FitsBeside (text : List ℕ) (most beside front : ℕ) : Type 0 where
+  pub within : front ≤ most
+  pub begins : BeginsLine text front
+  pub fits : length (embedded (take front text)) + beside ≤ room
+
+-- as many as have
+pub record IsLongest (text : List ℕ) (most beside front : ℕ) : Type 0 where
+  pub are : FitsBeside text most beside front
+  pub longest : (n : ℕ) → FitsBeside text most beside n → n ≤ front

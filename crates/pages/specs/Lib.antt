@@ -1,0 +1,14 @@
+pub mod Opening
+pub mod Pardos
+pub mod Cut
+pub mod Facts
+pub mod Kept
+pub mod Page
+pub mod Stand
+pub mod State
+pub mod Gathered
+pub mod GatheredLaws
+pub mod Pages
+pub mod Paged
+pub mod Streamed
+pub mod Read

@@ -1,0 +1,62 @@
+//! What a page takes of a run, gathered as it goes.
+
+ghost use Rattle.std.specs.Prelude.{IfOk};
+ghost use Rattle.write_rules.specs.Verdict.{verdict_of};
+ghost use Rattle.pram_meaning.specs.Outcome.{IsOutcome};
+ghost use Rattle.journal.specs.RunEntries.{run_entries};
+ghost use Rattle.pages.specs.Gathered.{IsGathered};
+
+use crate::asked::Asked;
+use crate::gatherer::Gatherer;
+use observing::Watch;
+use pram_check::Program;
+use std::alloc::{AllocError, Global};
+use journal::tell_run;
+use crate::{KeptLines, RunState};
+use write_rules::Outcome;
+
+/// How many entries a run has, the state before the first one that is asked for, and the lines of those that are.
+#[derive(Drop)]
+pub(crate) struct Gathered {
+    pub(crate) count: usize,
+    pub(crate) state: RunState,
+    pub(crate) lines: KeptLines,
+}
+
+/// Runs a program on an input that fits, for at most `bound` statements, and gathers what its page takes. Beside the run it takes the
+/// memory of one statement, of the state and of the lines that are kept. `AllocError`: memory was refused.
+pub(crate) fn gather<V: Watch>(
+    alloc: Global,
+    asked: Asked<'_>,
+    program: &Program,
+    input: &[i64],
+    bound: u32,
+    watch: &mut V,
+) -> Result<(Outcome, Gathered), AllocError>
+    ensures outcome { IfOk result (λ r. IsOutcome program.now input.now bound (verdict_of r.0)) }
+    ensures gathered { IfOk result (λ r. IsGathered asked.entry input.now (run_entries program.now input.now bound) r.1) }
+{
+    let state = RunState::before_all(alloc, input)?;
+    let gatherer = Gatherer {
+        alloc,
+        asked,
+        count: 0,
+        state,
+        lines: KeptLines::new(alloc),
+    };
+    let (gatherer, done) = tell_run(alloc, program, input, bound, gatherer, watch);
+    match done {
+        Ok(outcome) => {
+            let (count, state, lines) = (gatherer.count, gatherer.state, gatherer.lines);
+            Ok((
+                outcome,
+                Gathered {
+                    count,
+                    state,
+                    lines,
+                },
+            ))
+        }
+        Err(_) => Err(AllocError),
+    }
+}

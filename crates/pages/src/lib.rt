@@ -1,0 +1,31 @@
+//! A page of HTML that steps through a run, with what it knows as JSON in it.
+#![tactic(auto)]
+
+mod asked;
+mod behind;
+mod cut;
+mod drawing;
+mod facts;
+mod gatherer;
+mod gathering;
+mod lines;
+mod markup;
+mod moving;
+mod opening;
+mod page;
+pub mod page_laws;
+mod page_parts;
+mod pardos;
+mod replayer;
+mod run_facts;
+pub mod run_laws;
+mod state;
+mod stepping;
+mod streaming;
+mod telling;
+
+pub use lines::{Kept, KeptLines};
+pub use opening::opening_line;
+pub use page::write_page;
+pub use state::{RunState, state_line};
+pub use streaming::stream_page;

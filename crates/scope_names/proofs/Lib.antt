@@ -1,3 +1,0 @@
-pub mod StatementLocals
-pub mod StatementNames
-pub mod StatementBound

@@ -1,4 +1,0 @@
-pub mod InScope
-pub mod Locals
-pub mod Nearness
-pub mod Bound

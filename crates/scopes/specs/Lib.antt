@@ -1,0 +1,9 @@
+pub mod Lists
+pub mod Scopes
+pub mod Drawn
+pub mod Intervals
+pub mod Firsts
+pub mod Found
+pub mod Merged
+pub mod Told
+pub mod FindingsText

@@ -1,0 +1,35 @@
+//! The inputs of a small scope, all of them or drawn ones, and what is found of a program on all of them, by one worker or several.
+#![tactic(auto)]
+
+mod apart;
+mod counting;
+pub mod draw_laws;
+mod drawing;
+pub mod exploration_laws;
+mod exploring;
+pub mod findings;
+mod findings_text;
+mod going;
+mod going_on;
+mod inputs;
+mod interval;
+pub mod kinds;
+mod merging;
+mod noting;
+mod numbers;
+pub mod scope;
+pub mod scope_laws;
+mod side_by_side;
+mod span;
+mod step;
+
+pub use counting::input_count;
+pub use drawing::Drawing;
+pub use exploring::{explore, explore_block};
+pub use findings::{Findings, FoundFault, Span};
+pub use findings_text::write_findings;
+pub use inputs::{Inputs, first_input, input_at};
+pub use interval::read_interval;
+pub use numbers::draw;
+pub use scope::Scope;
+pub use side_by_side::explore_by;

@@ -1,6 +1,0 @@
-use Rattle.step_journal.specs.Acts.{act_before}
-use Rattle.step_journal.proofs.ActLists.{InActs}
-use Rattle.step_journal.proofs.acts.acts_before.Given as goal
-
-abbrev pub invariant-loop-x : goal.invariant-loop-x
-invariant-loop-x l = InActs (act_before l.cells l.at) l.parts l.x-index l.acts.items

@@ -1,5 +1,0 @@
-use Rattle.step_journal.proofs.ActLists.{InReadList}
-use Rattle.step_journal.proofs.acts.reads_of.Given as goal
-
-abbrev pub invariant-loop-access : goal.invariant-loop-access
-invariant-loop-access l = InReadList l.trail l.access-index l.reads.items

@@ -1,9 +1,0 @@
-use Rattle.std.proofs.Common.{◌≡◌, ◌≤◌, ◌+◌, drop}
-use Rattle.step_pages.specs.Facts.{line_count}
-use Rattle.step_pages.proofs.facts.line_count.Given as goal
-
-abbrev pub invariant-loop-byte : goal.invariant-loop-byte
-invariant-loop-byte l = record {
-  so_far : l.count + line_count (drop l.byte-index l.text) ≡ line_count l.text;
-  few : l.count ≤ l.byte-index;
-}

@@ -1,8 +1,0 @@
-use Rattle.std.proofs.Common.{◌≡◌, ◌++◌, drop, map}
-use Rattle.std.specs.List.{flat_map}
-use Rattle.serde_json.specs.View.{view}
-use Rattle.step_pages.specs.Opening.{cells_of}
-use Rattle.step_pages.proofs.opening.cells_facts.Given as goal
-
-abbrev pub invariant-loop-d : goal.invariant-loop-d
-invariant-loop-d l = map view l.list.items ++ flat_map cells_of (drop l.d-index l.declarations) ≡ flat_map cells_of l.declarations

@@ -1,5 +1,0 @@
-use Rattle.step_pages.proofs.AsList.{cut_facts_are_read}
-use Rattle.step_pages.proofs.page_laws.cut_facts_are_read.Goals as goal
-
-pub returns : goal.returns
-returns c = cut_facts_are_read

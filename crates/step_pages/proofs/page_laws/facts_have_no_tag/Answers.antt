@@ -1,5 +1,0 @@
-use Rattle.step_pages.proofs.Embedding.{no_tag}
-use Rattle.step_pages.proofs.page_laws.facts_have_no_tag.Goals as goal
-
-pub returns : goal.returns
-returns c = no_tag

@@ -1,5 +1,0 @@
-use Rattle.step_pages.proofs.AsList.{outcome_is_read}
-use Rattle.step_pages.proofs.page_laws.outcome_is_read.Goals as goal
-
-pub returns : goal.returns
-returns c = outcome_is_read

@@ -1,7 +1,0 @@
-use Rattle.std.proofs.Common.{◌≡◌, drop}
-use Rattle.std.specs.List.{fold}
-use Rattle.step_entries.specs.Replay.{with_change}
-use Rattle.step_pages.proofs.state.put_changes.Given as goal
-
-abbrev pub invariant-loop-change : goal.invariant-loop-change
-invariant-loop-change l = fold with_change l.values.items (drop l.change-index l.changes) ≡ fold with_change l.fn.values.items l.changes

@@ -1,0 +1,6 @@
+pub mod Naming
+pub mod StepLines
+pub mod OwnTexts
+pub mod Rows
+pub mod Lines
+pub mod Parts

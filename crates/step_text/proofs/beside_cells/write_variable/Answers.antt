@@ -1,0 +1,18 @@
+use Rattle.std.proofs.Common.{refl}
+use Rattle.text_out.proofs.Progress.{breaks_off, closes, goes_on, starts}
+use Rattle.step_text.specs.BesideCells.{variable_head}
+use Rattle.step_text.specs.ValueTexts.{value_text}
+use Rattle.step_text.proofs.beside_cells.write_variable.Goals as goal
+
+pub returns-in_err-write_variable_head : goal.returns-in_err-write_variable_head
+returns-in_err-write_variable_head g c = record {
+  written = breaks_off _ _ _ _ _ (variable_head c.args.tree.now c.args.change.now.cell)
+      (value_text c.args.change.now) c.from_residual.result _
+      c.from_residual.ensures.1 (starts _ _) refl c.in_err-write_variable_head.ensures.written;
+}
+
+pub returns : goal.returns
+returns g c =
+    let first = goes_on _ _ _ _ _ (variable_head c.args.tree.now c.args.change.now.cell) (value_text c.args.change.now)
+    (starts _ _) refl c.in_ok-write_variable_head.ensures.written in
+    record { written = closes _ _ _ _ _ c.write_value.result first c.write_value.ensures.written }

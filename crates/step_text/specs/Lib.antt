@@ -1,0 +1,12 @@
+pub mod Focus
+pub mod BesideCells
+pub mod ChangeTexts
+pub mod Columns
+pub mod OnTerminal
+pub mod OwnLocals
+pub mod StepText
+pub mod ValueTexts
+pub mod Passing
+pub mod Streams
+pub mod StreamLaws
+pub mod Streamed

@@ -1,0 +1,28 @@
+//! The steps of a run in words: which of them, which names, and the lines of each.
+#![tactic(auto)]
+
+mod asked;
+mod beside_cells;
+mod columns;
+mod failure;
+mod focus;
+mod focusing;
+mod manner;
+mod names;
+mod own_locals;
+mod ran;
+mod step_text;
+mod stream;
+mod streaming;
+mod telling;
+mod terminal;
+mod values;
+
+pub use failure::StreamFailure;
+pub use focus::Focus;
+pub use focusing::focused;
+pub use manner::Manner;
+pub use names::undeclared_name;
+pub use step_text::{write_entry, write_line};
+pub use streaming::stream_steps;
+pub use telling::{Detail, Telling};

@@ -1,0 +1,108 @@
+//! The steps of a run, written as it goes.
+
+ghost use Rattle.std.specs.Prelude.{◌≡◌, ◌↔◌, ◌<◌, ◌≤◌, [], IfOk, OnOk, length};
+ghost use Rattle.pram_model.specs.Layout.{total_size};
+ghost use Rattle.text_out.specs.Printing.{printing};
+ghost use Rattle.write_rules.specs.Verdict.{verdict_of};
+ghost use Rattle.pram_meaning.specs.Outcome.{IsOutcome};
+ghost use Rattle.journal.specs.RunEntries.{run_entries};
+ghost use Rattle.step_text.specs.StepText.{steps_text};
+ghost use Rattle.step_text.specs.Streamed.{HasStreamed};
+ghost use Rattle.step_text.specs.Streams.{PrintsFirst, Streams};
+
+use crate::asked::Asked;
+use crate::failure::StreamFailure;
+use crate::stream::Stream;
+use observing::Watch;
+use pram_check::Program;
+use pram_meaning::MeaningRefusal;
+use std::alloc::Global;
+use journal::tell_run;
+use crate::Telling;
+use text_out::Out;
+use write_rules::Outcome;
+
+// The run, told to a stream, which comes back; what it comes to goes into `done`.
+fn run_into<'a, W: Out, V: Watch>(
+    alloc: Global,
+    program: &Program,
+    input: &[i64],
+    bound: u32,
+    stream: Stream<'a, W>,
+    watch: &mut V,
+    done: &mut Result<Outcome, MeaningRefusal>,
+) -> Stream<'a, W>
+    ensures same_out { result.out.ghost_name ≡ stream.entry.out.ghost_name }
+    ensures outcome { IfOk done.new (λ o. IsOutcome program.now input.now bound (verdict_of o)) }
+    ensures fits { OnOk done.new (length input.now ≤ total_size program.now.layout) }
+    ensures too_long { (done.new ≡ Err MeaningRefusal.InputTooLong) ↔ (total_size program.now.layout < length input.now) }
+    ensures told { OnOk done.new (Streams stream.entry.asked stream.entry.count result.count
+        (printing (W.Out.state stream.entry.out.now) stream.entry.failed) (printing (W.Out.state result.out.now) result.failed)
+        (run_entries program.now input.now bound)) }
+    ensures part { done.new ≡ Err MeaningRefusal.OutOfMemory → PrintsFirst stream.entry.asked stream.entry.count
+        (printing (W.Out.state stream.entry.out.now) stream.entry.failed) (printing (W.Out.state result.out.now) result.failed)
+        (run_entries program.now input.now bound) }
+    ensures untold { done.new ≡ Err MeaningRefusal.InputTooLong → Streams stream.entry.asked stream.entry.count result.count
+        (printing (W.Out.state stream.entry.out.now) stream.entry.failed) (printing (W.Out.state result.out.now) result.failed) [] }
+{
+    let (stream, outcome) = tell_run(alloc, program, input, bound, stream, watch);
+    *done = outcome;
+    stream
+}
+
+/// Runs a program on an input, for at most `bound` statements, and writes each entry whose number, counted from 1, goes from `first` to
+/// `last` as soon as its statement has run, on a line, as the telling says; no line of an entry of which nothing is looked at. No entry is
+/// kept: beside the run it takes the memory of one statement. Behind `last` no more entries are made, and the run goes on to its outcome.
+/// The watch is told how far it is.
+///
+/// E11 where there are more values than cells, and then nothing is written; E17 where the writer failed, which ends the run; E16 only where
+/// memory was refused, behind the lines of the statements before.
+pub fn stream_steps<W: Out, V: Watch>(
+    alloc: Global,
+    program: &Program,
+    input: &[i64],
+    bound: u32,
+    telling: &Telling<'_>,
+    first: usize,
+    last: usize,
+    watch: &mut V,
+    out: &mut W,
+) -> Result<Outcome, StreamFailure>
+    // The outcome is that of the program on the input within the bound.
+    ensures outcome { IfOk result (λ o. IsOutcome program.now input.now bound (verdict_of o)) }
+    // An input that is run has no more values than the program has cells.
+    ensures fits { OnOk result (length input.now ≤ total_size program.now.layout) }
+    // The input is refused as too long exactly where it has more values than the program has cells.
+    ensures too_long { (result ≡ Err StreamFailure.InputTooLong) ↔ (total_size program.now.layout < length input.now) }
+    // Exactly the text of the run's entries is written, or a beginning and a failure; where memory is refused, whole
+    // lines of some first entries.
+    ensures written { HasStreamed (W.Out.state out.old) (W.Out.state out.new)
+        (steps_text program.now.layout telling.now first last) (run_entries program.now input.now bound) result }
+{
+    let asked = Asked {
+        layout: program.layout(),
+        telling,
+        first,
+        last,
+    };
+    let stream = Stream {
+        asked,
+        out,
+        count: 0,
+        failed: false,
+    };
+    let mut done = Err(MeaningRefusal::OutOfMemory);
+    let stream = run_into(alloc, program, input, bound, stream, watch, &mut done);
+    let Stream { failed, .. } = stream;
+    match done {
+        Ok(outcome) => Ok(outcome),
+        Err(MeaningRefusal::InputTooLong) => Err(StreamFailure::InputTooLong),
+        Err(MeaningRefusal::OutOfMemory) => {
+            if failed {
+                Err(StreamFailure::WriteFailed)
+            } else {
+                Err(StreamFailure::OutOfMemory)
+            }
+        }
+    }
+}

@@ -1,3 +1,0 @@
-pub mod StepLines
-pub mod OwnTexts
-pub mod Rows

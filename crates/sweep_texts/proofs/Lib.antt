@@ -1,3 +1,0 @@
-pub mod Items
-mod ReadBack
-pub mod Tabled

@@ -1,8 +1,0 @@
-use Rattle.std.proofs.Common.{drop}
-use Rattle.text_out.proofs.Progress.{Progress}
-use Rattle.sweep_texts.specs.CsvText.{escaped}
-use Rattle.sweep_texts.proofs.csv_field.write_escaped.Given as goal
-
-abbrev pub invariant-loop-byte : goal.invariant-loop-byte
-invariant-loop-byte g l =
-    Progress (g.W.Out.state l.fn.out) (g.W.Out.state l.out) (escaped l.fn.field) (escaped (drop l.byte-index l.fn.field))

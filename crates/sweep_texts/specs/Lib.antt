@@ -1,4 +1,0 @@
-pub mod Tables
-pub mod SweepText
-pub mod CsvText
-pub mod CsvReading

@@ -1,0 +1,35 @@
+-- Formulas in the size n: their values and their terms.
+use Rattle.std.specs.Prelude.{◌≡◌, ◌+◌, ◌*◌, ◌^◌, ◌≤◌, ◌<◌, ◌==◌, ℕ, ℤ, pos, ◌+ℤ◌, ◌*ℤ◌, if◌then◌else◌, unsigned_abs}
+use Rattle.sweeps.specs.declared.formula.Formula.{Formula}
+use Rattle.sweeps.specs.declared.term.Term.{Term}
+use Rattle.sweeps.specs.declared.term.Term.TheVariants.{Constant, Logarithm, Linear, Linearithmic, Square}
+
+-- log is the logarithm of n to base 2, rounded down
+pub record IsLog (n log : ℕ) : Type 0 where
+  pub reached : 2 ^ log ≤ n
+  pub next : n < 2 * 2 ^ log
+
+-- what the formula comes to where log n is log
+abbrev pub value : Formula → (n log : ℕ) → ℤ
+value f n log =
+    (f.square *ℤ pos (n * n)) +ℤ ((f.linearithmic *ℤ pos (n * log)) +ℤ ((f.linear *ℤ pos n) +ℤ ((f.logarithm *ℤ pos log) +ℤ f.constant)))
+
+-- the formula is v at n
+pub record IsValue (f : Formula) (n : ℕ) (v : ℤ) : Type 0 where
+  pub log : ℕ
+  pub is_log : IsLog n log
+  pub is : v ≡ value f n log
+
+abbrev pub coefficient : Formula → Term → ℤ
+coefficient f Constant = f.constant
+coefficient f Logarithm = f.logarithm
+coefficient f Linear = f.linear
+coefficient f Linearithmic = f.linearithmic
+coefficient f Square = f.square
+
+abbrev pub counted : ℤ → ℕ
+counted c = if unsigned_abs c == 0 then 0 else 1
+
+-- how many terms have a coefficient other than 0
+abbrev pub term_count : Formula → ℕ
+term_count f = counted f.constant + counted f.logarithm + counted f.linear + counted f.linearithmic + counted f.square

@@ -1,0 +1,13 @@
+pub mod Formulas
+pub mod Tables
+pub mod GrowthText
+pub mod Naturals
+pub mod Wides
+pub mod Equations
+pub mod Choices
+pub mod Echelons
+pub mod Solutions
+pub mod SweptTables
+pub mod SweepText
+pub mod CsvText
+pub mod CsvReading

@@ -1,6 +1,0 @@
-use Rattle.std.proofs.Common.{◌≡◌, drop}
-use Rattle.syntax_hints.specs.Signs.{could}
-use Rattle.syntax_hints.proofs.sign.could.Given as goal
-
-abbrev pub invariant-loop-choice : goal.invariant-loop-choice
-invariant-loop-choice l = could l.sign (drop l.choice-index l.found) ≡ could l.sign l.found

@@ -1,5 +1,0 @@
-pub mod Alike
-pub mod Beginnings
-pub mod Gathering
-pub mod Listing
-pub mod Samples

@@ -1,5 +1,0 @@
-use Rattle.work_time.proofs.PartSums.{InReads}
-use Rattle.work_time.proofs.accesses.all_reads.Given as goal
-
-abbrev pub invariant-loop-x : goal.invariant-loop-x
-invariant-loop-x l = InReads l.parts l.x-index l.reads

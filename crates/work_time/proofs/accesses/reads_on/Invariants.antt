@@ -1,5 +1,0 @@
-use Rattle.work_time.proofs.TrailReads.{InTrail}
-use Rattle.work_time.proofs.accesses.reads_on.Given as goal
-
-abbrev pub invariant-loop-cell : goal.invariant-loop-cell
-invariant-loop-cell l = InTrail l.trail l.cell-index l.reads

@@ -1,5 +1,0 @@
-use Rattle.work_time.proofs.Communication.{accesses_are_counted, inside_and_outside_are_all}
-use Rattle.work_time.proofs.cost_laws.work_bounds_communication.Goals as goal
-
-pub returns : goal.returns
-returns c = record { accesses = accesses_are_counted; all = inside_and_outside_are_all }
