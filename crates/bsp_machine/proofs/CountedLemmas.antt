@@ -95,7 +95,7 @@ module _ (code : SuperstepCode) (m : Shape) (bound : ℕ) (states : ℕ → Stat
           ≡ (b || is_past r (length y.steps.uniform.output.items) (made_of x.counts) || nat_le (room_of x.counts) (made_of x.counts))
       go true e =
           let l : r.items < printed w = subst (λ v. r.items < printed v) (between.worker alive)
-              (past e r.items has n (states n) low here) in
+          (past e r.items has n (states n) low here) in
           ap (λ d. d || nat_le r.exchanges (length (told n))) (lt-ltb r.items (printed w) l)
       go false e =
           let output : printed w ≡ length y.steps.uniform.output.items = ap printed (sym (between.worker alive))

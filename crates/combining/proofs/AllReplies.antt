@@ -47,7 +47,7 @@ module _ (part : ℕ → ℕ) (home : ℕ) where
     -- nothing is left for it
     pub none_left : (replies : List (List ℕ)) (k : ℕ) → ((d : ℕ) → home ≡ k + d → d < length replies → length (get_or replies d []) ≤ n) →
         (rest : List HeldAsk) → all_replied part k (left_of_all taken k replies) (q ∷ rest) ≡ q ∷ all_replied part k
-            (left_of_all taken k replies) rest
+        (left_of_all taken k replies) rest
     none_left [] k few rest = refl
     none_left (r ∷ replies) k few rest =
         ap (all_replied part (k + 1) (left_of_all taken (k + 1) replies))
@@ -62,7 +62,7 @@ module _ (part : ℕ → ℕ) (home : ℕ) where
     left_same v [] k l = refl
     left_same v (r ∷ replies) k l =
         ap (λ m. drop m r ∷ left_of_all (set taken home v) (k + 1) replies)
-            (get_or-set_other taken home k v 0 (λ e. absurd (omega (arith, e, l))))
+        (get_or-set_other taken home k v 0 (λ e. absurd (omega (arith, e, l))))
         ∙ ap (λ us. drop (get_or taken k 0) r ∷ us) (left_same v replies (k + 1) (omega (arith, l)))
 
     -- the next word of its module is for it
@@ -86,12 +86,12 @@ module _ (part : ℕ → ℕ) (home : ℕ) where
         ∙ ap (λ us. answered q w ∷ all_replied part (k + 1) us (replied part k behind rest))
         (sym (left_same (n + 1) replies (k + 1) (omega (arith, same))))
         ∙ ap (λ m. answered q w ∷ all_replied part (k + 1) (left_of_all (set taken home (n + 1)) (k + 1) replies)
-            (replied part k (drop m r) rest))
+        (replied part k (drop m r) rest))
         (sym (ap (λ j. get_or (set taken home (n + 1)) j 0) same ∙ get_or-set_same taken home (n + 1) 0 known))
     one_taken known (r ∷ replies) k (suc d) at l some rest =
         let apart : k ≡ home → ⊥ = λ e. absurd (omega (arith, e, at)) in
         ap (all_replied part (k + 1) (left_of_all taken (k + 1) replies))
-            (passes q here k (drop (get_or taken k 0) r) (λ e. absurd (apart e))
+        (passes q here k (drop (get_or taken k 0) r) (λ e. absurd (apart e))
         rest)
         ∙ one_taken known replies (k + 1) d (omega (arith, at)) (omega (arith, l)) some (replied part k (drop (get_or taken k 0) r) rest)
         ∙ ap (λ m. answered q (get_or (get_or replies d []) n 0)

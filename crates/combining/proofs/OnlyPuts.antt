@@ -49,8 +49,11 @@ ascend_next rule m j ws size least first k e long is up small h =
 
     go : (b : Bool) (x : CellPut) (ps : List PlacedPut) → x.cell ≡ first → AscendTo (first + 1) (map (λ (x : PlacedPut). x.cell) ps) k →
         AscendTo least (map (λ (x : PlacedPut). x.cell) (cons_option (placed_if m (if b then Some x else None)) ps)) k
-    go true x ps at known = (omega (arith, at, up), subst (λ (c : ℕ). AscendTo (c + 1) (map (λ (x : PlacedPut). x.cell) ps) k)
-        (sym at) known)
+    go true x ps at known = (
+      omega (arith, at, up),
+      subst (λ (c : ℕ). AscendTo (c + 1) (map (λ (x : PlacedPut). x.cell) ps) k)
+          (sym at) known,
+    )
     go false x ps at known = ascend_sooner least (first + 1) (map (λ (x : PlacedPut). x.cell) ps) k (omega (arith, up)) known
 
 module _ (rule : Rule) (m : Shape) (j : ℕ) where

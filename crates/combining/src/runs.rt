@@ -74,7 +74,7 @@ fn append_ask_run<M: AddressMap>(
     requires from { from ≤ length asked.now.items }
     requires room { length list.items
         + length (ask_words (asks_for (M.shape map.now).part home (drop from (paired ask_at keys.now asked.now.items)))) ≤
-            vec_capacity list }
+        vec_capacity list }
     ensures got { GetsFirst home (λ j. ask_words (asks_for (M.shape map.now).part j (drop from (paired ask_at keys.now asked.now.items))))
         (λ j. ask_words (asks_for (M.shape map.now).part j (drop result.1 (paired ask_at keys.now asked.now.items)))) list.items
         result.0.items }

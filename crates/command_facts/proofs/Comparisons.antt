@@ -12,7 +12,7 @@ use Rattle.command_facts.specs.Found.{IsComparisonFound, IsLoaded, IsOpening}
 pub comparison_found : (holds : List ℕ → Option (List ℕ) → Type 0) (file : ProgramFile) (words : RunWords) (l : Loaded)
     (input given : List ℤ)
     (c : UnderRules) → given ≡ input → IsLoaded (holds file.name.now) file l → IsOpening holds l.program.layout words.opening input →
-        c.layout ≡ l.program.layout →
+    c.layout ≡ l.program.layout →
     length given ≤ total_size l.program.layout → IsComparison l.program given words.options.bound c → IsComparisonFound holds file words c
 comparison_found holds file words l input given c same is is_input declared fits compared = record {
   loaded = l;

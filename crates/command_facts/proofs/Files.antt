@@ -17,7 +17,7 @@ pub read_whole : (holds : Option (List ℕ) → Type 0) (most : ℕ) (bytes : Li
     holds (Some bytes)
 read_whole holds most bytes few read =
     subst (λ (xs : List ℕ). holds (Some xs)) (append-nil bytes) (subst (λ (rest : List ℕ). holds (Some (bytes ++ rest)))
-        (read.2 few) read.1)
+    (read.2 few) read.1)
 
 -- code that is refused stands in the file that its text was read from
 pub code_stops : (holds : Option (List ℕ) → Type 0) (name : List ℕ) (most : ℕ) (text : List ℕ) (why : Stop) (a : About) → IsReadFrom holds

@@ -49,4 +49,4 @@ IsRefusedFor workers values cells _ a = ⊥
 abbrev pub StopsAtExploration : (List ℕ → Option (List ℕ) → Type 0) → ProgramFile → ScopeWords → Halted → Type 0
 StopsAtExploration holds file scope h = StopsAtProgram (holds file.name.now) file h
     ⊎ ((program : Checked) × IsProgramIn holds file program × IsRefusedFor scope.workers scope.scope.count (total_size program.layout)
-        h.stop h.about)
+    h.stop h.about)

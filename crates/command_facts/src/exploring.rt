@@ -5,14 +5,14 @@ ghost use Rattle.command_facts.specs.Scopes as spec;
 
 use crate::found::FoundScope;
 use crate::loading::load_program;
-use observing::Watch;
 use command_requests::{ProgramFile, ScopeWords};
 use diagnoses::{About, Halted};
-use scopes::explore_by;
+use observing::Watch;
 use pram_check::Program;
 use pram_meaning::MeaningRefusal;
 use pram_trees::Rule;
 use program_texts::{Refusal, Stop};
+use scopes::explore_by;
 use std::alloc::Global;
 use std::thread::Threads;
 use system_files::Sources;

@@ -7,15 +7,15 @@ use crate::loaded::Loaded;
 use bsp_verify::Verified;
 use command_requests::{Form, RunWords};
 use comparing::{Comparison, UnderRules};
+use costs::Cost;
 use diagnoses::Source;
 use exchange_counts::Counts;
 use explanations::Subject;
-use scopes::Findings;
 use memory_texts::Choice;
 use pram_check::Program;
+use scopes::Findings;
 use sized_texts::Sweep;
 use sweeps::{Growths, SizeRow};
-use costs::Cost;
 use write_rules::Outcome;
 
 /// What is found of a program's run beside its outcome.

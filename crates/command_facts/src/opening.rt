@@ -15,12 +15,12 @@ ghost use Rattle.command_facts.specs.Refused.{StopsAtOpening};
 use crate::loading::{load, source_of};
 use command_requests::Opening;
 use diagnoses::{About, Halted, Kind};
-use scopes::{Drawing, draw};
 use memory_texts::{MemoryFault, read_memory};
 use pram_check::{Breach, Cause, Spot};
 use pram_tokens::LONGEST;
 use pram_trees::{Layout, read_input};
 use program_texts::{Refusal, Stop};
+use scopes::{Drawing, draw};
 use std::alloc::Global;
 use system_files::Sources;
 

@@ -9,16 +9,16 @@ ghost use Rattle.command_facts.specs.Refused as refused;
 
 use crate::found::Facts;
 use crate::tracing::trace_of;
-use observing::{Watch, watched_run};
 use command_requests::{CostWords, RunWords, Verb};
+use costs::cost_of;
 use exchange_counts::Counts;
+use observing::{Watch, watched_run};
 use pram_check::Program;
 use program_runs::{outcome_of_program, run_program};
 use program_texts::Refusal;
 use std::alloc::Global;
 use std::sync::Wait;
 use std::thread::Threads;
-use costs::cost_of;
 use workers::Gate;
 use write_rules::Outcome;
 

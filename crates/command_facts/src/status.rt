@@ -7,8 +7,8 @@ ghost use Rattle.command_facts.specs.Calls as spec;
 
 use crate::found::Found;
 use comparing::{Comparison, FoundDifference};
-use scopes::Findings;
 use program_texts::Status;
+use scopes::Findings;
 use sweeps::{Ending, SizeRow};
 
 // Whether the run at a size faults or is refused.

@@ -20,6 +20,7 @@ use crate::finding::find_run;
 use crate::found::{Facts, FoundRun, FoundSweep};
 use crate::loading::load_program;
 use command_requests::{Opening, ProgramFile, RunWords, SizeWord, SweepWords, Verb, sizes_of};
+use costs::Cost;
 use diagnoses::{Halted, write_refused_line};
 use pram_trees::Layout;
 use program_texts::{Refusal, Stop};
@@ -32,7 +33,6 @@ use std::thread::Threads;
 use sweeps::{Counts, Ending, SizeRow, growths_of};
 use system_files::Sources;
 use text_out::Buffer;
-use costs::Cost;
 use write_rules::{Fault, Outcome};
 
 // The file, with the word of a sweep at a size.

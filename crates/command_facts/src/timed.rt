@@ -3,12 +3,12 @@
 ghost use Rattle.std.specs.Prelude.{◌<◌, ◌≤◌};
 ghost use Rattle.command_facts.specs.Timed.{IsInTime, IsMade};
 
-use observing::Watch;
 use command_requests::{RunWords, Verb};
+use journal::{bound_in_time, steps_bound_in_time};
+use observing::Watch;
 use pram_check::Program;
 use run_options::Options;
 use std::alloc::Global;
-use journal::{bound_in_time, steps_bound_in_time};
 
 // A run is made twice, and the first one has this part of the time: a half where both take the same, and less where more is done in the
 // second.

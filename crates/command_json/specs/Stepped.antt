@@ -29,7 +29,7 @@ first_behind s before first =
 abbrev pub all_behind : FoundSteps → (before : List Data) → Outcome → List Data
 all_behind s before o =
     before ++ steps_facts s.loaded.program.layout s.loaded.program.tree (text_in s.loaded.source) (verdict_of o) (entries_of s)
-        s.words.steps.from
+    s.words.steps.from
     s.words.steps.to
 
 -- what stands on standard output where the run is not told to its end: a beginning of the lines of some of its first statements, or of all

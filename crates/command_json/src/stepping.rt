@@ -8,10 +8,10 @@ ghost use Rattle.command_facts.specs.Found.{IsOutcomeOf, entries_of};
 ghost use Rattle.command_json.specs.Stepped as spec;
 
 use crate::writing::write_json;
-use observing::Watch;
 use command_facts::FoundSteps;
 use json_texts::{json_opening, json_outcome, stream_json};
 use memory_texts::Choice;
+use observing::Watch;
 use pram_meaning::open;
 use program_texts::{Refusal, Status, Stop};
 use std::alloc::{AllocError, Global};

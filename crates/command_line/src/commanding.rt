@@ -4,10 +4,10 @@ ghost use Rattle.std.specs.Prelude.{◌≡◌, map};
 ghost use Rattle.std.specs.String.{string_bytes};
 ghost use Rattle.command_line.specs.Command as spec;
 
-use observing::Watch;
 use command_json::answer_in_json;
 use command_requests::{Reader, asks_for_gnu, asks_for_json, asks_to_explain};
 use command_text::{Terminal, answer};
+use observing::Watch;
 use program_texts::Status;
 use std::alloc::Global;
 use std::sync::Wait;

@@ -7,12 +7,12 @@ ghost use Rattle.command_requests.specs.Sentences.{word_fault};
 ghost use Rattle.help.specs.Messages.{message_is};
 ghost use Rattle.command_messages.specs.Messages as spec;
 
+use command_requests::{Given, write_word_fault, wrong_option};
 use diagnoses::{Halted, message_of};
-use program_texts::Stop;
 use help::Message;
+use program_texts::Stop;
 use std::alloc::{AllocError, Global};
 use text_out::Buffer;
-use command_requests::{Given, write_word_fault, wrong_option};
 
 // A sentence without the end of its line.
 fn without_end(text: &[u8]) -> &[u8]

@@ -135,4 +135,4 @@ pub word_at : (words : List SizeWord) (i : ℕ) (w : SizeWord) (told : List ℕ)
     IsSomeAnd (slice_get words i) (λ x. told ≡ word_text x)
 word_at words i w told inside is says =
     subst (λ (o : Option SizeWord). IsSomeAnd o (λ x. told ≡ word_text x))
-        (sym (slice_get_read words (length words) i w refl inside is)) says
+    (sym (slice_get_read words (length words) i w refl inside is)) says

@@ -10,8 +10,8 @@ ghost use Rattle.sized_texts.specs.declared.size.Size.{Size as SizeOf};
 ghost use Rattle.command_requests.specs.Given.{AreSizesOf};
 ghost use Rattle.command_requests.specs.Expanded as spec;
 
-use crate::word::text_of;
 use crate::SizeWord;
+use crate::word::text_of;
 use pram_tokens::{LONGEST, first_other};
 use pram_trees::TextFault;
 use program_texts::{Refusal, Stop};

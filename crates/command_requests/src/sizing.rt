@@ -4,8 +4,8 @@ ghost use Rattle.std.specs.Prelude.{◌≡◌, ◌++◌, ◌∷◌, [], IfOk, If
 ghost use Rattle.pram_model.specs.Names.{same_text};
 ghost use Rattle.command_requests.specs.Given as spec;
 
-use crate::word::text_of;
 use crate::SizeWord;
+use crate::word::text_of;
 use program_texts::Stop;
 use sized_texts::{Size, name_of, read_size};
 use sqlite_items::Items;

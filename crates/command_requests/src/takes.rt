@@ -8,9 +8,9 @@ ghost use Rattle.command_requests.specs.Options as spec;
 
 use crate::given::Given;
 use crate::{MOST_CELLS, MOST_DRAWN, MOST_ORDERED};
-use scopes::read_interval;
 use pram_model::Rule;
 use run_options::{read_map, read_number, read_pair};
+use scopes::read_interval;
 
 fn is_number(word: &str) -> bool
     ensures { MatchBool result (spec.IsNumber word.now) (¬ (spec.IsNumber word.now)) }

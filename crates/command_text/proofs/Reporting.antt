@@ -50,7 +50,7 @@ line_cut_off true words why a wrong old new res P of is s =
 -- the line, and what is said behind it
 pub with_more : {E : Type 0} (explains : Bool) (words : List (List ℕ)) (why : Stop) (a : About) (said : List ℕ) (old mid new : OutState)
     (res : Result Unit E) → explains ≡ true → mid ≡ with_bytes old (stop_line why a) → IsSaidBehind words why a said → Writes mid new
-        said res →
+    said res →
     (text : List ℕ) × IsInWords explains words why a text × Writes old new text res
 with_more explains words why a said old mid new res on first is second =
     subst (λ b. (text : List ℕ) × IsInWords b words why a text × Writes old new text res) (sym on)

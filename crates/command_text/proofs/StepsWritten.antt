@@ -162,7 +162,7 @@ pub flow_by : (s : FoundSteps) (old new : OutState) (text : List ℕ) (given : L
 flow_by s old new text given only r q same_text same same_only is h =
     let Has : List ℕ → List ℤ → List CellSpan → Result Outcome StreamFailure → Type 0 =
     λ text given only r. HasStreamedFlow text s.loaded.program given s.words.options.bound only s.words.steps.from s.words.steps.to
-        old new r in
+    old new r in
     subst (λ (t : List ℕ). Has t s.input.items (chosen_spans s.loaded.program.layout s.words.shown) q) same_text
     (subst (λ (i : List ℤ). Has text i (chosen_spans s.loaded.program.layout s.words.shown) q) same
     (subst (λ (c : List CellSpan). Has text given c q) same_only (subst (Has text given only) is h)))

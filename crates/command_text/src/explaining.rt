@@ -11,21 +11,21 @@ ghost use Rattle.command_facts.specs.Written.{IsReported};
 ghost use Rattle.command_text.specs.Explained as spec;
 
 use crate::terminal::Terminal;
-use observing::Watch;
 use command_facts::{Found, FoundCode, FoundRun};
 use command_messages::write_for_editors;
+use command_requests::{Given, write_word_fault, wrong_option};
 use diagnoses::{
     Halted, Reason, Source, run_reason, write_fault_sentence, write_refused_line, write_run_fault,
     write_stop_diagnosis,
 };
 use endless_runs::{Cycle, find_cycle};
 use itoa::Buffer;
+use observing::Watch;
 use pram_check::Program;
 use pram_trees::Layout;
 use program_texts::Stop;
 use std::alloc::Global;
 use text_out::{Out, WriteFault};
-use command_requests::{Given, write_word_fault, wrong_option};
 use write_rules::{Fault, Outcome};
 
 // The most cells of a run that is searched for a loop by which it never ends.

@@ -10,10 +10,10 @@ ghost use Rattle.command_text.specs.Texts as texts;
 
 use crate::choosing::chosen_spans;
 use crate::terminal::Terminal;
-use observing::Watch;
 use command_facts::FoundSteps;
 use command_requests::Form;
 use flow_pictures::{CellSpan, stream_flow};
+use observing::Watch;
 use program_texts::{Refusal, Status, Stop, finish};
 use std::alloc::Global;
 use step_text::StreamFailure;

@@ -6,9 +6,9 @@ ghost use Rattle.command_facts.specs.Found.{IsOutcomeOf};
 ghost use Rattle.command_text.specs.Stepped as stepped;
 
 use crate::terminal::Terminal;
-use observing::Watch;
 use command_facts::FoundSteps;
 use command_requests::Form;
+use observing::Watch;
 use pages::stream_page;
 use program_texts::{Refusal, Status, Stop, finish};
 use std::alloc::Global;

@@ -13,9 +13,9 @@ use clap::ArgMatches;
 use command_requests::{
     DrawnWords, InputFile, InputWords, MOST_CELLS, MOST_DRAWN, PairWords, ProgramFile,
 };
-use scopes::{Drawing, read_interval};
 use memory_texts::Choice;
 use program_texts::Stop;
+use scopes::{Drawing, read_interval};
 use std::alloc::{AllocError, Global};
 
 // What is told where a call has none of the ways to give inputs, or files and another one.

@@ -10,10 +10,10 @@ use crate::options::{
 };
 use clap::ArgMatches;
 use command_requests::{CostWords, Form, Opening, RunWords, StepWords, TraceWords};
-use scopes::{Drawing, read_interval};
 use memory_texts::Choice;
 use program_texts::Stop;
 use run_options::{MapChoice, Options, Reserve, read_map, read_number, read_pair};
+use scopes::{Drawing, read_interval};
 
 /// The number of an option, and 0 where the command has no such option.
 pub(crate) fn number_of<'a>(words: &ArgMatches<'a>, option: &str) -> Result<u32, Stop<'a>>

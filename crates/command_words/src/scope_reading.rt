@@ -7,10 +7,10 @@ use crate::options::{CELLS, PERMUTATIONS, UNDER, VALUES, WORKERS};
 use crate::run_reading::number_of;
 use clap::ArgMatches;
 use command_requests::{FewInputs, MOST_CELLS, MOST_INPUTS, MOST_ORDERED, ScopeWords};
-use scopes::{Scope, input_count, read_interval};
 use pram_model::Rule;
 use program_texts::Stop;
 use run_options::read_number;
+use scopes::{Scope, input_count, read_interval};
 
 /// A number from 0 or 1 to the greatest.
 pub(crate) fn count_of<'a>(word: &'a str, least: u32, most: u32) -> Result<u32, Stop<'a>>

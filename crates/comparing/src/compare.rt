@@ -10,10 +10,10 @@ ghost use Rattle.comparing.specs.Compared.{IsComparison};
 ghost use Rattle.comparing.specs.Judged.{IsFoundUnder};
 ghost use Rattle.comparing.specs.RulesTold.{IsKnown, ahead};
 
-use crate::rules::UnderRules;
 use crate::finding::Finding;
 use crate::first_end::FirstEnd;
 use crate::input::have_64_bits;
+use crate::rules::UnderRules;
 use observing::{Watch, watched_run};
 use pram_check::Program;
 use pram_meaning::MeaningRefusal;

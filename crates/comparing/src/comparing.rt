@@ -12,11 +12,11 @@ use crate::difference::Difference;
 use crate::most::most_told;
 use crate::outcomes::first_difference;
 use crate::refusal::{ComparisonRefusal, longest, too_long};
-use scopes::{Drawing, Scope, draw, first_input};
+use costs::time_and_work;
 use pram_check::Program;
 use pram_meaning::reference_run;
+use scopes::{Drawing, Scope, draw, first_input};
 use std::alloc::Global;
-use costs::time_and_work;
 
 // What differs first on an input that is not too long for either program.
 fn difference(

@@ -5,8 +5,8 @@ ghost use Rattle.text_out.specs.Out.{Writes};
 ghost use Rattle.program_texts.specs.Shown.{line};
 ghost use Rattle.comparing.specs.RulesText.{comparison_text, declared_text, finding_text, rule_line, told};
 
-use crate::rules::UnderRules;
 use crate::finding::Finding;
+use crate::rules::UnderRules;
 use pram_trees::{Layout, Rule};
 use program_texts::write_fault;
 use text_out::{Out, WriteFault};

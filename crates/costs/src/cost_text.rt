@@ -5,9 +5,9 @@ ghost use Rattle.text_out.specs.Out.{Writes};
 ghost use Rattle.write_rules.specs.Verdict.{verdict_of};
 ghost use Rattle.costs.specs.CostText as spec;
 
+use crate::Cost;
 use itoa::Buffer;
 use text_out::{Out, WriteFault};
-use crate::Cost;
 use write_rules::Outcome;
 
 /// Writes what a run with that outcome costs, one fact a line: its time, its work, its width, its

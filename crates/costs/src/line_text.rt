@@ -2,9 +2,9 @@
 ghost use Rattle.text_out.specs.Out.{Writes};
 ghost use Rattle.costs.specs.CostText as spec;
 
+use crate::LineCost;
 use itoa::Buffer;
 use text_out::{Out, WriteFault};
-use crate::LineCost;
 
 // What one line costs.
 fn write_line<W: Out>(out: &mut W, cost: &LineCost) -> Result<(), WriteFault>

@@ -144,7 +144,7 @@ at_spot text name tree (spot.Offset at) c e =
     let names = names_at tree at in
     is_guess text at names name
     (remarked (token_at text at) (fits (cut_of text) at (is_inside names)) (bound_in tree (token_at text at)) names
-        (role_at (cut_of text) at) c name e)
+    (role_at (cut_of text) at) c name e)
 
 pub guessed : (text name : List ℕ) (tree : ProgramTree) (b : Breach) → remark_of text tree b ≡ Nearest name →
     IsGuessAt text tree b.spot name

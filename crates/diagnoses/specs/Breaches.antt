@@ -62,7 +62,7 @@ reason (cause.Limit l) s = codes "it passes a limit"
 abbrev pub wrong_kind : List ℕ → List ℕ
 wrong_kind word =
     if is_one_of (codes "print" ∷ codes "for" ∷ []) word then codes
-        " has no place inside pardo: print behind it, loop in it by while and a local, and run over pairs by one range"
+    " has no place inside pardo: print behind it, loop in it by while and a local, and run over pairs by one range"
     else codes " is of another kind than what may stand here"
 
 abbrev pub bare : List ℕ → Cause → List ℕ

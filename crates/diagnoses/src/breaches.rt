@@ -14,9 +14,9 @@ use crate::places::{token_at, write_quoted};
 use crate::remark::Remark;
 use crate::source::{Kind, Source};
 use crate::standing::spot_as_it_stands;
+use help::{Message, Sort};
 use itoa::Buffer as Digits;
 use pram_check::{Breach, Cause, Limit, Spot};
-use help::{Message, Sort};
 use std::alloc::{AllocError, Global};
 use text_out::{Buffer, Out, WriteFault};
 

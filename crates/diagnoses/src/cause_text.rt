@@ -8,10 +8,10 @@ ghost use Rattle.diagnoses.specs.FaultTexts as spec;
 
 use crate::event_text::{MOST_TOLD, kind_sentence, write_event};
 use itoa::Buffer;
+use journal::Cause;
 use pram_printer::{binary_text, prefix_text};
 use pram_trees::{Binary, Layout, Prefix, Range};
 use pram_values::Kind;
-use journal::Cause;
 use text_out::{Out, WriteFault};
 use write_rules::Write;
 

@@ -7,8 +7,8 @@ ghost use Rattle.help.specs.InScope.{known_is};
 ghost use Rattle.diagnoses.specs.Fitting as spec;
 
 use crate::places::is_same;
-use pram_tokens::{LexError, Mark, Opening, Token, tokenize};
 use help::{Known, Sort, open_blocks, tokens_before};
+use pram_tokens::{LexError, Mark, Opening, Token, tokenize};
 use std::alloc::{AllocError, Global};
 
 /// The role of a name where it stands.

@@ -7,10 +7,10 @@ ghost use Rattle.diagnoses.specs.Numbers as spec;
 
 use crate::about::About;
 use crate::stops::bytes_in;
+use help::{Message, write_gnu};
 use pram_check::Cause;
 use pram_trees::TextFault;
 use program_texts::{Refusal, Stop};
-use help::{Message, write_gnu};
 use text_out::{Out, WriteFault};
 
 fn text_number(fault: TextFault) -> &'static [u8]

@@ -6,10 +6,10 @@ ghost use Rattle.journal.specs.Entries.{entry_is};
 ghost use Rattle.diagnoses.specs.Reasons as spec;
 
 use crate::wrong_element::wrong_element;
+use journal::{Cause, Entry, fault_of};
 use observing::Watch;
 use pram_check::Program;
 use std::alloc::{AllocError, Global};
-use journal::{Cause, Entry, fault_of};
 
 /// What is known of why a run faults: the cause, if it is known; at a cell the processors that met there; and the offset of the element
 /// whose subscript is wrong, if it is that, in the text that is judged.

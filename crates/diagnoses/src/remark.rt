@@ -13,11 +13,11 @@ ghost use Rattle.diagnoses.specs.Remarks as spec;
 
 use crate::fitting::{Role, fitting_names, role_at};
 use crate::places::{front, token_at};
+use help::{Choice, Hint, Known, Sort, bound_in, choices_behind, find, hint_at, names_at, nearest};
 use pram_check::{Breach, Cause, Spot};
 use pram_parser::parse;
 use pram_tokens::{LONGEST, LexError};
 use pram_trees::{TextFault, Tree};
-use help::{Choice, Hint, Known, Sort, bound_in, choices_behind, find, hint_at, names_at, nearest};
 use std::alloc::{AllocError, Global};
 
 /// What there is to say of a name that is wrong, or of a token with which no program goes on.

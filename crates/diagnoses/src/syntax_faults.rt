@@ -5,8 +5,8 @@ ghost use Rattle.diagnoses.specs.SyntaxFaults as spec;
 
 use crate::places::{token_at, write_quoted};
 use crate::remark::Remark;
-use itoa::Buffer;
 use help::{Choice, Habit, habit_text, write_choice, write_choices};
+use itoa::Buffer;
 use text_out::{Out, WriteFault};
 
 fn write_stranger<W: Out>(out: &mut W, token: &[u8]) -> Result<(), WriteFault>

@@ -17,8 +17,8 @@ use crate::syntax_faults::{
     write_bad_more, write_bad_sentence, write_behind_end, write_missing_kind, write_named_habit,
     write_open_sentence, write_taken_sentence,
 };
-use pram_printer::opening_text;
 use help::{Choice, Habit, Hint, Message, Other, write_choice};
+use pram_printer::opening_text;
 use std::alloc::{AllocError, Global};
 use text_out::{Buffer, WriteFault};
 use text_places::place_of;

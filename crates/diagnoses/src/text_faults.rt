@@ -13,9 +13,9 @@ use crate::places::byte_at;
 use crate::remark::Remark;
 use crate::source::{Kind, Source};
 use crate::syntax_messages::syntax_message;
+use help::{Message, stray_sentence};
 use itoa::Buffer as Digits;
 use pram_trees::TextFault;
-use help::{Message, stray_sentence};
 use std::alloc::{AllocError, Global};
 use text_out::{Buffer, Out, WriteFault};
 

@@ -6,12 +6,12 @@ ghost use Rattle.journal.specs.Entries.{act_is};
 ghost use Rattle.diagnoses.specs.WrongElements as spec;
 
 use element_places::elements_at;
+use journal::{Act, Cause};
 use pram_check::Program;
 use pram_tokens::Location;
 use pram_trees::Layout;
 use pram_values::Place;
 use std::alloc::{AllocError, Global};
-use journal::{Act, Cause};
 
 // Whether a cell is one of those from the first to the last.
 fn is_between(first: Option<u32>, last: Option<u32>, cell: u32) -> bool

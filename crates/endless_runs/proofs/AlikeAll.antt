@@ -55,7 +55,7 @@ blind_turns_on T B t b (suc k) vs m c out f r =
     (λ xs. blind_unless (those true xs) (λ m. IsEnd tt m) (λ m.
     Then (Unit {0}) (Unit {0}) (B (those true xs) m) (λ u. TurnsOn k T B (those true xs))) (blind_nothing tt)
     (blind_then (B (those true xs)) (λ u. TurnsOn k T B (those true xs)) (b (those true xs))
-        (λ u. blind_turns_on T B t b k (those true xs))))
+    (λ u. blind_turns_on T B t b k (those true xs))))
     m c out f r
 
 mutual

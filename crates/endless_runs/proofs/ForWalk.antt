@@ -187,7 +187,7 @@ module _ (w : Checked) (x : ℕ) (body : List Statement) where
         0,
         λ n low m has. first_within (closing (list_moments w n body set))
             (behind (perform_list w n body set) (λ u. rest_told here n value last)) m
-                (first_within (list_moments w n body set) (Closed ∷ []) m has),
+            (first_within (list_moments w n body set) (Closed ∷ []) m has),
       )
 
   pub for_goes : (first last value end next till : ℤ) (start now mid set new : State) → InFor w x body first last start value end now →
@@ -222,7 +222,7 @@ module _ (w : Checked) (x : ℕ) (body : List Statement) where
       let leads = next_turn first last value end start now i here in (
         leads.endless (turn_endless here value last now mid set b is
             (endless_first (MeansList w body set) (λ u. ForTurns (width (value +ℤ pos 1) last) x (value +ℤ pos 1) (MeansList w body))
-                known.0)),
+            known.0)),
         shown_in (of_turns w here first last x body start).told (of_list w body set).told c
             (holds_on (of_turns w here first last x body start).told (Turn here value last now).told (of_list w body set).told leads.told
             (body_holds here value last now mid set b is)) known.1,

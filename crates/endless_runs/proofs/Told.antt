@@ -112,9 +112,11 @@ first_holds w s ss m = (0, λ n low. first_within (moments w n s m) (behind (per
 
 pub rest_holds : (w : Checked) (s : Statement) (ss : List Statement) (m new : State) → Means w s m (Ends tt new) →
     Holds (λ n. list_moments w n (s ∷ ss) m) (λ n. list_moments w n ss new)
-rest_holds w s ss m new p =
-    (new.count, λ n low. behind_goes (moments w n s m) (perform w n s m) (λ u. list_moments w n ss) tt new
-        (statement_goes w n s m new p low))
+rest_holds w s ss m new p = (
+  new.count,
+  λ n low. behind_goes (moments w n s m) (perform w n s m) (λ u. list_moments w n ss) tt new
+      (statement_goes w n s m new p low),
+)
 
 -- ---- a statement of each kind
 

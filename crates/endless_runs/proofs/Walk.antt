@@ -71,7 +71,7 @@ block_means w body = λ j m. (sym (items_mean w (hidden-the_row-Statement-0 body
 
 pub while_known : (w : Checked) (here : Location) (s : Statement) (e : Expression) (body : Vec Statement Global) (m new : State)
     (r : Result (Unit {0}) Stop) → s ≡ While here e body → IsKnown (of_loop w here e body.items m) new r → IsKnown
-        (of_statement w s m) new r
+    (of_statement w s m) new r
 while_known w here s e body m new r is known = subst (λ p. IsKnown p new r) (sym same) known
   where
     means : Means w s m ≡ Loop (Tested w here.line e) (MeansList w body.items) m

@@ -79,7 +79,7 @@ module _ (t : Setting) where
       total_same 0 (λ a b. a + b) (λ j. length (words rule (sent t x j))) (λ j. of_write rule * puts j + (asks j + 0))
       (λ j. of_message rule (sent t x j)) all in
       let b : added (λ j. of_write rule * puts j + (asks j + 0)) all ≡ added (λ j. of_write rule * puts j) all + added
-          (λ j. asks j + 0) all =
+      (λ j. asks j + 0) all =
       added_both (λ j. of_write rule * puts j) (λ j. asks j + 0) all in
       let c : added (λ j. of_write rule * puts j) all ≡ of_write rule * added puts all = added_times (of_write rule) puts all in
       let d : added (λ j. asks j + 0) all ≤ added asks all =

@@ -82,7 +82,7 @@ module _ (t : Setting) (room : IsMapFor t.code t.map) (start : ℕ → Worker) (
         ≤ most →
         owed_by (λ w. came (start w) (if b then At (ToClose false) place (xs w) else
         until t.bound worker_uniform (worker.after_instr t w) t.code.instructions n (place + 1)
-            (worker.after_instr t w (Mark line) (xs w))))
+        (worker.after_instr t w (Mark line) (xs w))))
         ≤ most
     marked line true h = omega (arith, h)
     marked line false h = acts (Mark line) h
@@ -91,7 +91,7 @@ module _ (t : Setting) (room : IsMapFor t.code t.map) (start : ℕ → Worker) (
         owed_by xs + (0 + (if b then stretch_words t.code t.bound (workers t) n (place + 1) f
         else stretch_words t.code t.bound (workers t) n target f)) ≤ most →
         owed_by (λ w. came (start w) (if b then until t.bound worker_uniform (worker.after_instr t w) t.code.instructions n
-            (place + 1) (xs w)
+        (place + 1) (xs w)
         else until t.bound worker_uniform (worker.after_instr t w) t.code.instructions n target (xs w))) ≤ most
     forked target true h = keeps (place + 1) f xs s (omega (arith, h))
     forked target false h = keeps target f xs s (omega (arith, h))
@@ -102,11 +102,11 @@ module _ (t : Setting) (room : IsMapFor t.code t.map) (start : ℕ → Worker) (
     steps (Some (Mark line)) h =
         same_owed (λ w. came (start w) (if eqb f.uniform.count t.bound then At (ToClose false) place (xs w) else
         until t.bound worker_uniform (worker.after_instr t w) t.code.instructions n (place + 1)
-            (worker.after_instr t w (Mark line) (xs w))))
+        (worker.after_instr t w (Mark line) (xs w))))
         (by n place xs (Some (Mark line)))
         (λ w l. ap (λ (u : UniformPart). came (start w) (if eqb u.count t.bound then At (ToClose false) place (xs w) else
         until t.bound worker_uniform (worker.after_instr t w) t.code.instructions n (place + 1)
-            (worker.after_instr t w (Mark line) (xs w))))
+        (worker.after_instr t w (Mark line) (xs w))))
         (sym (s.uniform w l)))
         (marked line (eqb f.uniform.count t.bound) h)
     steps (Some Send) h = omega (arith, h)

@@ -75,10 +75,10 @@ module _ (t : Setting) (room : IsMapFor t.code t.map) where
             subst (λ m. m ≤ most)
             (sym (total_within 0 (λ a b. a + b)
             (λ w. owed t.code.rule (ready_at (record (ws w) { place = s.place })
-                (stretch t w (record (ws w) { place = s.place }))).state.worker)
+            (stretch t w (record (ws w) { place = s.place }))).state.worker)
             (λ w. owed t.code.rule (came (ws w).worker (stretch t w (record (ws w) { place = s.place })))) (workers t) 0
             (λ w l. ap (owed t.code.rule) (ready_came (record (ws w) { place = s.place })
-                (stretch t w (record (ws w) { place = s.place }))))))
+            (stretch t w (record (ws w) { place = s.place }))))))
             reached
         go (Ending ended) = omega arith
         go (Past key ended) = omega arith
@@ -128,7 +128,7 @@ module _ (t : Setting) (room : IsMapFor t.code t.map) where
           ≤ owed_by (phase (bsp t) (workers t) ws) + words_from (plan t) (workers t) n (flat_run.next (plan t) s) →
           words_sent (if b then [] else exchange_of t ws ∷ exchanges_from t n (phase (bsp t) (workers t) ws))
           ≤ owed_by ws + (if b then 0 else words_if (plan t) (workers t) s s.way + words_from (plan t) (workers t) n
-              (flat_run.next (plan t) s))
+          (flat_run.next (plan t) s))
       go true h = omega arith
       go false h = let e = exchange_within s ws a in omega (arith, h, e)
 

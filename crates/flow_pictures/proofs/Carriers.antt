@@ -47,7 +47,7 @@ carries_is acts a from to one read is =
 pub arrow_is : (rows : List ℕ) (column : ℕ) (aside : List Bool) (acts : List Act) (a : Act) (from to : ℕ) → Contains acts a → Contains
     a.reads from →
     a.write ≡ Some to → Contains rows from → Contains rows to → Contains (arrows rows column aside acts)
-        (arrow_by column aside acts to from)
+    (arrow_by column aside acts to from)
 arrow_is rows column aside acts a from to one read is row_from row_to =
     spread (arrows_to rows column aside acts) (filter (writes acts) rows) to (arrow_by column aside acts to from)
     (kept (writes acts) rows to row_to (writes_is acts a to one is))

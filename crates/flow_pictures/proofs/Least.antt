@@ -72,7 +72,7 @@ pub entry_is_taken : (only : List CellSpan) (x : ℕ) (start now new : Option �
     new ≡ fold (nearer_if only x) start (entry_cells e)
 entry_is_taken only x start now new acts e same f b =
     joined only x start now new (flat_map act_cells (acts_in e)) (fault_cells e)
-        (f ∙ ap (λ l. fold (nearer_if only x) start (flat_map act_cells l)) same) b
+    (f ∙ ap (λ l. fold (nearer_if only x) start (flat_map act_cells l)) same) b
 
 -- the least of those that are chosen
 chosen_by : (only : List CellSpan) (x : ℕ) (now : Option ℕ) (c : ℕ) (cs : List ℕ) (b : Bool) → is_chosen only c ≡ b →
@@ -103,7 +103,7 @@ pub entries_go : (only : List CellSpan) (x : ℕ) (cs : List column.Column.Colum
 entries_go only x cs i c now new s h is n = record {
   same = s.same ∙ at_item (λ xs. fold (nearer_if only x) now (flat_map entry_cells (entries_of (map column_is xs)))) cs i c h is
       ∙ fold-append (nearer_if only x) now (entry_cells (entry_is c.entry))
-          (flat_map entry_cells (entries_of (map column_is (drop (i + 1) cs))))
+      (flat_map entry_cells (entries_of (map column_is (drop (i + 1) cs))))
       ∙ ap (λ o. fold (nearer_if only x) o (flat_map entry_cells (entries_of (map column_is (drop (i + 1) cs))))) (sym n);
 }
 

@@ -141,18 +141,18 @@ node_in_columns layout text aside opening es rows j (p ∷ ps) n one =
 
 pub arrow_among : (aside : Entry → List Bool) (rows : List ℕ) (j : ℕ) (ps : List (ℕ × Entry)) (i : ℕ) (p : ℕ × Entry) (l : Arrow) →
     i < length ps → get_or ps i p ≡ p → Contains (arrows rows (j + i) (aside p.1) (acts_in p.1)) l → Contains
-        (arrows_from aside rows j ps) l
+    (arrows_from aside rows j ps) l
 arrow_among aside rows j [] i p l within is one = absurd (omega (arith, within))
 arrow_among aside rows j (q ∷ ps) zero p l within is one =
     let same : j + 0 ≡ j = omega arith in
     Contains-append_left (arrows rows j (aside q.1) (acts_in q.1)) (arrows_from aside rows (j + 1) ps) l
     (subst (λ r. Contains (arrows rows j (aside r.1) (acts_in r.1)) l) (sym is)
-        (subst (λ k. Contains (arrows rows k (aside p.1) (acts_in p.1)) l) same one))
+    (subst (λ k. Contains (arrows rows k (aside p.1) (acts_in p.1)) l) same one))
 arrow_among aside rows j (q ∷ ps) (suc i) p l within is one =
     let same : j + suc i ≡ (j + 1) + i = omega arith in
     Contains-append_right (arrows rows j (aside q.1) (acts_in q.1)) (arrows_from aside rows (j + 1) ps) l
     (arrow_among aside rows (j + 1) ps i p l (omega (arith, within)) is (subst (λ k. Contains (arrows rows k (aside p.1) (acts_in p.1)) l)
-        same one))
+    same one))
 
 carried_later : (aside : Entry → List Bool) (j : ℕ) (q : ℕ × Entry) (ps : List (ℕ × Entry)) (l : Arrow) → IsCarried aside (j + 1) ps l →
     IsCarried aside j (q ∷ ps) l

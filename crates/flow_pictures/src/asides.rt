@@ -5,10 +5,10 @@ ghost use Rattle.journal.specs.Entries.{entry_is};
 ghost use Rattle.flow_pictures.specs.Asides as spec;
 
 use crate::entries::location_in;
+use crate::subscript_reads;
+use journal::Entry;
 use pram_check::Program;
 use std::alloc::{AllocError, Global};
-use journal::Entry;
-use crate::subscript_reads;
 
 /// Which shared reads of the statement of this entry stand in a subscript, read by read, in the order in which a processor makes them; for
 /// `Flow`. `AllocError`: memory was refused.

@@ -9,8 +9,8 @@ ghost use Rattle.flow_pictures.specs.Drawing.{column_is, entries_of};
 use crate::column::Column;
 use crate::entries::acts_in;
 use crate::spans::{CellSpan, is_chosen};
-use pram_values::Place;
 use journal::{Act, Entry};
+use pram_values::Place;
 
 // The lesser of two, without one that is less than where the search begins.
 fn nearer(start: u64, best: Option<u32>, cell: u32) -> Option<u32>

@@ -8,8 +8,8 @@ ghost use Rattle.flow_pictures.specs.Values as cell_values;
 
 use crate::entries;
 use crate::values::value_at;
-use std::alloc::{AllocError, Global};
 use journal::{Act, Entry};
+use std::alloc::{AllocError, Global};
 
 /// A statement that is drawn.
 #[derive(Drop)]

@@ -14,8 +14,8 @@ use crate::letters::{source_at, write_source};
 use crate::marks::write_marks;
 use crate::measure::{x_of, y_at};
 use itoa::Buffer;
-use pram_trees::Layout;
 use journal::Entry;
+use pram_trees::Layout;
 use text_out::{Out, WriteFault};
 
 // The number of a statement and its line.

@@ -11,11 +11,11 @@ ghost use Rattle.flow_pictures.specs.Drawing.{drawing_is};
 ghost use Rattle.flow_pictures.specs.Picture.{flow, picture};
 
 use crate::taker::Taker;
-use observing::Watch;
 use crate::{Drawing, Flow};
+use journal::tell_run;
+use observing::Watch;
 use pram_check::Program;
 use std::alloc::{AllocError, Global};
-use journal::tell_run;
 use write_rules::Outcome;
 
 /// Runs a program on an input that fits, for at most `bound` statements, and takes what is drawn of the statements whose numbers, counted

@@ -5,8 +5,8 @@ ghost use Rattle.std.specs.List.{list_any};
 ghost use Rattle.journal.specs.Entries.{act_is, entry_is};
 ghost use Rattle.flow_pictures.specs.Choice as spec;
 
-use pram_tokens::Location;
 use journal::{Act, Change, Entry};
+use pram_tokens::Location;
 
 /// What each processor did.
 pub(crate) fn acts_in(entry: &Entry) -> &[Act]

@@ -11,10 +11,10 @@ use crate::links::has_read;
 use crate::measure::y_of;
 use crate::shapes::{Area, write_line_front, write_rectangle};
 use itoa::Buffer;
+use journal::Entry;
 use pram_trees::Layout;
 use pram_values::Place;
 use program_texts::{write_fault_text, write_values};
-use journal::Entry;
 use text_out::{Out, WriteFault};
 use write_rules::Fault;
 

@@ -15,8 +15,8 @@ use crate::column::{Column, push_column};
 use crate::drawing::Drawing;
 use crate::entries::is_fault;
 use crate::values::put_changes;
-use std::alloc::{AllocError, Global};
 use journal::Entry;
+use std::alloc::{AllocError, Global};
 
 // Keeps the values before a statement that touches shared memory, if it is the first one.
 fn keep_before(

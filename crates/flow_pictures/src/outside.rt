@@ -3,8 +3,8 @@
 ghost use Rattle.std.specs.Prelude.{◌≡◌, ◌++◌, IfOk, OnOk};
 ghost use Rattle.flow_pictures.specs.Subscripts as spec;
 
-use crate::subscripts::{add_assign, add_bounds};
 use crate::inside::{add_here, add_steps};
+use crate::subscripts::{add_assign, add_bounds};
 use pram_check::{Expression, Program, Statement, Target};
 use pram_trees::Location;
 use std::alloc::{AllocError, Global};

@@ -7,8 +7,8 @@ ghost use Rattle.pram_meaning.specs.Outcome.{IsOutcome};
 ghost use Rattle.flow_pictures.specs.Streamed.{HasStreamedFlow};
 
 use crate::drawn_run::draw_run;
-use observing::Watch;
 use crate::{CellSpan, write_flow};
+use observing::Watch;
 use pram_check::Program;
 use std::alloc::Global;
 use step_text::StreamFailure;

@@ -9,9 +9,9 @@ ghost use Rattle.flow_pictures.specs.Takes.{Takes};
 ghost use Rattle.flow_pictures.specs.TakesLaws.{takes_nothing, takes_on};
 
 use crate::{Flow, asides_of};
+use journal::{Entry, Teller};
 use pram_check::Program;
 use std::alloc::{AllocError, Global};
-use journal::{Entry, Teller};
 
 /// Hands each entry of a run of this program to a `Flow`, with which reads of its statement stand in a subscript.
 #[derive(Drop)]

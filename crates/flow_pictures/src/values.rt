@@ -6,8 +6,8 @@ ghost use Rattle.journal.specs.Entries.{entry_is};
 ghost use Rattle.flow_pictures.specs.Values as spec;
 
 use crate::entries::changes_in;
-use std::alloc::{AllocError, Global};
 use journal::{Change, Entry};
+use std::alloc::{AllocError, Global};
 
 /// The value of a cell, by those of the first cells; the others hold 0.
 pub(crate) fn value_at(values: &[i64], cell: usize) -> i64

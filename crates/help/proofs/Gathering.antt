@@ -21,7 +21,7 @@ gathered_told front all found i d below could g =
       goes_on = λ more t.
           subst (Told front all) (sym (append_assoc found (k ∷ []) more))
           (g.goes_on (k ∷ more) (subst (λ l. Told front l (k ∷ more)) (sym (drop_more all i d below))
-              (told k (drop (i + 1) all) more could t)));
+          (told k (drop (i + 1) all) more could t)));
     }
 
 pub gathered_left_out : (front : List Token) (all found : List Choice) (i : ℕ) (d : Choice) → i < length all →

@@ -115,8 +115,12 @@ new_or_old (f ∷ front) (x ∷ blocks) above new b e =
     let rest : blocks ++ new ∷ [] ≡ front ++ b ∷ above = cc e in
     let same : x ≡ f = cc e in
     ⊎_elim (λ new. inl new)
-    (λ old. inr (record { earlier = old.earlier; whole = ap (λ l. x ∷ l) old.whole ∙ ap (λ z. z ∷ front ++ b ∷ old.earlier) same; one_more =
-        old.one_more }))
+    (λ old. inr (record {
+      earlier = old.earlier;
+      whole = ap (λ l. x ∷ l) old.whole ∙ ap (λ z. z ∷ front ++ b ∷ old.earlier) same;
+      one_more =
+          old.one_more;
+    }))
     (new_or_old front blocks above new b rest)
 
 -- ---- over tokens

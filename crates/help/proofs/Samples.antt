@@ -72,12 +72,12 @@ samples_speak front (choice.Fixed (fixed.Opening o)) t real (place, is) =
     (both_ways front _ _ (openings o place beginning) (openings o beginning place) tt tt)
 samples_speak front (choice.Fixed (fixed.Binary o)) t real (place, is) =
     subst (λ u. CouldStand front u ↔ CouldStand front (token.Binary o)) (sym is)
-        (both_ways front _ _ (one (token.Binary o)) (one (token.Binary o)) tt tt)
+    (both_ways front _ _ (one (token.Binary o)) (one (token.Binary o)) tt tt)
 samples_speak front (choice.Fixed fixed.Not) t real (place, is) =
     subst (λ u. CouldStand front u ↔ CouldStand front token.Not) (sym is) (both_ways front _ _ (one token.Not) (one token.Not) tt tt)
 samples_speak front (choice.Fixed (fixed.Mark m)) t real (place, is) =
     subst (λ u. CouldStand front u ↔ CouldStand front (token.Mark m)) (sym is)
-        (both_ways front _ _ (one (token.Mark m)) (one (token.Mark m)) tt tt)
+    (both_ways front _ _ (one (token.Mark m)) (one (token.Mark m)) tt tt)
 samples_speak front choice.Name (token.Number n) real never = absurd never
 samples_speak front choice.Name (token.Binary o) real never = absurd never
 samples_speak front choice.Name token.Not real never = absurd never

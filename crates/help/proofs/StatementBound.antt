@@ -58,7 +58,7 @@ module _ (word : List ℕ) (found : Option Known) where
     for_bound l t low high body given is same =
         of_form (s.For l t low high body) _ is
         (rolled _ (Stmt-F.For l t low high (map (statement_bound word) body))
-            (ap (statement_bound word) (sym (s.rolls-For l t low high body))
+        (ap (statement_bound word) (sym (s.rolls-For l t low high body))
         ∙ fold-roll-Stmt Seeking (node_bound word) (Stmt-F.For l t low high body))
         ∙ each body found)
         ∙ ap (λ b. block_bound word b found) (sym same)

@@ -39,7 +39,7 @@ module _ (at : ℕ) (here found : List Known) where
     unfolding statement_names
     element_names t i v is =
         of_form (s.AssignElement t i v) _ is (rolled _ (Stmt-F.AssignElement t i v)
-            (ap (statement_names at) (sym (s.rolls-AssignElement t i v))
+        (ap (statement_names at) (sym (s.rolls-AssignElement t i v))
         ∙ fold-roll-Stmt Reaching (node_names at) (Stmt-F.AssignElement t i v)))
 
     pub print_names : (l : Location) (v : Expr) → x ≡ s.Print l v → statement_names at x here found ≡ reached at l here found

@@ -1,8 +1,8 @@
 //! What there is to say of a place at which a program doesn't go on.
 
+use crate::Choice;
 use crate::habit::Habit;
 use pram_tokens::Opening;
-use crate::Choice;
 
 /// What there is to say of a place at which a program doesn't go on. Offsets are those of tokens.
 #[derive(Clone, Copy, Debug, PartialEq, Eq)]

@@ -6,6 +6,7 @@ ghost use Rattle.pram_tokens.specs.Scanning.{cut, longest};
 ghost use Rattle.pram_tokens.specs.Tokens.{AreReal};
 ghost use Rattle.help.specs.Hints as spec;
 
+use crate::Choice;
 use crate::blocks::{Block, open_blocks};
 use crate::hint::Hint;
 use crate::missing::missing_of;
@@ -13,7 +14,6 @@ use crate::sign::{Sign, could};
 use crate::words::{before_habit, habit_of};
 use pram_tokens::{LexError, Mark, Token, tokenize};
 use std::alloc::{AllocError, Global};
-use crate::Choice;
 
 // How many tokens behind a place are tried.
 const TRIED: usize = 8;

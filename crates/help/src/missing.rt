@@ -5,11 +5,11 @@ ghost use Rattle.pram_tokens.specs.Tokens.{AreReal};
 ghost use Rattle.help.specs.Kinds.{sample as sample_of};
 ghost use Rattle.help.specs.Missing as spec;
 
+use crate::{Choice, sample};
 use pram_parser::parse_tokens;
 use pram_tokens::Token;
 use pram_trees::ParseError;
 use std::alloc::{AllocError, Global};
-use crate::{Choice, sample};
 
 // With how many of the tokens a program begins.
 fn reach(alloc: Global, tokens: &[Token]) -> Result<usize, AllocError>

@@ -4,8 +4,8 @@ ghost use Rattle.std.specs.Prelude.{◌≡◌};
 ghost use Rattle.std.specs.List.{list_any};
 ghost use Rattle.help.specs.Signs as spec;
 
-use pram_tokens::{Fixed, Mark, Opening};
 use crate::Choice;
+use pram_tokens::{Fixed, Mark, Opening};
 
 /// A kind of tokens that tells what a place is.
 #[derive(Clone, Copy, Debug, PartialEq, Eq)]

@@ -4,10 +4,10 @@ ghost use Rattle.std.specs.Prelude.{◌≡◌};
 ghost use Rattle.pram_model.specs.Names.{is_one_of};
 ghost use Rattle.help.specs.Habits as spec;
 
+use crate::Choice;
 use crate::habit::Habit;
 use crate::sign::{Sign, could};
 use pram_tokens::{Binary, Fixed, Mark, Token};
-use crate::Choice;
 
 fn is_frame_word(word: &[u8]) -> bool
     ensures { result ≡ is_one_of spec.frame_words word.now }

@@ -115,7 +115,7 @@ set_store p cells variables printed here act before behind xs (Some key) is left
 each : (p : Checked) (ms : List Moment) (k : ℕ) (m last : State) (cells variables : List ℤ) (printed : ℕ) → Lead ms m last →
     IsStore cells variables printed m →
     IsStore (fold with_cells cells (take k (flat_map (entries_of p) ms)))
-        (fold with_variables variables (take k (flat_map (entries_of p) ms)))
+    (fold with_variables variables (take k (flat_map (entries_of p) ms)))
     (fold with_printed printed (take k (flat_map (entries_of p) ms))) (state_behind k ms m)
 each p ms zero m last cells variables printed lead is = is
 each p [] (suc k) m last cells variables printed lead is = is

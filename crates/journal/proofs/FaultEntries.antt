@@ -29,7 +29,7 @@ use Rattle.journal.specs.Meeting.{meeting}
 
 pub told_alone : (p : Checked) (here : Location) (act : Action) (m : State) (t : Trail) (k : Kind) (why : Option Cause) (acts : List Act)
     (met : List ℤ) (locals : List OwnLocals) → why ≡ why_alone p m act → acts ≡ alone_acts m.cells (front (length t) t) None None → met ≡ []
-        → locals ≡ [] →
+    → locals ≡ [] →
     Faulting here (fault_alone here.line k) why acts met locals ≡ by_one p here act m (Fails t k) m
 told_alone p here act m t k why acts met locals c a w l = λ i. Faulting here (fault_alone here.line k) (c i) (a i) (w i) (l i)
 

@@ -36,7 +36,7 @@ whole p input n = list_told p n p.body (opening p input)
 pub changes_give_the_memory : ChangesGiveTheMemory
 changes_give_the_memory p input n v is =
     subst (λ v. HasMemory v (fold with_cells (opening p input).cells (run_entries p input n)))
-        (sym ((outcome_is_computed p input n v).0 is))
+    (sym ((outcome_is_computed p input n v).0 is))
     (memory_of p (opening p input) (run_entries p input n) (body_done p input n) (whole p input n))
 
 pub items_give_the_output : ItemsGiveTheOutput

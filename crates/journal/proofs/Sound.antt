@@ -108,7 +108,7 @@ ran_told p m new here acts locals a h = record {
 
 pub fell_told : (p : Checked) (m : State) (here : Location) (k : Fault) (cause : Option Cause) (acts : List Act) (met : List ℤ)
     (locals : List OwnLocals) → here.line ≡ k.line → IsExplained p k.kind cause → Falls p m (Faulting here k cause acts met locals ∷ [])
-        k m.output
+    k m.output
 fell_told p m here k cause acts met locals stands why =
     record { output = append-nil m.output; ends = ([], here, cause, acts, met, locals, tt, stands, why, refl) }
 

@@ -7,10 +7,10 @@ ghost use Rattle.journal.specs.Entries.{act_is};
 ghost use Rattle.journal.specs.Acts.{act_before, act_of, reading_at, readings_from, reads_at, reads_in};
 ghost use Rattle.journal.specs.Acts as spec;
 
+use crate::{Act, Reading};
 use pram_meaning::part::Part;
 use pram_meaning::view::number_at;
 use std::alloc::{AllocError, Global};
-use crate::{Act, Reading};
 
 // The cell of one access, put behind the others.
 fn add_read(reads: &mut Vec<u32>, access: Option<u32>) -> Result<(), AllocError>

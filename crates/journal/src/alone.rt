@@ -8,6 +8,7 @@ ghost use Rattle.pram_meaning.specs.Store.{seen};
 ghost use Rattle.journal.specs.Causes.{known_cause};
 ghost use Rattle.journal.specs.FoundCauses as spec;
 
+use crate::Cause;
 use crate::seeing::view_of;
 use crate::value::value_or_cause;
 use pram_check::{Expression, Program, StepTarget, Target};
@@ -15,7 +16,6 @@ use pram_meaning::action::{Action, StepAction};
 use pram_meaning::run::Run;
 use pram_meaning::view::View;
 use std::alloc::Global;
-use crate::Cause;
 
 fn cause_of_value(view: &View, e: &Expression) -> Option<Cause>
     ensures { known_cause result ≡ spec.cause_of_value (view_is view.now) e.now }

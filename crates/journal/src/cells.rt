@@ -6,10 +6,10 @@ ghost use Rattle.pram_meaning.specs.Judging.{part_is};
 ghost use Rattle.journal.specs.Causes.{cause_is};
 ghost use Rattle.journal.specs.FoundCauses as spec;
 
+use crate::Cause;
 use pram_meaning::part::Part;
 use pram_values::Kind;
 use std::alloc::{AllocError, Global};
-use crate::Cause;
 use write_rules::Write;
 
 // The write of a part to the cell, put behind the others.

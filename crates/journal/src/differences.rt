@@ -3,9 +3,9 @@
 ghost use Rattle.std.specs.Prelude.{◌≡◌, ◌++◌, IfOk, OnOk, pos, slice_index_or, slice_set};
 ghost use Rattle.journal.specs.Changes.{change_at, difference};
 
+use crate::Change;
 use pram_meaning::view::number_at;
 use std::alloc::{AllocError, Global};
-use crate::Change;
 
 // The change of a cell whose value differs, put behind the others.
 fn add_change(

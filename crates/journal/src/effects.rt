@@ -7,6 +7,7 @@ ghost use Rattle.pram_meaning.specs.Together.{after_write};
 ghost use Rattle.journal.specs.Acts.{held, holds};
 ghost use Rattle.journal.specs.Changes.{difference};
 
+use crate::Change;
 use crate::differences::change_of;
 use pram_check::Target;
 use pram_meaning::action::Action;
@@ -14,7 +15,6 @@ use pram_meaning::attempt::Effect;
 use pram_meaning::run::Run;
 use pram_meaning::view::number_at;
 use std::alloc::{AllocError, Global};
-use crate::Change;
 
 // The cell that an effect writes.
 #[tactic(auto, using(crate::proofs::Differing::none_of_it))]

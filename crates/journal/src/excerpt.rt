@@ -8,13 +8,13 @@ ghost use Rattle.journal.specs.Entries.{entry_is};
 ghost use Rattle.journal.specs.Between.{between};
 ghost use Rattle.journal.specs.RunEntries.{run_entries};
 
+use crate::Entry;
 use crate::telling::tell_run;
 use crate::window::Window;
 use observing::Watch;
 use pram_check::Program;
 use pram_meaning::MeaningRefusal;
 use std::alloc::Global;
-use crate::Entry;
 use write_rules::Outcome;
 
 /// Some of a run's entries, one behind the other, and how many the run has in all.

@@ -7,13 +7,13 @@ ghost use Rattle.pram_meaning.specs.Store.{member_of};
 ghost use Rattle.journal.specs.Entries.{own_is};
 ghost use Rattle.journal.specs.FaultLocals as spec;
 
+use crate::OwnLocals;
 use crate::meetings::{reads, writes};
 use pram_meaning::Key;
 use pram_meaning::part::Part;
 use pram_meaning::team::Member;
 use pram_values::{Kind, Place};
 use std::alloc::{AllocError, Global};
-use crate::OwnLocals;
 
 // Whether a processor is among those that met at a cell.
 fn meets(kind: Kind, at: usize, cell: u32, x: &Part) -> bool

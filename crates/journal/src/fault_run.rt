@@ -6,6 +6,7 @@ ghost use Rattle.pram_model.specs.Layout.{total_size};
 ghost use Rattle.journal.specs.Entries.{entry_is};
 ghost use Rattle.journal.specs.LastFault.{run_fault};
 
+use crate::Entry;
 use crate::last_fault::LastFault;
 use observing::{Watch, run_watched};
 use pram_check::Program;
@@ -13,7 +14,6 @@ use pram_meaning::interpreter::Interpreter;
 use pram_meaning::run::Halt;
 use pram_meaning::{MeaningRefusal, open};
 use std::alloc::{AllocError, Global};
-use crate::Entry;
 
 // The fault of a run on an input that fits.
 fn hear_fault<V: Watch>(

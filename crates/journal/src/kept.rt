@@ -4,9 +4,9 @@ ghost use Rattle.std.specs.Prelude.{⊤, ◌≡◌, ◌++◌, map};
 ghost use Rattle.journal.specs.Entries.{entry_is};
 ghost use Rattle.journal.specs.KeptLaws.{kept_nothing, kept_on};
 
+use crate::Entry;
 use crate::teller::Teller;
 use std::alloc::AllocError;
-use crate::Entry;
 
 /// All entries of a run, kept in order.
 #[derive(Drop)]

@@ -5,6 +5,7 @@ ghost use Rattle.std.specs.Option.{option_map};
 ghost use Rattle.journal.specs.Entries.{entry_is};
 ghost use Rattle.journal.specs.HeardFaults.{FaultHeard, last_on};
 
+use crate::Entry;
 use crate::faults::{fault_alone, fault_together};
 use pram_check::Program;
 use pram_meaning::Key;
@@ -17,7 +18,6 @@ use pram_meaning::team::Member;
 use pram_tokens::Location;
 use pram_values::Kind;
 use std::alloc::{AllocError, Global};
-use crate::Entry;
 
 /// The entry of the last statement of a program's run so far where it faults, and none otherwise: nothing is kept of what runs.
 #[derive(Drop)]

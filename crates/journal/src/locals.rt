@@ -8,13 +8,13 @@ ghost use Rattle.pram_meaning.specs.Sets.{member_is};
 ghost use Rattle.journal.specs.Changes.{change_at};
 ghost use Rattle.journal.specs.Locals as spec;
 
+use crate::{Change, LocalChange};
 use pram_check::StepTarget;
 use pram_meaning::action::StepAction;
 use pram_meaning::part::Part;
 use pram_meaning::team::{Member, value_in};
 use pram_meaning::view::number_at;
 use std::alloc::{AllocError, Global};
-use crate::{Change, LocalChange};
 
 // The local of the member of a number.
 fn local_of(team: &[Member], member: usize, local: usize) -> i64

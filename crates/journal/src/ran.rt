@@ -10,6 +10,7 @@ ghost use Rattle.journal.specs.Acts as acts;
 ghost use Rattle.journal.specs.RunEntries.{ran};
 ghost use Rattle.journal.specs.Locals as locals;
 
+use crate::Entry;
 use crate::acts::{acts_of, alone_acts};
 use crate::effects::{cells_changed, items_printed, variables_changed, written_alone};
 use crate::locals::locals_changed;
@@ -23,7 +24,6 @@ use pram_meaning::slate::Slate;
 use pram_meaning::team::Member;
 use pram_tokens::Location;
 use std::alloc::{AllocError, Global};
-use crate::Entry;
 
 /// That of the one processor outside pardo, whose attempt gives this.
 pub(crate) fn ran_alone(

@@ -8,6 +8,7 @@ ghost use Rattle.pram_meaning.specs.Sets.{state_in};
 ghost use Rattle.pram_meaning.specs.Together.{overwritten};
 ghost use Rattle.journal.specs.Changes.{difference};
 
+use crate::Change;
 use crate::differences::changes_between;
 use pram_check::{Program, StepTarget};
 use pram_meaning::action::StepAction;
@@ -16,7 +17,6 @@ use pram_meaning::run::Run;
 use pram_meaning::slate::Slate;
 use pram_meaning::together::overwrite;
 use std::alloc::{AllocError, Global};
-use crate::Change;
 
 // The cells that writes change, by the cells that they leave in a copy.
 fn cells_overwritten(

@@ -3,8 +3,8 @@
 ghost use Rattle.std.specs.Prelude.{◌≡◌, ◌∷◌, [], List, ◌++◌, OnOk, OnErr, false, true};
 ghost use Rattle.journal.specs.Entries as spec;
 
-use std::alloc::AllocError;
 use crate::Entry;
+use std::alloc::AllocError;
 
 /// Who is told what each statement of a run did, as the run goes. An entry is made for it and handed over, so of the whole run there is
 /// no more in memory than what it keeps.

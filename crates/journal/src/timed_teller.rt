@@ -2,9 +2,9 @@
 
 ghost use Rattle.std.specs.Prelude.{⊤};
 
+use crate::{Entry, Teller};
 use observing::Watch;
 use std::alloc::AllocError;
-use crate::{Entry, Teller};
 
 /// Counts the entries of a run, tells a watch how many there are, and breaks off when time is over. None passes unmade, since making them
 /// takes most of a telling's time.

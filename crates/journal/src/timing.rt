@@ -3,13 +3,13 @@
 ghost use Rattle.std.specs.Prelude.{◌≤◌};
 
 use crate::looker::Looker;
+use crate::tell_run;
 use crate::timed_teller::TimedTeller;
 use observing::{Nobody, Watch};
 use pram_check::Program;
 use pram_meaning::interpreter::Interpreter;
 use pram_meaning::open;
 use std::alloc::Global;
-use crate::tell_run;
 
 /// For how many statements of a program's run on an input, `bound` at most, there are so many milliseconds: the run is made for as long.
 /// `bound` where it is over before, is refused, or where nobody looks at a clock. How many there are on another day isn't said.

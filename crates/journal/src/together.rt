@@ -8,6 +8,7 @@ ghost use Rattle.pram_meaning.specs.Store.{seen_by};
 ghost use Rattle.journal.specs.Causes.{known_cause};
 ghost use Rattle.journal.specs.FoundCauses as spec;
 
+use crate::Cause;
 use crate::alone::cause_in;
 use crate::cells::cause_at_cell;
 use crate::seeing::view_of;
@@ -19,7 +20,6 @@ use pram_meaning::run::Run;
 use pram_meaning::team::Member;
 use pram_values::{Kind, Place, is_same};
 use std::alloc::{AllocError, Global};
-use crate::Cause;
 
 // Kinds by numbers, to compare them.
 fn kind_number(kind: Kind) -> u8

@@ -8,11 +8,11 @@ ghost use Rattle.journal.specs.Causes as told;
 ghost use Rattle.journal.specs.Answers.{IsFound};
 ghost use Rattle.journal.specs.FoundCauses as spec;
 
+use crate::Cause;
 use pram_check::Expression;
 use pram_meaning::view::{View, number_at};
 use pram_meaning::{apply, apply_before};
 use pram_trees::{Binary, Prefix};
-use crate::Cause;
 
 // What stands in a cell of a declaration.
 fn read(view: &View, entry: usize, subscript: i64) -> Result<i64, Cause>

@@ -11,13 +11,13 @@ ghost use Rattle.journal.specs.Costs.{step_of};
 ghost use Rattle.journal.specs.RunEntries.{HasItsFault, HasMemory, items_of, output_of, run_entries};
 ghost use Rattle.costs.specs.Steps.{run_steps};
 
+use crate::Entry;
 use crate::kept::Kept;
 use crate::telling::tell_run;
 use observing::Nobody;
 use pram_check::Program;
 use pram_meaning::MeaningRefusal;
 use std::alloc::Global;
-use crate::Entry;
 use write_rules::Outcome;
 
 /// Runs a program on an input, for at most `bound` statements, as [`pram_meaning::reference_run`]

@@ -6,9 +6,9 @@ ghost use Rattle.journal.specs.Entries.{entry_is};
 ghost use Rattle.journal.specs.Between.{KeepsBetween};
 ghost use Rattle.journal.specs.BetweenLaws.{between_nothing, between_on};
 
+use crate::Entry;
 use crate::teller::Teller;
 use std::alloc::AllocError;
-use crate::Entry;
 
 /// The entries of a run whose numbers, counted from 1, go from `first` to `last`, in order, and how many came so far.
 #[derive(Drop)]

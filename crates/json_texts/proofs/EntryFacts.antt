@@ -11,7 +11,7 @@ use Rattle.json_texts.specs.StepFacts.{step_within, steps_from}
 pub steps_at : (layout : List SharedEntry) (tree : ProgramTree) (source : List ℕ) (first last : ℕ) (es : List rust.Entry.Entry)
     (i before : ℕ)
     (e : rust.Entry.Entry) → i < length es → e ≡ get_or es i e → steps_from layout tree source first last (before + 1)
-        (map entry_is (drop i es)) ≡
+    (map entry_is (drop i es)) ≡
     step_within layout tree source first last (before + 1) (entry_is e)
     ++ steps_from layout tree source first last ((before + 1) + 1) (map entry_is (drop (i + 1) es))
 steps_at layout tree source first last es i before e below is =

@@ -13,7 +13,7 @@ use Rattle.json_texts.specs.TraceFacts.{way, way_facts}
 pub exchanges_at : (lines : List ℕ) (exchanges : List Exchange) (i : ℕ) → i < length exchanges →
     exchanges_from lines (i + 1) (drop i exchanges)
     ≡ exchange_facts (i + 1) (line_of lines (i + 1)) (exchange_at exchanges (i + 1)) ∷ exchanges_from lines (i + 1 + 1)
-        (drop (i + 1) exchanges)
+    (drop (i + 1) exchanges)
 exchanges_at lines exchanges i below =
     let same : i ≡ i + 1 - 1 = omega arith in
     ap (exchanges_from lines (i + 1)) (drop_more exchanges i no_exchange below)
@@ -51,4 +51,4 @@ small_cost (Some n) = (small_large 0 n, tt)
 pub readable_way : (v : Verdict) (cost : Option ℕ) → IsReadable (way_facts v cost)
 readable_way v cost =
     smaller 1 127 (way_facts v cost) (lit≤ tt) (small_object 0 ((codes "outcome", _) ∷ cost_fields cost)
-        (small_word 0 (way v), small_cost cost))
+    (small_word 0 (way v), small_cost cost))

@@ -23,7 +23,7 @@ small_one name (Some v) = (small_value 3 v, tt)
 small_both : (x y : Option ℤ) → HasSmall 3 (both_fields x y)
 small_both x y =
     has_all 3 (value_fields (codes "first") x) (value_fields (codes "second") y) (small_one (codes "first") x)
-        (small_one (codes "second") y)
+    (small_one (codes "second") y)
 
 small_ending_fields : (layout : List SharedEntry) (e : Ending) → HasSmall 0 (ending_fields layout e)
 small_ending_fields layout ending.Ended = (small_word 0 _, tt)

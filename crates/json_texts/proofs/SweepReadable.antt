@@ -19,7 +19,7 @@ small_counts_of n c = (small_count n _, (small_large n _, (small_count n _, (sma
 small_run : (n : ℕ) (c : Counts) → HasSmall n (most_fields c.most_exchanges c.most_words ++ count_fields c)
 small_run n c =
     has_all n (most_fields c.most_exchanges c.most_words) (count_fields c) (small_most n c.most_exchanges c.most_words)
-        (small_counts_of n c)
+    (small_counts_of n c)
 
 small_ending : (n : ℕ) (e : Ending) → HasSmall n (ending_fields e)
 small_ending n (Ended c) = (small_word n _, small_run n c)

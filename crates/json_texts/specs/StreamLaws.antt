@@ -60,7 +60,7 @@ module _ (layout : List SharedEntry) (tree : ProgramTree) (source : List ℕ) (f
     where
       by : (b : Bool) → nat_lt c last ≡ b → steps_from layout tree source first last ((c + 1) + 1) (xs ++ ys)
           ≡ steps_from layout tree source first last ((c + 1) + 1) xs ++ steps_from layout tree source first last
-              (passed last (c + 1) xs + 1) ys →
+          (passed last (c + 1) xs + 1) ys →
           steps_from layout tree source first last ((c + 1) + 1) (xs ++ ys) ≡ steps_from layout tree source first last ((c + 1) + 1) xs
           ++ steps_from layout tree source first last (passed last (if b then c + 1 else c) xs + 1) ys
       by true h go = go

@@ -8,10 +8,10 @@ ghost use Rattle.journal.specs.Entries.{act_is};
 ghost use Rattle.json_texts.specs.ActFacts as spec;
 
 use crate::fault::cell_text;
+use journal::{Act, Reading};
 use json_lines::{Object, Value, value_of};
 use pram_trees::Layout;
 use std::alloc::{AllocError, Global};
-use journal::{Act, Reading};
 
 // A cell by its name.
 fn cell_value(alloc: Global, layout: &Layout, cell: u32) -> Result<Value, AllocError>

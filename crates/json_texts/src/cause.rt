@@ -8,11 +8,11 @@ ghost use Rattle.journal.specs.Causes.{cause_is, known_cause};
 ghost use Rattle.journal.specs.Causes as told;
 ghost use Rattle.json_texts.specs.CauseFacts as spec;
 
+use journal::Cause;
 use json_lines::{Object, Value};
 use pram_printer::{binary_text, prefix_text};
 use pram_trees::{Binary, Layout, Prefix, Range};
 use std::alloc::{AllocError, Global};
-use journal::Cause;
 use write_rules::Write;
 
 // A write by its processor and its value.

@@ -9,11 +9,11 @@ ghost use Rattle.write_rules.specs.Verdict.{verdict_of};
 ghost use Rattle.json_texts.specs.CostFacts as spec;
 
 use crate::outcome::put_outcome;
+use costs::{Cost, LineCost};
 use json_lines::{Object, Value, line_of};
 use memory_texts::Choice;
 use pram_trees::Layout;
 use std::alloc::{AllocError, Global};
-use costs::{Cost, LineCost};
 use write_rules::Outcome;
 
 fn put_work(object: &mut Object, cost: &Cost) -> Result<(), AllocError>

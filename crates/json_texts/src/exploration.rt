@@ -10,9 +10,9 @@ ghost use Rattle.json_lines.specs.Shown.{shown};
 ghost use Rattle.json_texts.specs.ExplorationFacts as spec;
 
 use crate::fault::put_fault;
-use scopes::{Findings, FoundFault, Span};
 use json_lines::{Object, Value, line_of};
 use pram_trees::Layout;
+use scopes::{Findings, FoundFault, Span};
 use std::alloc::{AllocError, Global};
 
 // A fault, and the input on which it was met.

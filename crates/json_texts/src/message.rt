@@ -11,9 +11,9 @@ ghost use Rattle.help.specs.Messages.{message_is};
 ghost use Rattle.json_texts.specs.MessageFacts as spec;
 
 use crate::refusal::put_stop;
+use help::{Message, Other, Point};
 use json_lines::{Object, Value, line_of};
 use program_texts::Stop;
-use help::{Message, Other, Point};
 use std::alloc::{AllocError, Global};
 use text_places::place_of;
 

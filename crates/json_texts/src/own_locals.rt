@@ -6,11 +6,11 @@ ghost use Rattle.serde_json.specs.View.{view};
 ghost use Rattle.journal.specs.Entries.{own_is};
 ghost use Rattle.json_texts.specs.StepFacts as spec;
 
+use help::local_name;
+use journal::OwnLocals;
 use json_lines::{Object, Value};
 use pram_trees::Tree;
-use help::local_name;
 use std::alloc::{AllocError, Global};
-use journal::OwnLocals;
 
 // What a processor's local holds.
 fn held_facts(alloc: Global, processor: i64, name: &[u8], held: i64) -> Result<Value, AllocError>

@@ -9,9 +9,9 @@ ghost use Rattle.comparing.specs.Compared.{rules as all_rules};
 ghost use Rattle.json_texts.specs.RuleFacts as spec;
 
 use crate::fault::put_fault;
+use comparing::{Finding, UnderRules};
 use json_lines::{Object, Value, line_of};
 use pram_trees::{Layout, Rule};
-use comparing::{UnderRules, Finding};
 use std::alloc::{AllocError, Global};
 
 /// The rules, in the order in which they are compared.

@@ -17,12 +17,12 @@ use crate::cause::put_known;
 use crate::fault::{cell_text, put_fault};
 use crate::outcome::outcome_value;
 use crate::own_locals::own_facts;
+use help::{local_name, variable_name};
+use journal::{Act, Cause, Change, Entry, LocalChange};
 use json_lines::{Object, Value, line_of, push_line};
 use memory_texts::Choice;
 use pram_trees::{Layout, Location, Tree};
-use help::{local_name, variable_name};
 use std::alloc::{AllocError, Global};
-use journal::{Act, Cause, Change, Entry, LocalChange};
 use text_places::place_of;
 use write_rules::{Fault, Outcome};
 
@@ -337,7 +337,7 @@ pub fn json_steps(
     // again.
     ensures json { IfOk result (λ text. IsJson
         (spec.steps_facts layout.now tree.now source.now (verdict_of outcome.now) (map entry_is entries.now) first last)
-            (string_bytes text)) }
+        (string_bytes text)) }
 {
     let mut text = steps_text(alloc, layout, tree, source, entries, first, last)?;
     push_outcome(alloc, &mut text, layout, outcome)?;

@@ -12,8 +12,8 @@ ghost use Rattle.json_texts.specs.Streams.{Breaks, Streams};
 
 use crate::asked::Asked;
 use crate::json_step;
-use std::alloc::{AllocError, Global};
 use journal::{Entry, Teller};
+use std::alloc::{AllocError, Global};
 use text_out::Out;
 
 /// Writes the lines that are asked for of a run's entries as these come, and keeps none: how many were counted so far, and whether the

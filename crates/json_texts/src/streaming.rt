@@ -12,11 +12,11 @@ ghost use Rattle.json_texts.specs.Streams.{PrintsFirst, Streams};
 
 use crate::asked::Asked;
 use crate::stream::Stream;
+use journal::tell_run;
 use observing::Watch;
 use pram_check::Program;
 use pram_meaning::MeaningRefusal;
 use std::alloc::Global;
-use journal::tell_run;
 use step_text::StreamFailure;
 use text_out::Out;
 use write_rules::Outcome;

@@ -9,9 +9,9 @@ ghost use Rattle.sweeps.specs.GrowthText.{growth_words};
 ghost use Rattle.json_texts.specs.SweepFacts as spec;
 
 use crate::cost::put_most;
-use sweeps::{Counts, Ending, Growth, Growths, SizeRow, write_growth_words};
 use json_lines::{Object, Value, push_line};
 use std::alloc::{AllocError, Global};
+use sweeps::{Counts, Ending, Growth, Growths, SizeRow, write_growth_words};
 use text_out::{Buffer, Out, WriteFault};
 
 fn put_counts(object: &mut Object, counts: &Counts) -> Result<(), AllocError>

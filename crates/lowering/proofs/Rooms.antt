@@ -158,8 +158,11 @@ module _ (s : Names) (few : s.uniforms + 1 ≤ 2 ^ 16) (fewer : local_count s.lo
 module _ (s : Names) (few : s.uniforms + 1 ≤ 2 ^ 16) (fewer : local_count s.locals + 2 ≤ 2 ^ 16) (short : length s.layout ≤ 2 ^ 16) where
   assign_room : (free : ℕ) (x : Target) (e : Expression) → IsAssign s x e → free + target_nodes x + nodes e + 10 ≤ 2 ^ 16 →
       IsAssignRoom x (formula_of e) free
-  assign_room free (target.Uniform x) e h m = let k = h.0 in (omega (arith, k, few), sole_room s few fewer short free e h.1
-      (omega (arith, m)))
+  assign_room free (target.Uniform x) e h m = let k = h.0 in (
+    omega (arith, k, few),
+    sole_room s few fewer short free e h.1
+        (omega (arith, m)),
+  )
   assign_room free (target.Cell a) e h m = (cell_below s few fewer short a h.0, cell_room s few fewer short free e h.1 (omega (arith, m)))
   assign_room free (target.Element a i) e h m =
       (array_below s few fewer short a h.0, pair_room s few fewer short free i e h.1 (omega (arith, m)))

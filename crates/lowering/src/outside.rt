@@ -36,7 +36,7 @@ fn pardo(
     requires body { StepsHaveRoom (registers.behind_locals locals) body.now.items }
     requires short { length out.old.instructions + length
         (blocks.pardo free (length out.old.instructions) out.old.held line (formula_of low.now) (formula_of high.now) locals body.now.items)
-            < 2 ^ 16 }
+        < 2 ^ 16 }
     ensures { OnOk result (out.new ≡ wrote
         (blocks.pardo free (length out.old.instructions) out.old.held line (formula_of low.now) (formula_of high.now) locals body.now.items)
         (blocks.pardo_left out.old.held (formula_of low.now) (formula_of high.now) body.now.items) out.old) }

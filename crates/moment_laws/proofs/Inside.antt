@@ -96,17 +96,17 @@ module _ (p : Checked) (n k : ℕ) (more : n ≤ k) where
 
     inner_row_run : {q : _} (ss : Row_of-Step q) (vs : List ℕ) (m : State) → m.count ≤ n →
         IsRun n k m (inner_row_moments p n ss vs m) (inner_row_moments p k ss vs m) (perform_row_on p n ss vs m)
-            (perform_row_on p k ss vs m)
+        (perform_row_on p k ss vs m)
     inner_row_run end_of-Step vs m low = run_none n k done m low
     inner_row_run (more_of-Step s ss) vs m low =
         run_then n k m (inner_moments p n s vs m) (inner_moments p k s vs m) (perform_on p n s vs m) (perform_on p k s vs m)
         (λ u. inner_row_moments p n ss vs) (λ u. inner_row_moments p k ss vs) (λ u. perform_row_on p n ss vs)
-            (λ u. perform_row_on p k ss vs)
+        (λ u. perform_row_on p k ss vs)
         (inner_run s vs m low) (λ u m i g. inner_row_run ss vs m g)
 
   pub inner_list_run : (ss : List Step) (vs : List ℕ) (m : State) → m.count ≤ n →
       IsRun n k m (inner_list_moments p n ss vs m) (inner_list_moments p k ss vs m) (perform_list_on p n ss vs m)
-          (perform_list_on p k ss vs m)
+      (perform_list_on p k ss vs m)
   inner_list_run [] vs m low = run_none n k done m low
   inner_list_run (s ∷ ss) vs m low =
       run_then n k m (inner_moments p n s vs m) (inner_moments p k s vs m) (perform_on p n s vs m) (perform_on p k s vs m)

@@ -94,7 +94,7 @@ module _ {A B : Type 0} (here : Location) (act : Action) (write : A → Option �
   alone_run keeps n k m more low =
       let f : State → Moment = λ m. Alone here act m (writing write (a m)) (left_by left (a m) m) in
       subst (λ b. IsRun n k m (begun n m f) (begun k m f) b (then_do (evaluated k here.line a m) (λ v m. Goes (give v) (left v m))))
-          (flat n m)
+      (flat n m)
       (subst (λ c. IsRun n k m (begun n m f) (begun k m f) (then_do (counted n m) finish) c) (flat k m)
       (begun_run n k m f finish (λ m. refl) more low (λ h. alone_done keeps n m h (a (one_more m)))))
 
@@ -120,7 +120,7 @@ pub setting_run : (here : Location) (x : ℕ) (v : ℤ) (n k : ℕ) (m : State) 
     (then_do (counted n m) (λ u m. Goes done (with_uniform x v m))) (then_do (counted k m) (λ u m. Goes done (with_uniform x v m)))
 setting_run here x v n k m more low =
     begun_run n k m (λ m. Alone here (Sets x) m (Gives [] None) (with_uniform x v m)) (λ u m. Goes done (with_uniform x v m))
-        (λ m. refl) more low
+    (λ m. refl) more low
     (λ h. (((counted_store m, refl), uniform_left x v (one_more m), lead_none (with_uniform x v (one_more m))), omega (arith, h)))
 
 -- ---- inside
@@ -146,7 +146,7 @@ module _ {B : Type 0} (p : Checked) (here : Location) (act : StepAction) (left :
     where
       by : (z : Bool) → then_do (if z then Goes done (one_more m) else Reaches m.output) finish_on ≡
           then_do (then_do (if z then Goes done (one_more m) else Reaches m.output)
-              (λ u m. valued (together p here.line (parts p m a vs)) m))
+          (λ u m. valued (together p here.line (parts p m a vs)) m))
           (λ xs m. Goes (give xs) (left xs m))
       by true = refl
       by false = refl
@@ -162,7 +162,7 @@ module _ {B : Type 0} (p : Checked) (here : Location) (act : StepAction) (left :
   set_run keeps n k m more low =
       let f : State → Moment = λ m. by_set here act left m (parts p m a vs) (least (keys p.rule (parts p m a vs))) in
       subst (λ b. IsRun n k m (begun n m f) (begun k m f) b
-          (then_do (attempted_on p k here.line a vs m) (λ xs m. Goes (give xs) (left xs m))))
+      (then_do (attempted_on p k here.line a vs m) (λ xs m. Goes (give xs) (left xs m))))
       (flat_on n m)
       (subst (λ c. IsRun n k m (begun n m f) (begun k m f) (then_do (counted n m) finish_on) c) (flat_on k m)
       (begun_run n k m f finish_on (λ m. one_set m (parts p m a vs) (least (keys p.rule (parts p m a vs)))) more low

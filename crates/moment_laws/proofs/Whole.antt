@@ -125,10 +125,10 @@ final_back p input n k v is final few = by (cases_lt k n)
     at : k < n → (w : Verdict) → IsOutcome p input k w → IsOutcome p input k v
     at h (Ended output memory) o =
         subst (IsOutcome p input k) (one p input n v (Ended output memory) is (kept p input k n (Ended output memory) o tt
-            (omega (arith, h)))) o
+        (omega (arith, h)))) o
     at h (Faulted fault output) o =
         subst (IsOutcome p input k) (one p input n v (Faulted fault output) is (kept p input k n (Faulted fault output) o tt
-            (omega (arith, h)))) o
+        (omega (arith, h)))) o
     at h (GoesOn output) o = absurd (let a = more_behind p input k n output o h in omega (arith, a, few))
 
     by : (k < n) ⊎ (n ≤ k) → IsOutcome p input k v

@@ -5,8 +5,8 @@ ghost use Rattle.pram_meaning.specs.Listening.{HasHeard};
 ghost use Rattle.pram_meaning.specs.Moments.{list_moments};
 ghost use Rattle.pram_meaning.specs.Runs.{IsBehaviour, state_of};
 
-use crate::watched::Watched;
 use crate::Watch;
+use crate::watched::Watched;
 use pram_meaning::interpreter::Interpreter;
 use pram_meaning::listener::Listener;
 use pram_meaning::run::{Halt, Run};

@@ -5,8 +5,8 @@ ghost use Rattle.pram_model.specs.Layout.{total_size};
 ghost use Rattle.write_rules.specs.Verdict.{verdict_of};
 ghost use Rattle.pram_meaning.specs.Outcome.{IsOutcome};
 
-use crate::watched::Watched;
 use crate::Watch;
+use crate::watched::Watched;
 use pram_check::Program;
 use pram_meaning::interpreter::Interpreter;
 use pram_meaning::run::Halt;

@@ -101,7 +101,7 @@ read_tokens : (d : Data) (text : List ℕ) → depth d ≤ 127 → tokens text �
 read_tokens d text shallow is =
     let deep : tree.depth (outline d) ≡ depth d = depths d in
     ap (λ o. option_and_then of_json (option_and_then (λ p. json.if_last p.0 p.1) o))
-        (ap (json.value max_depth) (is ∙ sym (append-nil (tree.json_tokens (outline d))))
+    (ap (json.value max_depth) (is ∙ sym (append-nil (tree.json_tokens (outline d))))
     ∙ value-json_tokens (outline d) max_depth [] (omega (arith, deep, shallow)))
 
 read_compact : (d : Data) → HasIntegers d → depth d ≤ 127 → read (compact_text d) ≡ of_json (outline d)
@@ -185,7 +185,7 @@ end_is n m h g =
     let there : embedded second ≡ codes ",\"left_out\":" ++ (decimal m ++ 125 ∷ []) =
     middle_is (decimal m ++ 125 ∷ []) ∙ ap (λ t. codes ",\"left_out\":" ++ t) (number_is m (125 ∷ []) g) in
     let whole : embedded (compact_text (gap_fact n m)) ≡ codes "{\"behind\":" ++
-        (decimal n ++ (codes ",\"left_out\":" ++ (decimal m ++ 125 ∷ []))) =
+    (decimal n ++ (codes ",\"left_out\":" ++ (decimal m ++ 125 ∷ []))) =
     front_is (decimal n ++ second) ∙ ap (λ t. codes "{\"behind\":" ++ t) (number_is n second h ∙ ap (λ t. decimal n ++ t) there) in
     sym (ap (λ t. t ++ 93 ∷ []) whole
     ∙ ap (λ t. codes "{\"behind\":" ++ t) (append_assoc (decimal n) (codes ",\"left_out\":" ++ (decimal m ++ 125 ∷ [])) (93 ∷ [])
@@ -270,7 +270,7 @@ module _ (facts : List Data) (told : AreRead facts) (back : AllByRecursion Reads
       ap₂ (λ l r. both_text l (state_shown (json_lines states) from to) r count) first.front last.back
       ∙ ap (λ s. both_text (json_lines (take a facts)) s (json_lines (drop k facts)) count) (chosen_lines (has_state from to) states)
       ∙ ap₂ (λ x y. embedded (json_lines (take a facts)) ++
-          (embedded (json_lines (those from to)) ++ (embedded (json_lines (drop k facts)) ++ gap_text x y)))
+      (embedded (json_lines (those from to)) ++ (embedded (json_lines (drop k facts)) ++ gap_text x y)))
       firsts (ap₂ (λ x y. x - y) others lasts ∙ left)
       ∙ ap (λ t. embedded (json_lines (take a facts)) ++ t) (both_is (those from to) (drop k facts) a (k - a))
       ∙ both_is (take a facts) (those from to ++ drop k facts) a (k - a)
@@ -333,7 +333,7 @@ module _ (facts : List Data) (told : AreRead facts) (back : AllByRecursion Reads
       by (inr over) =
           let inside : to ≤ length (json_lines facts) = cut.last.within in
           let e : length (json_lines facts) ≡ to = omega (arith, inside, over) in subst (BeginsLine (json_lines facts)) e
-              (whole_begins facts)
+          (whole_begins facts)
 
   none_between : (from : ℕ) → those from from ≡ []
   none_between from = ap (λ b. if b && nat_le (length (embedded (json_lines states))) state_room then states else [])
@@ -354,7 +354,7 @@ module _ (facts : List Data) (told : AreRead facts) (back : AllByRecursion Reads
             ∙ (shown_is from from a a w.2 w.2 (omega arith)).reads
             ∙ ap₂ (λ s n. Some (list (take a facts ++ (s ++ (drop a facts ++ gap_fact a n ∷ []))))) (none_between from) none
             ∙ ap (λ l. Some (list l)) (sym (append_assoc (take a facts) (drop a facts) gap) ∙ ap (λ l. l ++ gap)
-                (take-append-drop a facts)),
+            (take-append-drop a facts)),
       )
 
 told_read : (facts : List Data) (text : List ℕ) → AreTold facts → IsJson facts text → AreRead facts
@@ -371,7 +371,7 @@ cut_facts_are_read facts states text state from to told told_states says also fe
 pub facts_are_read : FactsAreRead
 facts_are_read facts states text state from to told told_states says also few cut =
     subst (λ s. length (embedded text) ≤ room → (a : ℕ) × (read (codes "[" ++ facts_text text s from to) ≡ Some
-        (list (facts ++ gap_fact a 0 ∷ []))))
+    (list (facts ++ gap_fact a 0 ∷ []))))
     (sym also.whole)
     (subst (λ t. IsCut t from to → length (embedded t) ≤ room →
     (a : ℕ) × (read (codes "[" ++ facts_text t (json_lines states) from to) ≡ Some (list (facts ++ gap_fact a 0 ∷ [])))) (sym says.whole)

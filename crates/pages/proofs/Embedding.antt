@@ -35,8 +35,13 @@ no_tag_byte b = by (b == 60) refl
     by : (c : Bool) → (b == 60) ≡ c → HasNoTag (if c then codes "\\u003c" else (if b == 10 then codes "," else b ∷ []))
     by true is = (
       (λ h. omega (arith, h)),
-      ((λ h. omega (arith, h)), ((λ h. omega (arith, h)),
-          ((λ h. omega (arith, h)), ((λ h. omega (arith, h)), ((λ h. omega (arith, h)), tt))))),
+      (
+        (λ h. omega (arith, h)),
+        (
+          (λ h. omega (arith, h)),
+          ((λ h. omega (arith, h)), ((λ h. omega (arith, h)), ((λ h. omega (arith, h)), tt))),
+        ),
+      ),
     )
     by false is = other (b == 10) (eqb-false b 60 is)
 

@@ -102,11 +102,11 @@ token_same (number s) r h k e f same =
     ∙ ap (λ l. token (number s) ∷ l) same ∙ sym (lex-number s r h (e refl))
 token_same (boolean true) r h k e f same =
     ap₂ (λ b l. token (cond b (boolean true) bad) ∷ l) (f refl) (in_word-ended (embedded r) (f refl)) ∙ ap
-        (λ l. token (boolean true) ∷ l) same
+    (λ l. token (boolean true) ∷ l) same
     ∙ sym (ap₂ (λ b l. token (cond b (boolean true) bad) ∷ l) (e refl) (in_word-ended r (e refl)))
 token_same (boolean false) r h k e f same =
     ap₂ (λ b l. token (cond b (boolean false) bad) ∷ l) (f refl) (in_word-ended (embedded r) (f refl)) ∙ ap
-        (λ l. token (boolean false) ∷ l) same
+    (λ l. token (boolean false) ∷ l) same
     ∙ sym (ap₂ (λ b l. token (cond b (boolean false) bad) ∷ l) (e refl) (in_word-ended r (e refl)))
 token_same null r h k e f same =
     ap₂ (λ b l. token (cond b null bad) ∷ l) (f refl) (in_word-ended (embedded r) (f refl)) ∙ ap (λ l. token null ∷ l) same

@@ -159,7 +159,7 @@ digit_stays n below = plain_byte (48 + n) (λ e. omega (arith, e))
 decimal_stays : (n : ℕ) → n < 2 ^ 64 → line_count (decimal n) ≡ 0
 decimal_stays = decimal_by_steps (λ n ds. line_count ds ≡ 0) digit_stays
     (λ n ds low h. let a = line_count-append ds ((48 + n % 10) ∷ []) in let b = digit_stays (n % 10) (omega arith) in omega
-        (arith, a, b, h))
+    (arith, a, b, h))
 
 comma_stays : (later : Bool) → line_count (comma_if later) ≡ 0
 comma_stays true = refl

@@ -48,8 +48,14 @@ small_pardo p = small_object 1 ((codes "line", _) ∷ (codes "offset", _) ∷ (c
   small_count 1 p.begins.line,
   (
     small_count 1 p.begins.offset,
-    (small_letters 1 p.index.text, (small_list 0 (map name_fact p.locals) (small_map 0 name_fact (λ x. small_letters 0 x.text)
-        p.locals), tt)),
+    (
+      small_letters 1 p.index.text,
+      (
+        small_list 0 (map name_fact p.locals) (small_map 0 name_fact (λ x. small_letters 0 x.text)
+            p.locals),
+        tt,
+      ),
+    ),
   ),
 )
 

@@ -174,7 +174,7 @@ passes x = go (cases_eq x 34) (cases_eq x 92) (cases_eq x 60) (cases_lt x 32)
 in_front : (x : ℕ) (s r : List ℕ) → embedded (escape (x ∷ s)) ++ 34 ∷ r ≡ embedded (escape_byte x) ++ (embedded (escape s) ++ 34 ∷ r)
 in_front x s r =
     ap (λ l. l ++ 34 ∷ r) (embedded-append (escape_byte x) (escape s)) ∙ append_assoc (embedded (escape_byte x))
-        (embedded (escape s)) (34 ∷ r)
+    (embedded (escape s)) (34 ∷ r)
 
 pub content_embedded : (s r : List ℕ) → content plain (embedded (escape s) ++ 34 ∷ r) ≡ Some s
 unfolding content

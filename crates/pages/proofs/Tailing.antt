@@ -78,7 +78,7 @@ limit_most false = omega arith
 -- the byte before `at` has no room any more
 pub tailing_full : (facts : List ℕ) (before size whole taken d : ℕ) (has_line : Bool) → Tailing facts (before + 1) size whole taken →
     limit has_line < size + width (get_or facts before d) → (has_line ≡ false → whole ≡ length facts) →
-        (has_line ≡ true → whole < length facts) →
+    (has_line ≡ true → whole < length facts) →
     IsBack facts whole
 tailing_full facts before size whole taken d has_line c full none some = record {
   within = c.inside;

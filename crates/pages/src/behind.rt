@@ -6,11 +6,11 @@ ghost use Rattle.pages.specs.Gathered.{IsBehind};
 ghost use Rattle.pages.specs.Pages.{IsStateBehind};
 
 use crate::replayer::Replayer;
+use crate::{RunState, state_line};
+use journal::tell_run;
 use observing::Watch;
 use pram_check::Program;
 use std::alloc::{AllocError, Global};
-use journal::tell_run;
-use crate::{RunState, state_line};
 
 // Runs a program on an input that fits, to the state behind so many statements.
 fn state_behind<V: Watch>(

@@ -9,10 +9,10 @@ ghost use Rattle.pages.specs.GatheredLaws.{gathers_nothing, gathers_on};
 ghost use Rattle.pages.specs.Gathered.{Gathers};
 
 use crate::asked::Asked;
+use crate::{KeptLines, RunState};
+use journal::{Entry, Teller};
 use json_texts::json_step;
 use std::alloc::{AllocError, Global};
-use journal::{Entry, Teller};
-use crate::{KeptLines, RunState};
 
 /// Makes the changes of the entries before the first one that is asked for, and keeps of the lines of those that are asked for as many
 /// as could stand in a page; how many entries came so far.

@@ -8,11 +8,11 @@ ghost use Rattle.pages.specs.Gathered.{IsGathered};
 
 use crate::asked::Asked;
 use crate::gatherer::Gatherer;
+use crate::{KeptLines, RunState};
+use journal::tell_run;
 use observing::Watch;
 use pram_check::Program;
 use std::alloc::{AllocError, Global};
-use journal::tell_run;
-use crate::{KeptLines, RunState};
 use write_rules::Outcome;
 
 /// How many entries a run has, the state before the first one that is asked for, and the lines of those that are.

@@ -5,9 +5,9 @@ ghost use Rattle.std.specs.Prelude.{⊤, ◌≡◌, refl};
 ghost use Rattle.pages.specs.GatheredLaws.{replays_nothing, replays_as};
 ghost use Rattle.pages.specs.Gathered.{Replays};
 
-use std::alloc::AllocError;
-use journal::{Entry, Teller};
 use crate::RunState;
+use journal::{Entry, Teller};
+use std::alloc::AllocError;
 
 /// Makes the changes of the entries up to the `last` one, and lets the others pass; how many came so far.
 #[derive(Drop)]

@@ -8,11 +8,11 @@ ghost use Rattle.pages.specs.Paged.{KeepsFacts};
 
 use crate::asked::Asked;
 use crate::gathering::Gathered;
+use crate::{KeptLines, RunState, opening_line, state_line};
 use json_texts::json_outcome;
 use memory_texts::Choice;
 use pram_check::Program;
 use std::alloc::{AllocError, Global};
-use crate::{KeptLines, RunState, opening_line, state_line};
 use write_rules::Outcome;
 
 // The state behind the statements before the first one that is asked for.

@@ -8,9 +8,9 @@ ghost use Rattle.journal.specs.Entries.{entry_is};
 ghost use Rattle.journal.specs.Replay as replay;
 ghost use Rattle.pages.specs.State as spec;
 
+use journal::{Change, Entry};
 use json_lines::{Object, Value, line_of};
 use std::alloc::{AllocError, Global};
-use journal::{Change, Entry};
 
 // Puts zeros behind values, up to a number.
 fn put_zeros(values: &mut Vec<i64>, at: usize) -> Result<(), AllocError>

@@ -10,12 +10,12 @@ ghost use Rattle.pages.specs.Streamed.{HasStreamedPage, IsPageOfRun};
 
 use crate::asked::Asked;
 use crate::behind::state_if;
-use crate::run_facts::keep_facts;
 use crate::gathering::gather;
+use crate::run_facts::keep_facts;
+use crate::{Kept, KeptLines, write_page};
 use observing::Watch;
 use pram_check::Program;
 use std::alloc::{AllocError, Global};
-use crate::{Kept, KeptLines, write_page};
 use step_text::StreamFailure;
 use text_out::Out;
 use write_rules::Outcome;

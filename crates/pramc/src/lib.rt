@@ -1,10 +1,10 @@
 //! Programs compiled, run and shown, and the whole command, but for the system's files and streams.
 #![tactic(auto)]
 
-pub use observing::Watch;
 pub use command_line::{Terminal, command};
 pub use command_words::CommandLine;
 pub use exchange_counts::{Count, Counts};
+pub use observing::Watch;
 pub use program_runs::{
     Report, compile, compile_program, run_code, run_program, run_text, run_text_reserved,
 };

@@ -1,8 +1,8 @@
 //! The line of a terminal that says how far a call is.
 
-use observing::Watch;
 use crossbeam_utils::atomic::AtomicCell;
 use itoa::Buffer;
+use observing::Watch;
 use std::sync::Wait;
 use std::time::{Clock, Instant};
 use workers::Gate;

@@ -37,52 +37,270 @@ record Judged (i j : Instr) : Type 0 where
   pub led : (k v : ℕ) → Leads i k v → Leads j k v
 
 judged : (p : ℕ → ℕ) (i : Instr) → Judged i (renamed p i)
-judged p (Mark line) = record { entry = λ c. refl; mode = λ z. refl; masks = λ z. refl; exchange = λ z. refl; goes = refl; after = λ z.
-    refl; mark = refl; leads = λ k v h. h; led = λ k v h. h }
-judged p (Set s d n) = record { entry = λ c. refl; mode = λ z. refl; masks = λ z. refl; exchange = λ z. refl; goes = refl; after = λ z.
-    refl; mark = refl; leads = λ k v h. h; led = λ k v h. h }
-judged p (Copy s d x) = record { entry = λ c. refl; mode = λ z. refl; masks = λ z. refl; exchange = λ z. refl; goes = refl; after = λ z.
-    refl; mark = refl; leads = λ k v h. h; led = λ k v h. h }
-judged p (Negate s d x q) = record { entry = λ c. refl; mode = λ z. refl; masks = λ z. refl; exchange = λ z. refl; goes = refl; after = λ z.
-    refl; mark = refl; leads = λ k v h. h; led = λ k v h. h }
-judged p (Calculate s o d a b q) = record { entry = λ c. refl; mode = λ z. refl; masks = λ z. refl; exchange = λ z. refl; goes = refl;
-    after = λ z. refl; mark = refl; leads = λ k v h. h; led = λ k v h. h }
-judged p (Decide s o d a b) = record { entry = λ c. refl; mode = λ z. refl; masks = λ z. refl; exchange = λ z. refl; goes = refl; after =
-    λ z. refl; mark = refl; leads = λ k v h. h; led = λ k v h. h }
-judged p (Not s d x) = record { entry = λ c. refl; mode = λ z. refl; masks = λ z. refl; exchange = λ z. refl; goes = refl; after = λ z.
-    refl; mark = refl; leads = λ k v h. h; led = λ k v h. h }
-judged p (CopyUniform d s) = record { entry = λ c. refl; mode = λ z. refl; masks = λ z. refl; exchange = λ z. refl; goes = refl; after =
-    λ z. refl; mark = refl; leads = λ k v h. h; led = λ k v h. h }
-judged p (Index d) = record { entry = λ c. refl; mode = λ z. refl; masks = λ z. refl; exchange = λ z. refl; goes = refl; after = λ z. refl;
-    mark = refl; leads = λ k v h. h; led = λ k v h. h }
-judged p (Enter a b q) = record { entry = λ c. refl; mode = λ z. refl; masks = λ z. refl; exchange = λ z. refl; goes = refl; after = λ z.
-    refl; mark = refl; leads = λ k v h. h; led = λ k v h. h }
-judged p Leave = record { entry = λ c. refl; mode = λ z. refl; masks = λ z. refl; exchange = λ z. refl; goes = refl; after = λ z. refl;
-    mark = refl; leads = λ k v h. h; led = λ k v h. h }
-judged p (Mask s) = record { entry = λ c. refl; mode = λ z. refl; masks = λ z. refl; exchange = λ z. refl; goes = refl; after = λ z. refl;
-    mark = refl; leads = λ k v h. h; led = λ k v h. h }
-judged p Flip = record { entry = λ c. refl; mode = λ z. refl; masks = λ z. refl; exchange = λ z. refl; goes = refl; after = λ z. refl;
-    mark = refl; leads = λ k v h. h; led = λ k v h. h }
-judged p Unmask = record { entry = λ c. refl; mode = λ z. refl; masks = λ z. refl; exchange = λ z. refl; goes = refl; after = λ z. refl;
-    mark = refl; leads = λ k v h. h; led = λ k v h. h }
-judged p (Ask s d c x q) = record { entry = λ c. refl; mode = λ z. refl; masks = λ z. refl; exchange = λ z. refl; goes = refl; after = λ z.
-    refl; mark = refl; leads = λ k v h. h; led = λ k v h. h }
-judged p (Put s c x v q) = record { entry = λ c. refl; mode = λ z. refl; masks = λ z. refl; exchange = λ z. refl; goes = refl; after = λ z.
-    refl; mark = refl; leads = λ k v h. h; led = λ k v h. h }
-judged p Send = record { entry = λ c. refl; mode = λ z. refl; masks = λ z. refl; exchange = λ z. refl; goes = refl; after = λ z. refl;
-    mark = refl; leads = λ k v h. h; led = λ k v h. h }
-judged p Reply = record { entry = λ c. refl; mode = λ z. refl; masks = λ z. refl; exchange = λ z. refl; goes = refl; after = λ z. refl;
-    mark = refl; leads = λ k v h. h; led = λ k v h. h }
-judged p (Vote d) = record { entry = λ c. refl; mode = λ z. refl; masks = λ z. refl; exchange = λ z. refl; goes = refl; after = λ z. refl;
-    mark = refl; leads = λ k v h. h; led = λ k v h. h }
-judged p (Print s) = record { entry = λ c. refl; mode = λ z. refl; masks = λ z. refl; exchange = λ z. refl; goes = refl; after = λ z. refl;
-    mark = refl; leads = λ k v h. h; led = λ k v h. h }
-judged p (Jump t) = record { entry = λ c. refl; mode = λ z. refl; masks = λ z. refl; exchange = λ z. refl; goes = refl; after = λ z. refl;
-    mark = refl; leads = λ k v h. h; led = λ k v h. h }
-judged p (JumpIfZero s t) = record { entry = λ c. refl; mode = λ z. refl; masks = λ z. refl; exchange = λ z. refl; goes = refl; after = λ z.
-    refl; mark = refl; leads = λ k v h. h; led = λ k v h. h }
-judged p Halt = record { entry = λ c. refl; mode = λ z. refl; masks = λ z. refl; exchange = λ z. refl; goes = refl; after = λ z. refl;
-    mark = refl; leads = λ k v h. h; led = λ k v h. h }
+judged p (Mark line) = record {
+  entry = λ c. refl;
+  mode = λ z. refl;
+  masks = λ z. refl;
+  exchange = λ z. refl;
+  goes = refl;
+  after = λ z.
+      refl;
+  mark = refl;
+  leads = λ k v h. h;
+  led = λ k v h. h;
+}
+judged p (Set s d n) = record {
+  entry = λ c. refl;
+  mode = λ z. refl;
+  masks = λ z. refl;
+  exchange = λ z. refl;
+  goes = refl;
+  after = λ z.
+      refl;
+  mark = refl;
+  leads = λ k v h. h;
+  led = λ k v h. h;
+}
+judged p (Copy s d x) = record {
+  entry = λ c. refl;
+  mode = λ z. refl;
+  masks = λ z. refl;
+  exchange = λ z. refl;
+  goes = refl;
+  after = λ z.
+      refl;
+  mark = refl;
+  leads = λ k v h. h;
+  led = λ k v h. h;
+}
+judged p (Negate s d x q) = record {
+  entry = λ c. refl;
+  mode = λ z. refl;
+  masks = λ z. refl;
+  exchange = λ z. refl;
+  goes = refl;
+  after = λ z.
+      refl;
+  mark = refl;
+  leads = λ k v h. h;
+  led = λ k v h. h;
+}
+judged p (Calculate s o d a b q) = record {
+  entry = λ c. refl;
+  mode = λ z. refl;
+  masks = λ z. refl;
+  exchange = λ z. refl;
+  goes = refl;
+  after = λ z. refl;
+  mark = refl;
+  leads = λ k v h. h;
+  led = λ k v h. h;
+}
+judged p (Decide s o d a b) = record {
+  entry = λ c. refl;
+  mode = λ z. refl;
+  masks = λ z. refl;
+  exchange = λ z. refl;
+  goes = refl;
+  after =
+      λ z. refl;
+  mark = refl;
+  leads = λ k v h. h;
+  led = λ k v h. h;
+}
+judged p (Not s d x) = record {
+  entry = λ c. refl;
+  mode = λ z. refl;
+  masks = λ z. refl;
+  exchange = λ z. refl;
+  goes = refl;
+  after = λ z.
+      refl;
+  mark = refl;
+  leads = λ k v h. h;
+  led = λ k v h. h;
+}
+judged p (CopyUniform d s) = record {
+  entry = λ c. refl;
+  mode = λ z. refl;
+  masks = λ z. refl;
+  exchange = λ z. refl;
+  goes = refl;
+  after =
+      λ z. refl;
+  mark = refl;
+  leads = λ k v h. h;
+  led = λ k v h. h;
+}
+judged p (Index d) = record {
+  entry = λ c. refl;
+  mode = λ z. refl;
+  masks = λ z. refl;
+  exchange = λ z. refl;
+  goes = refl;
+  after = λ z. refl;
+  mark = refl;
+  leads = λ k v h. h;
+  led = λ k v h. h;
+}
+judged p (Enter a b q) = record {
+  entry = λ c. refl;
+  mode = λ z. refl;
+  masks = λ z. refl;
+  exchange = λ z. refl;
+  goes = refl;
+  after = λ z.
+      refl;
+  mark = refl;
+  leads = λ k v h. h;
+  led = λ k v h. h;
+}
+judged p Leave = record {
+  entry = λ c. refl;
+  mode = λ z. refl;
+  masks = λ z. refl;
+  exchange = λ z. refl;
+  goes = refl;
+  after = λ z. refl;
+  mark = refl;
+  leads = λ k v h. h;
+  led = λ k v h. h;
+}
+judged p (Mask s) = record {
+  entry = λ c. refl;
+  mode = λ z. refl;
+  masks = λ z. refl;
+  exchange = λ z. refl;
+  goes = refl;
+  after = λ z. refl;
+  mark = refl;
+  leads = λ k v h. h;
+  led = λ k v h. h;
+}
+judged p Flip = record {
+  entry = λ c. refl;
+  mode = λ z. refl;
+  masks = λ z. refl;
+  exchange = λ z. refl;
+  goes = refl;
+  after = λ z. refl;
+  mark = refl;
+  leads = λ k v h. h;
+  led = λ k v h. h;
+}
+judged p Unmask = record {
+  entry = λ c. refl;
+  mode = λ z. refl;
+  masks = λ z. refl;
+  exchange = λ z. refl;
+  goes = refl;
+  after = λ z. refl;
+  mark = refl;
+  leads = λ k v h. h;
+  led = λ k v h. h;
+}
+judged p (Ask s d c x q) = record {
+  entry = λ c. refl;
+  mode = λ z. refl;
+  masks = λ z. refl;
+  exchange = λ z. refl;
+  goes = refl;
+  after = λ z.
+      refl;
+  mark = refl;
+  leads = λ k v h. h;
+  led = λ k v h. h;
+}
+judged p (Put s c x v q) = record {
+  entry = λ c. refl;
+  mode = λ z. refl;
+  masks = λ z. refl;
+  exchange = λ z. refl;
+  goes = refl;
+  after = λ z.
+      refl;
+  mark = refl;
+  leads = λ k v h. h;
+  led = λ k v h. h;
+}
+judged p Send = record {
+  entry = λ c. refl;
+  mode = λ z. refl;
+  masks = λ z. refl;
+  exchange = λ z. refl;
+  goes = refl;
+  after = λ z. refl;
+  mark = refl;
+  leads = λ k v h. h;
+  led = λ k v h. h;
+}
+judged p Reply = record {
+  entry = λ c. refl;
+  mode = λ z. refl;
+  masks = λ z. refl;
+  exchange = λ z. refl;
+  goes = refl;
+  after = λ z. refl;
+  mark = refl;
+  leads = λ k v h. h;
+  led = λ k v h. h;
+}
+judged p (Vote d) = record {
+  entry = λ c. refl;
+  mode = λ z. refl;
+  masks = λ z. refl;
+  exchange = λ z. refl;
+  goes = refl;
+  after = λ z. refl;
+  mark = refl;
+  leads = λ k v h. h;
+  led = λ k v h. h;
+}
+judged p (Print s) = record {
+  entry = λ c. refl;
+  mode = λ z. refl;
+  masks = λ z. refl;
+  exchange = λ z. refl;
+  goes = refl;
+  after = λ z. refl;
+  mark = refl;
+  leads = λ k v h. h;
+  led = λ k v h. h;
+}
+judged p (Jump t) = record {
+  entry = λ c. refl;
+  mode = λ z. refl;
+  masks = λ z. refl;
+  exchange = λ z. refl;
+  goes = refl;
+  after = λ z. refl;
+  mark = refl;
+  leads = λ k v h. h;
+  led = λ k v h. h;
+}
+judged p (JumpIfZero s t) = record {
+  entry = λ c. refl;
+  mode = λ z. refl;
+  masks = λ z. refl;
+  exchange = λ z. refl;
+  goes = refl;
+  after = λ z.
+      refl;
+  mark = refl;
+  leads = λ k v h. h;
+  led = λ k v h. h;
+}
+judged p Halt = record {
+  entry = λ c. refl;
+  mode = λ z. refl;
+  masks = λ z. refl;
+  exchange = λ z. refl;
+  goes = refl;
+  after = λ z. refl;
+  mark = refl;
+  leads = λ k v h. h;
+  led = λ k v h. h;
+}
 
 mark_moved : (p : ℕ → ℕ) (o : Option Instr) → is_mark (option_map (renamed p) o) ≡ is_mark o
 mark_moved p None = refl

@@ -67,7 +67,7 @@ module _ (x y : Numbers) (register : ℕ) (are : AreNumbers x) (there : register
     one : IsOneToOne (number_of y) (register_of y)
     one = subst (λ (ns : List ℕ × List ℕ). IsOneToOne (λ r. get_or ns.0 r r) (λ n. get_or ns.1 n n)) (λ i. (sym e i, sym f i))
         (one_again x.numbers.items x.registers.items (2 ^ 16) register x.given are.numbers are.registers are.one there room old_there
-            other_there)
+        other_there)
 
     numbers : AreNumbers y
     numbers = record {
@@ -84,7 +84,7 @@ module _ (x y : Numbers) (register : ℕ) (are : AreNumbers x) (there : register
     new_number : number_of y register ≡ x.given
     new_number = ap (λ (ns : List ℕ). get_or ns register register) e
         ∙ number_new x.numbers.items x.registers.items (2 ^ 16) register x.given are.numbers are.registers are.one there room old_there
-            other_there
+        other_there
 
     others : (n : ℕ) → n < y.given → ((n < x.given) × (register_of y n ≡ register_of x n)) ⊎ (register_of y n ≡ register)
     others n l = ⊎_elim
@@ -95,7 +95,7 @@ module _ (x y : Numbers) (register : ℕ) (are : AreNumbers x) (there : register
           below not,
           ap (λ (ns : List ℕ). get_or ns n n) f
               ∙ holder_else x.numbers.items x.registers.items (2 ^ 16) register x.given are.numbers are.registers are.one there
-                  room old_there
+              room old_there
               other_there n not (λ (same : n ≡ number_of x register). let b = below not in omega (arith, same, high, b)),
         ))
         (same_or_not n x.given)

@@ -79,7 +79,7 @@ some_there (x ∷ xs) (suc k) r e = some_there xs k r e
 -- the next name of an instruction
 pub among_more : (names : List (Option ℕ)) (k register : ℕ) → {x y z : Numbers} → slice_get names k ≡ Some (Some register) →
     HaveNumbers (λ r. IsAmongBelow k r names) x y → HaveNumbers (λ r. r ≡ register) y z → HaveNumbers
-        (λ r. IsAmongBelow (k + 1) r names) x z
+    (λ r. IsAmongBelow (k + 1) r names) x z
 among_more names k register at h g = others_alike back on (both h g)
   where
     back : (r : ℕ) → IsAmongBelow (k + 1) r names → IsAmongBelow k r names ⊎ (r ≡ register)

@@ -149,7 +149,7 @@ module _ (p l : ℕ → ℕ) (one : IsOneToOne p l) where
   -- what an instruction computes, if it is of a side
   pub result_if : (b : Bool) (i : Instr) (r : Registers) →
       with_result (if b then computed (renamed p i) (moved r) else None) (moved r) ≡ moved
-          (with_result (if b then computed i r else None) r)
+      (with_result (if b then computed i r else None) r)
   result_if true i r = ap (λ o. with_result o (moved r)) (computed_moved i r) ∙ with_moved (computed i r) r
   result_if false i r = refl
 
@@ -187,8 +187,10 @@ module _ (p l : ℕ → ℕ) (one : IsOneToOne p l) where
     asks_more u read = sym (map_joined read_moved u.asks (read ∷ []))
 
     plain : (u : UniformPart) (b : Bool) (i : Instr) →
-        record (uniform_moved u) { registers = with_result (if b then computed (renamed p i) (moved u.registers) else None)
-            (moved u.registers) }
+        record (uniform_moved u) {
+          registers = with_result (if b then computed (renamed p i) (moved u.registers) else None)
+              (moved u.registers);
+        }
         ≡ uniform_moved (record u { registers = with_result (if b then computed i u.registers else None) u.registers })
     plain u b i = λ j. record (uniform_moved u) { registers = result_if b i u.registers j }
 
@@ -216,8 +218,13 @@ module _ (p l : ℕ → ℕ) (one : IsOneToOne p l) where
           ∙ zero_moved (cell_of code.layout c (u.registers s)) d u.registers) j;
       asks = (ap (λ o. map read_moved u.asks
           ++ record { side = Uniform; destination = p d; moment = moment_of u q; cell = o } ∷ []) (cells c s u.registers)
-          ∙ asks_more u (record { side = Uniform; destination = d; moment = moment_of u q; cell = cell_of code.layout c
-              (u.registers s) })) j;
+          ∙ asks_more u (record {
+            side = Uniform;
+            destination = d;
+            moment = moment_of u q;
+            cell = cell_of code.layout c
+                (u.registers s);
+          })) j;
     }
     on_uniform_moved (Ask Private d c s q) u = λ j. record (uniform_moved u) {
       asks = asks_more u (record { side = Private; destination = d; moment = moment_of u q; cell = None }) j;
@@ -298,8 +305,10 @@ module _ (p l : ℕ → ℕ) (one : IsOneToOne p l) where
     -- ---- one processor
 
     own_plain : (x : PrivatePart) (b : Bool) (i : Instr) →
-        record (own_moved x) { registers = with_result (if b then computed (renamed p i) (moved x.registers) else None)
-            (moved x.registers) }
+        record (own_moved x) {
+          registers = with_result (if b then computed (renamed p i) (moved x.registers) else None)
+              (moved x.registers);
+        }
         ≡ own_moved (record x { registers = with_result (if b then computed i x.registers else None) x.registers })
     own_plain x b i = λ j. record (own_moved x) { registers = result_if b i x.registers j }
 

@@ -129,7 +129,7 @@ module _ (p l : ℕ → ℕ) (one : IsOneToOne p l) (uniform private : ℕ) (t :
   phase_moved : (n : ℕ) (ws : ℕ → State) → phase (bsp u') n (all_moved ws) ≡ all_moved (phase (bsp t) n ws)
   phase_moved n ws = λ i w. (ap (after u' w (ready u' w (state_moved (ws w))))
       (map_same (λ v. message_of u' v (state_moved (ws v)) w) (λ v. message_of t v (ws v) w) (λ v. message_is v (ws v) w)
-          (range_with_len 0 n))
+      (range_with_len 0 n))
       ∙ after_moved w (ws w) (column (bsp t) n ws w)) i
 
   phases_moved : (n k : ℕ) (ws : ℕ → State) → phases (bsp u') n k (all_moved ws) ≡ all_moved (phases (bsp t) n k ws)

@@ -197,7 +197,7 @@ module _ (p l : ℕ → ℕ) (one : IsOneToOne p l) (uniform private : ℕ) (t :
   until_moved w (suc n) place s =
       ap (λ o. there w (until t.bound (λ (x : Worker). x.uniform) (after_instr t w) t.code.instructions n)
       (until t.bound (λ (x : Worker). x.uniform) (after_instr t' w) (map (renamed p) t.code.instructions) n) (until_moved w n) o place
-          (worker_moved s))
+      (worker_moved s))
       (slice_get-map (renamed p) t.code.instructions place)
       ∙ advance_moved w (until t.bound (λ (x : Worker). x.uniform) (after_instr t w) t.code.instructions n)
       (until t.bound (λ (x : Worker). x.uniform) (after_instr t' w) (map (renamed p) t.code.instructions) n) (until_moved w n)

@@ -29,7 +29,7 @@ pub record RunsAlike (code packed : SuperstepCode) : Type 0 where
       outcome_by (setting packed m bound n) exchanges input ≡ outcome_by (setting code m bound n) exchanges input
   pub over : (m : Shape) (bound n : ℕ) (input : List ℤ) (exchanges w : ℕ) →
       is_over (worker_after (setting packed m bound n) input exchanges w).way ≡ is_over
-          (worker_after (setting code m bound n) input exchanges w).way
+      (worker_after (setting code m bound n) input exchanges w).way
   pub output : (m : Shape) (bound n : ℕ) (input : List ℤ) (exchanges w : ℕ) →
       (ready (setting packed m bound n) w (worker_after (setting packed m bound n) input exchanges w)).state.worker.uniform.output
       ≡ (ready (setting code m bound n) w (worker_after (setting code m bound n) input exchanges w)).state.worker.uniform.output

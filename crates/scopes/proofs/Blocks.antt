@@ -28,7 +28,7 @@ pub one_more : (p : Checked) (n : ℕ) (inputs : List (List ℤ)) (k j size : �
     g ≡ found p n (take size (drop (k * size) inputs)) → h ≡ merged f g → j ≡ k + 1 → h ≡ found p n (take (j * size) inputs)
 one_more p n inputs k j size f g h fs gs is next =
     let behind : j * size ≡ k * size + size = ap (λ (i : ℕ). i * size) next ∙ (let e : (k + 1) * size ≡ k * size + size = grind
-        arith in e) in
+    arith in e) in
     is ∙ ap (λ (f : Found). merged f g) fs ∙ ap (merged (found p n (take (k * size) inputs))) gs
     ∙ sym (blocks_are_merged p n (take (k * size) inputs) (take size (drop (k * size) inputs)))
     ∙ ap (found p n) (take_more (k * size) size (j * size) inputs behind)

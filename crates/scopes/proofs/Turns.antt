@@ -40,7 +40,7 @@ none_left : {S : Type 0} (step : S → ℕ × S) (f : ℕ → ℤ) (found all : 
 none_left step f found all turn count s over before =
     let none : count - turn ≡ 0 = omega arith in
     sym (append-nil found) ∙ ap (λ l. found ++ map f l) (sym (words_none step s)) ∙ ap (λ n. found ++ map f (first_words step n s))
-        (sym none)
+    (sym none)
     ∙ before
 
 -- what holds before each turn of the loop: what is drawn and what is left are all

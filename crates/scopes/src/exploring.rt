@@ -6,12 +6,12 @@ ghost use Rattle.scopes.specs.Scopes.{inputs_left, inputs_of};
 ghost use Rattle.scopes.specs.Found.{found, found_is};
 
 use crate::findings::Findings;
+use crate::{Inputs, Scope, first_input, input_at, input_count};
+use costs::time_and_work;
 use observing::{Nobody, Watch};
 use pram_check::Program;
 use pram_meaning::MeaningRefusal;
-use crate::{Inputs, Scope, first_input, input_at, input_count};
 use std::alloc::Global;
-use costs::time_and_work;
 
 // Runs the program on one input more.
 fn try_input(

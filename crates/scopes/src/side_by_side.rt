@@ -5,8 +5,8 @@ ghost use Rattle.pram_model.specs.Layout.{total_size};
 ghost use Rattle.scopes.specs.Scopes.{inputs_of};
 ghost use Rattle.scopes.specs.Found.{found, found_is};
 
-use observing::Watch;
 use crate::{Findings, Scope, explore, explore_block, input_at, input_count};
+use observing::Watch;
 use pram_check::Program;
 use pram_meaning::MeaningRefusal;
 use std::alloc::{AllocError, Global};

@@ -55,7 +55,7 @@ pub one_step : (range : Range) (at behind : ℕ) (found : List ℕ) → IsReadTo
 one_step range at behind found before room below is =
     subst (λ n. IsReadTo (IsProgression range) (Goes range.growth range.last n) (found ++ at ∷ [])) (sym is)
     (one_more (IsProgression range) (Goes range.growth range.last at) (Goes range.growth range.last (next range.growth at)) found at
-        before room
+    before room
     (λ rest h. (refl, below, h)) (goes_split range.growth range.last at below))
 
 -- ---- numbers with commas between them
@@ -92,7 +92,7 @@ module _ (text : List ℕ) (n : ℕ) (part read : List ℕ) (here : (n < length 
   listed_one size m is room next =
       subst (λ m. IsReadTo (AreListed text) (Listed text m) (found ++ size ∷ [])) (sym next)
       (one_more (AreListed text) (Listed text n) (Listed text (n + 1)) found size before room put
-          (λ rest h. split rest (sym next_parts ∙ h)))
+      (λ rest h. split rest (sym next_parts ∙ h)))
     where
       put : (rest : List ℕ) → Listed text (n + 1) rest → Listed text n (size ∷ rest)
       put rest h =

@@ -59,7 +59,7 @@ pub record InColumns (old new : OutState) (all : List ℕ) (f : Frame) (j k : �
 pub columns_at : (f : Frame) (j k : ℕ) (es : List entry.Entry.Entry) (i before : ℕ) (e : entry.Entry.Entry) →
     i < length es → e ≡ get_or es i e → columns_from f (j + before) (k + before) (map entry_is (drop i es)) ≡
     with_front f (j + before) (k + before) (entry_is e) ++ columns_from f (j + (before + 1)) (k + (before + 1))
-        (map entry_is (drop (i + 1) es))
+    (map entry_is (drop (i + 1) es))
 columns_at f j k es i before e below is =
     let left : (j + before) + 1 ≡ j + (before + 1) = omega arith in
     let right : (k + before) + 1 ≡ k + (before + 1) = omega arith in

@@ -30,7 +30,7 @@ from_less : (x : ℤ) (xs : List ℤ) (i j : ℤ) (b : Bool) → (Contains (inse
 from_less x xs i j true rest less c = ⊎_elim
     (λ (is : x ≡ j). inr (subst (λ y. Contains (y ∷ xs) j) (sym is) (first j xs)))
     (λ (there : Contains (inserted i xs) j). ⊎_elim (λ (is : i ≡ j). inl is) (λ (old : Contains xs j). inr (further x j xs old))
-        (rest there))
+    (rest there))
     (split_of x (inserted i xs) j (subst (λ ys. Contains ys j) (less_inserted x xs i less) c))
 from_less x xs i j false rest less c = from_more x xs i j (int_lt i x) less refl c
 
@@ -42,7 +42,7 @@ pub from_offered : (most : ℕ) (xs : List ℤ) (i j : ℤ) → Contains (offere
 from_offered most xs i j c =
     let all = inserted i xs in
     from_inserted xs i j (subst (λ ys. Contains ys j) (take-append-drop most all)
-        (Contains-append_left (take most all) (drop most all) j c))
+    (Contains-append_left (take most all) (drop most all) j c))
 
 from_all : (xs is : List ℤ) (j : ℤ) → Contains (with_all xs is) j → Contains xs j ⊎ Contains is j
 from_all xs [] j c = inl c
@@ -131,9 +131,10 @@ ascends (x ∷ xs) i a = ascends_less x xs i (int_lt x i) (ascends xs i) refl a
 ascends_cut : (n : ℕ) (xs : List ℤ) → Ascend xs → Ascend (take n xs)
 ascends_cut zero xs a = tt
 ascends_cut (suc n) [] a = tt
-ascends_cut (suc n) (x ∷ xs) a =
-    (λ j c. a.0 j (subst (λ ys. Contains ys j) (take-append-drop n xs) (Contains-append_left (take n xs) (drop n xs) j c)),
-        ascends_cut n xs a.1)
+ascends_cut (suc n) (x ∷ xs) a = (
+  λ j c. a.0 j (subst (λ ys. Contains ys j) (take-append-drop n xs) (Contains-append_left (take n xs) (drop n xs) j c)),
+  ascends_cut n xs a.1,
+)
 
 pub ascends_all : (xs is : List ℤ) → Ascend xs → Ascend (with_all xs is)
 ascends_all xs [] a = a
@@ -165,7 +166,7 @@ pub rows_ascend : (es : List Entry) → AllPairs (λ x y. int_lt x y ≡ true) (
 rows_ascend es i j d less within =
     let those = with_all [] (met_of es) in
     by_pairs (rows_of es) i j d (ascends_all (with_others those [] (acting_drawn es)) those (ascends_others those [] (acting_drawn es) tt))
-        less within
+    less within
 
 pub rows_few : (es : List Entry) → length (rows_of es) ≤ 64
 rows_few es =

@@ -140,7 +140,7 @@ pub column_stands : (layout : List SharedEntry) (text : List ℕ) (part : Part) 
 column_stands layout text part es j d at =
     let f = frame_of layout text part es in
     stands_within (stands_behind (front_of f j) (stands (column f (column_at f j d.number) d.entry)))
-        (with_front_stands layout text part es j d at)
+    (with_front_stands layout text part es j d at)
 
 -- ---- the last statement
 
@@ -274,7 +274,7 @@ box_stands layout text part es j d a i at one is has =
     let stands_there = acts_hold layout rows c (acts_in d.entry) one.0 a one.1 one.2 in
     let in_column : StandsIn (act_drawn layout rows c a) (column f c d.entry) =
     stands_behind (heading text c (line_of d.entry))
-        (stands_before (all_met rows c (met_in d.entry) ++ missing_text rows c (acts_in d.entry)) stands_there) in
+    (stands_before (all_met rows c (met_in d.entry) ++ missing_text rows c (acts_in d.entry)) stands_there) in
     stands_within (subst (λ t. StandsIn t (column f c d.entry)) drawn_is in_column) (column_stands layout text part es j d at)
 
 -- the one outside pardo has no index, and the row of number 0
@@ -332,7 +332,7 @@ more_is rows c n some = grind (arith, common_steps)
 pub more_told : (layout : List SharedEntry) (text : List ℕ) (part : Part) (es : List Entry) (j : ℕ) (d : Numbered) → StandsAt es j d →
     0 < missing (rows_of es) (acts_in d.entry) →
     StandsIn (more_at (column_left j) (row_top (top_of layout text es j) (length (rows_of es) + 1) + 13)
-        (missing (rows_of es) (acts_in d.entry)))
+    (missing (rows_of es) (acts_in d.entry)))
     (picture layout text part es)
 more_told layout text part es j d at some =
     let f = frame_of layout text part es in

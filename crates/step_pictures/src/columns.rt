@@ -13,8 +13,8 @@ use crate::measure::row_top;
 use crate::program_lines::{code_of, line_of, write_code};
 use crate::rows::{missing, place_of};
 use itoa::Buffer;
-use pram_trees::Layout;
 use journal::{Act, Entry};
+use pram_trees::Layout;
 use text_out::{Out, WriteFault};
 
 // The number of a statement and its line.

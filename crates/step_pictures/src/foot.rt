@@ -6,9 +6,9 @@ ghost use Rattle.journal.specs.Entries.{entry_is};
 ghost use Rattle.step_pictures.specs.Picture as spec;
 
 use itoa::Buffer;
+use journal::Entry;
 use pram_trees::Layout;
 use program_texts::write_fault_text;
-use journal::Entry;
 use text_out::{Out, WriteFault};
 use write_rules::Fault;
 

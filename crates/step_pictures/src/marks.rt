@@ -6,9 +6,9 @@ ghost use Rattle.journal.specs.Entries.{act_is};
 ghost use Rattle.step_pictures.specs.Marks as spec;
 
 use itoa::Buffer;
+use journal::Act;
 use pram_trees::Layout;
 use program_texts::write_cell;
-use journal::Act;
 use text_out::{Out, WriteFault};
 
 // Which processor it is.

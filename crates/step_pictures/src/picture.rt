@@ -14,8 +14,8 @@ use crate::frame::{Frame, Part};
 use crate::head::{write_head, write_opening};
 use crate::measure::{bands_end, bands_of, letters_of, picture_height, picture_width};
 use crate::rows::rows_of;
-use pram_trees::Layout;
 use journal::Entry;
+use pram_trees::Layout;
 use text_out::{Out, WriteFault};
 
 // The opening of a picture of so many statements.

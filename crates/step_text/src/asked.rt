@@ -1,7 +1,7 @@
 //! Which entries of a run are written, and how.
 
-use pram_trees::Layout;
 use crate::Telling;
+use pram_trees::Layout;
 
 /// The entries whose numbers, counted from 1, go from `first` to `last`, of a program with these cells, as this telling says.
 #[derive(Clone, Copy)]

@@ -6,11 +6,11 @@ ghost use Rattle.step_text.specs.BesideCells as spec;
 
 use crate::telling::Detail;
 use crate::values::write_value;
+use help::{local_name, variable_name};
 use itoa::Buffer;
+use journal::{Change, LocalChange};
 use pram_trees::Tree;
 use program_texts::write_values;
-use help::{local_name, variable_name};
-use journal::{Change, LocalChange};
 use text_out::{Out, WriteFault};
 
 fn write_variable_head<W: Out>(out: &mut W, tree: &Tree, number: usize) -> Result<(), WriteFault>

@@ -8,9 +8,9 @@ ghost use Rattle.step_text.specs.Focus as spec;
 
 use crate::focus::Focus;
 use crate::names::cell_name;
-use memory_texts::{Choice, is_chosen};
 use help::{local_name, variable_name};
 use journal::{Change, Entry, LocalChange};
+use memory_texts::{Choice, is_chosen};
 
 // Keeps the cells that bear one of the names.
 fn keep_cells(focus: &Focus<'_>, cells: &mut Vec<Change>)

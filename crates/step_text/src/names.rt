@@ -7,9 +7,9 @@ ghost use Rattle.help.specs.InScope.{declared_name as name_declared};
 ghost use Rattle.memory_texts.specs.Chosen.{parts};
 ghost use Rattle.step_text.specs.Focus as spec;
 
+use help::bound_in;
 use memory_texts::Choice;
 use pram_trees::{Declaration, Layout, Name, Tree};
-use help::bound_in;
 
 fn is_same(a: &[u8], b: &[u8]) -> bool
     ensures { result ≡ same_text a.now b.now }

@@ -9,10 +9,10 @@ ghost use Rattle.step_text.specs.OwnLocals as spec;
 
 use crate::beside_cells::{MOST_LOCALS, write_more, write_processor_head};
 use crate::telling::Detail;
-use itoa::Buffer;
-use pram_trees::Tree;
 use help::local_name;
+use itoa::Buffer;
 use journal::OwnLocals;
+use pram_trees::Tree;
 use text_out::{Out, WriteFault};
 
 fn write_own_local<W: Out>(

@@ -1,7 +1,7 @@
 //! Statements that ran.
 
-use pram_trees::Location;
 use journal::{Change, LocalChange};
+use pram_trees::Location;
 
 /// Where a statement stands that ran, how many processors executed it, and what it changed and printed.
 #[derive(Clone, Copy)]

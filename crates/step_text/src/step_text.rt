@@ -16,9 +16,9 @@ use crate::telling::{Detail, Telling};
 use crate::terminal::write_on_terminal;
 use crate::values::write_value;
 use itoa::Buffer;
+use journal::{Change, Entry, OwnLocals};
 use pram_trees::{Layout, Location};
 use program_texts::{write_cell, write_fault_text, write_values};
-use journal::{Change, Entry, OwnLocals};
 use text_out::{Out, WriteFault};
 use write_rules::Fault;
 

@@ -11,9 +11,9 @@ ghost use Rattle.step_text.specs.StreamLaws.{streams_nothing, streams_on};
 ghost use Rattle.step_text.specs.Streams.{Streams, line_behind, line_of};
 
 use crate::asked::Asked;
-use std::alloc::AllocError;
-use journal::{Entry, Teller};
 use crate::{focused, write_line};
+use journal::{Entry, Teller};
+use std::alloc::AllocError;
 use text_out::Out;
 
 /// Writes the lines that are asked for of a run's entries as these come, and keeps none: how many were counted so far, and whether the

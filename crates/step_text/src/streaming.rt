@@ -10,15 +10,15 @@ ghost use Rattle.step_text.specs.StepText.{steps_text};
 ghost use Rattle.step_text.specs.Streamed.{HasStreamed};
 ghost use Rattle.step_text.specs.Streams.{PrintsFirst, Streams};
 
+use crate::Telling;
 use crate::asked::Asked;
 use crate::failure::StreamFailure;
 use crate::stream::Stream;
+use journal::tell_run;
 use observing::Watch;
 use pram_check::Program;
 use pram_meaning::MeaningRefusal;
 use std::alloc::Global;
-use journal::tell_run;
-use crate::Telling;
 use text_out::Out;
 use write_rules::Outcome;
 

@@ -1,8 +1,8 @@
 //! What is told of entries, and how.
 
+use crate::Focus;
 use crate::manner::Manner;
 use pram_trees::Tree;
-use crate::Focus;
 
 /// What is told of a statement beside its line, its processors and the cells that it changed, or its fault.
 #[derive(Clone, Copy)]

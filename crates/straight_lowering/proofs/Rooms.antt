@@ -63,7 +63,7 @@ pub first_part : (e x : Expression) (first : Box Expression Global) (links : Vec
     IsPart (formula_of x) (formula_of e)
 first_part e x first links is at =
     subst (λ f. IsPart f (formula_of e)) (first_is e first links is ∙ ap formula_of (sym at))
-        (so_far_part e first links links.items 0 is refl)
+    (so_far_part e first links links.items 0 is refl)
 
 pub part_room : (f g : Formula) (t b q : ℕ) → IsPart f g → HasRoom g t b q → HasRoom f t b q
 part_room f g t b q part room = record {

@@ -1,12 +1,12 @@
 //! What no clause says: that a picture is made; and pictures of few statements, letter by letter.
 
 use flow_pictures::{CellSpan, Drawing, Flow, write_flow};
+use journal::{Act, Change, Entry};
 use pram_tokens::Location;
 use pram_trees::Layout;
 use pram_values::{Kind, Place};
 use std::alloc::{AllocError, Global};
 use std::test::Fail;
-use journal::{Act, Change, Entry};
 use text_out::Buffer;
 use write_rules::Fault;
 

@@ -1,9 +1,9 @@
 //! Which formulas are found, and their text, by examples.
 
-use sweeps::{Formula, Growth, Row, fit, write_growth};
 use std::alloc::Global;
 use std::process::Abort;
 use std::test::Fail;
+use sweeps::{Formula, Growth, Row, fit, write_growth};
 use text_out::{Buffer, WriteFault};
 
 // 4 log n + 5 and 2 n + 3 log n + 3, the time and the work of a sum by a tree.

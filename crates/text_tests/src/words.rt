@@ -1,9 +1,9 @@
 //! What no clause says: that an option is found, and sentences letter by letter.
 
+use command_requests::{Given, write_word_fault, wrong_option};
 use std::alloc::Global;
 use std::test::Fail;
 use text_out::Buffer;
-use command_requests::{Given, write_word_fault, wrong_option};
 
 // The words of a call, which stand there with spaces between them.
 fn words_of(alloc: Global, call: &str) -> Result<Vec<String>, Fail> {

@@ -24,10 +24,10 @@ pub columns_at : (workers most : ℕ) (lines : List ℕ) (es : List Exchange) (i
 columns_at workers most lines es i line below is =
     ap (columns_from workers most lines (i + 1)) (drop_more (drawn es) i no_exchange below)
     ∙ ap (λ e. column workers most (i + 1) (line_of lines (i + 1)) e ++ columns_from workers most lines (i + 1 + 1)
-        (drop (i + 1) (drawn es)))
+    (drop (i + 1) (drawn es)))
     (same_exchange es i (few_drawn es i below))
     ∙ ap (λ l. column workers most (i + 1) l (exchange_at es (i + 1)) ++ columns_from workers most lines (i + 1 + 1)
-        (drop (i + 1) (drawn es)))
+    (drop (i + 1) (drawn es)))
     (sym is)
 
 at_most : (es : List Exchange) (i : ℕ) → i < length es → relation_of (get_or es i no_exchange) ≤ most_words es

@@ -48,7 +48,7 @@ finish_lacks p x row rows i li e =
       λ m found.
           let there : phase (finished x row) - 1 ≡ length x.received =
           (let n : ℕ = phase (finished x row) in let l : n ≡ phase x + 1 = longer in let r : n - 1 ≡ length x.received = omega
-              (arith, rows) in r) in
+          (arith, rows) in r) in
           let last : entry (x.received ++ replicate x.workers None ∷ []) (length x.received) i ≡ some (Some m) =
           subst (λ s. entry (x.received ++ replicate x.workers None ∷ []) s i ≡ some (Some m)) there found in
           ⊎_elim
@@ -161,7 +161,7 @@ one_piece a b e = cc
 
 module _ (b : TwoBlocks) (c : Core) (ok : KeepsRule b c) (lacks : AllLack b.side c) (w : ℕ) (row back : List PieceState)
     (lw : w < b.side) (many : length row ≡ b.side) (as_many : length back ≡ b.side)
-        (kept : KeepsRule b (after b c (finish w row back))) where
+    (kept : KeepsRule b (after b c (finish w row back))) where
   abbrev p : ℕ
   p = b.side
 
@@ -221,7 +221,7 @@ module _ (b : TwoBlocks) (c : Core) (ok : KeepsRule b c) (lacks : AllLack b.side
       let lj : j < p = subst (λ n. j < n) many (at_of row j x e) in
       let at = comes_at (IsThe p w (f + 1) lw j row) (slot p (f + 1) w j) c.homes (loaded p w (f + 1) 0 row back)
       (row_each p w (f + 1) lw j 0 row row back lj (omega (arith, many)) (λ i z h. let q : i ≡ 0 + i = omega arith in subst
-          (λ (n : ℕ). get_elem? row n ≡ some z) q h))
+      (λ (n : ℕ). get_elem? row n ≡ some z) q h))
       (row_named b p w (f + 1) lw j 0 row back (many ∙ sym as_many) (omega arith) (omega (arith, many, lj)))
       (subst (λ n. slot p (f + 1) w j < n) (sym ok.room) (slot_below p (f + 1) w j lw lj)) in
       let given = gave j lj in
@@ -235,7 +235,7 @@ module _ (b : TwoBlocks) (c : Core) (ok : KeepsRule b c) (lacks : AllLack b.side
       let lj : j < p = subst (λ n. j < n) as_many (at_of back j x e) in
       let at = comes_at (IsThe p w (f + 1) lw j back) (slot p (f + 1 + 1) j w) c.homes (loaded p w (f + 1) 0 row back)
       (column_each p w (f + 1) lw j 0 back row back lj (omega (arith, many)) (λ i z h. let q : i ≡ 0 + i = omega arith in subst
-          (λ (n : ℕ). get_elem? back n ≡ some z) q h))
+      (λ (n : ℕ). get_elem? back n ≡ some z) q h))
       (column_named b p w (f + 1) lw j 0 row back (many ∙ sym as_many) (omega arith) (omega (arith, many, lj)))
       (subst (λ n. slot p (f + 1 + 1) j w < n) (sym ok.room) (slot_below p (f + 1 + 1) j w lj lw)) in
       let given = gave j lj in

@@ -125,7 +125,7 @@ module _ (t : Setting) (code : IsCode t.code) (room : IsMapFor t.code t.map) (fo
 
   pub told_back : ((key : Key) → x.steps.key ≡ Some key → FitsKey key) → (j : ℕ) →
       IsWrittenFor t.code.rule t.map j (purpose_is x.purpose) (machine.message_of t w s j)
-          (written t.code.rule (machine.message_of t w s j))
+      (written t.code.rule (machine.message_of t w s j))
   told_back keys j =
       let m = machine.message_for t (purpose_is x.purpose) y j in
       subst (λ q. IsWrittenFor t.code.rule t.map j (purpose_is x.purpose) q (written t.code.rule q)) (sym (message_is j))

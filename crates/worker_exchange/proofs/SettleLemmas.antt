@@ -46,7 +46,7 @@ uniform_silent column (c ∷ cells) k read e = λ i.
 pub more_reads : (column : List Message) (cells : List ℕ) (reads : List HeldRead) (k : ℕ) (d : HeldRead) → k < length reads →
     read_conflicts column cells k (map read_is (drop k reads))
     ≡ least (read_conflict column cells k (read_is (get_or reads k d)))
-        (read_conflicts column cells (k + 1) (map read_is (drop (k + 1) reads)))
+    (read_conflicts column cells (k + 1) (map read_is (drop (k + 1) reads)))
 more_reads column cells reads k d l = ap (λ rs. read_conflicts column cells k (map read_is rs)) (drop_more reads k d l)
 
 -- the parts of all messages

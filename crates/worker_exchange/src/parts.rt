@@ -50,7 +50,7 @@ pub(crate) fn put_parts<'c, R: WriteRule, C: Column>(
     requires room { workers ≤ length parts.old }
     ensures each { (i : ℕ) → i < workers → part_at parts.new i
         ≡ put_part (R.WriteRule.rule rule.now) (read_header (message_at (C.came column.now) i).header)
-            (message_at (C.came column.now) i).words }
+        (message_at (C.came column.now) i).words }
 {
     'messages: for i in 0..workers {
         let header = MessageHeader::from_words(column.header(i));
@@ -69,7 +69,7 @@ pub(crate) fn ask_parts<'c, R: WriteRule, C: Column>(
     requires room { workers ≤ length parts.old }
     ensures each { (i : ℕ) → i < workers → part_at parts.new i
         ≡ ask_part (R.WriteRule.rule rule.now) (read_header (message_at (C.came column.now) i).header)
-            (message_at (C.came column.now) i).words }
+        (message_at (C.came column.now) i).words }
 {
     'messages: for i in 0..workers {
         let header = MessageHeader::from_words(column.header(i));

@@ -64,7 +64,7 @@ pub(crate) fn keep_asks<R: WriteRule, C: Column>(rule: &R, column: &C, asked: &m
         (each vec_capacity asked.old) j }
     ensures words { (j : ℕ) → j < length asked.old → column_at (words_of asked.new) j
         ≡ ask_part (R.WriteRule.rule rule.now) (read_header (message_at (C.came column.now) j).header)
-            (message_at (C.came column.now) j).words }
+        (message_at (C.came column.now) j).words }
     ensures rooms { each vec_capacity asked.new ≡ each vec_capacity asked.old }
 {
     'messages: for j in 0..asked.len() {

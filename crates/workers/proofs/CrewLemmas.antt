@@ -157,7 +157,7 @@ module _ {T : Type 0} (done : T → RowState × CountedWorker → Type 0) where
           all_done tasks reports (e.all is ∙ sym many) (λ k r g.
           let rep = e.reported k r g in
           let hears = heard k r.runner (subst (λ xs. slice_get xs k ≡ Some r.runner) (sym are) (map_get (λ (q : Report T). q.runner) reports
-              k r g)) in
+          k r g)) in
           told_of tasks k r.runner r.played rep.2
           (subst (λ (z : Told (List T) × ℕ). Hears z.0 z.1 r.runner.heard) (λ i. (said.0 i, rep.1 i)) hears))
       done_by false is none =

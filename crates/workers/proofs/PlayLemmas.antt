@@ -124,7 +124,7 @@ module _ (code : SuperstepCode) (m : Shape) (bound : ℕ) (states : ℕ → Stat
   row_is_marked : IsMarked (is_stopped mid.local.way) row
   row_is_marked = all_at (λ x. has_mark x ≡ is_stopped mid.local.way) row
       (λ j l. row_marked code m bound states told w mid row at (suc (most_instructions code bound)) j (omega arith)
-          (omega (arith, l, long)))
+      (omega (arith, l, long)))
 
   pub behind_exchange : IsBehindExchange code m bound states told w row came new
   behind_exchange = record {

@@ -110,7 +110,7 @@ module _ {M : Type 0} (shape : M → Shape) (run : RunState M) (seats : List Row
 
   module _ (played : List (RowState × CountedWorker))
       (all : Pairwise (λ (x : TaskState M) (y : RowState × CountedWorker). HasPlayed shape x y.0 y.1) (tasks_for run seats workers)
-          played) where
+      played) where
     -- what came back from a place was made of the task of this place
     record MadeOf (k : ℕ) (y : RowState × CountedWorker) : Type 0 where
       pub seat : RowState

@@ -24,7 +24,7 @@ pub record ComesPast (code : SuperstepCode) (m : Shape) (bound : ℕ) (input : L
       GoesOn (bsp (setting code m bound n)) m.parts (suc exchange) (opening (setting code m bound n) input)
   pub past : (n : ℕ) → most_instructions code bound < n →
       is_past reserve (items_at (setting code m bound n) worker (worker_after (setting code m bound n) input exchange worker))
-          exchange ≡ true
+      exchange ≡ true
 
 -- The first that speaks against a run with a reserve: what does so without one, or else that it comes past it.
 abbrev pub IsReservedRefusal : SuperstepCode → Shape → ℕ → List ℤ → ℕ → Reserve → RunRefusal → Type 0

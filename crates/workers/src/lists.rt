@@ -29,8 +29,12 @@ pub(crate) fn tasks_of<'a, M: AddressMap>(
     }) seats.items workers.items) }
     requires count { length workers.items ≡ length seats.items }
     requires room { (tasks.items ≡ []) × (length seats.items ≤ vec_capacity tasks) }
-    ensures { result.items ≡ tasks_for (record { turnstile = turnstile.entry.now; code = code.entry.now; map = map.entry.now; bound = bound
-        }) seats.items
+    ensures { result.items ≡ tasks_for (record {
+      turnstile = turnstile.entry.now;
+      code = code.entry.now;
+      map = map.entry.now;
+      bound = bound;
+    }) seats.items
         workers.items }
 {
     let mut tasks = tasks;

@@ -36,7 +36,7 @@ outcome-requires-clause-items g c = λ y at alive.
     let is = swap.first_is all c.as_slice.result.now x.0 c.args.room.items x.1 left y at in
     let same = c.take_items.ensures.items x.0 x.1 in
     let has = (c.requires.run.running.running.behind 0 x.0 x.1).items (ap (λ (z : CountedWorker). is_stopped z.local.way) (sym is) ∙
-        alive) in (
+    alive) in (
       ap (λ (v : _). v.items) same ∙ has.none,
       subst (λ (z : CountedWorker). length z.local.steps.uniform.output.items ≤ vec_capacity c.take_items.new.items) (sym is)
           (subst (λ (v : _). length x.0.local.steps.uniform.output.items ≤ vec_capacity v) (sym same) has.room),
@@ -50,7 +50,7 @@ returns-in_default-clause-stopped g c = λ x here.
     let left = c.as_slice.ensures.value ∙ c.take_items.ensures.left x here in
     let at = swap.there all c.as_slice.result.now x c.args.room.items here left in
     none_told x.local.way x.local.steps.uniform.output.items (memory_of code m c.as_slice.result.now) c.outcome.result
-        (c.requires.over x here)
+    (c.requires.over x here)
     (c.outcome.ensures (swap.without x c.args.room.items) at) c.in_default.not-Some
 
 pub returns-in_default-clause-refused : goal.returns-in_default-clause-refused
@@ -150,6 +150,6 @@ returns-clause-counts g c = λ bound input run.
     let below : total_size code.layout < suc m.count = omega (arith, room) in
     let others = c.take_items.new.workers.items in
     exchanges_found code m c.requires.runnable.map bound input all many run x.0 x.1 alive (c.requires.over x.0 x.1) (verdict_of found)
-        told below
+    told below
     others (swap.kept_was all others x.0 c.args.room.items x.1 gone true) (swap.counts_is all others x.0 c.args.room.items x.1 gone)
     c.counts_in.result c.counts_in.ensures.told

@@ -12,10 +12,10 @@ workers-init g c =
       count = more_long first c.new-all.result.items c.add.new.all.items 0 c.in_ok-add.ensures.added none;
       fresh = more_fresh c.args.code.now m c.args.input.now first c.new-all.result.items c.add.new.all.items 0 c.in_ok-add.ensures.added
           none (λ w x at. absurd (let l = slice_get_within c.new-all.result.items w x at in omega (arith, none, l)))
-              c.in_ok-first.ensures.fresh;
+          c.in_ok-first.ensures.fresh;
       none = more_unreserved first c.new-all.result.items c.add.new.all.items c.in_ok-add.ensures.added
           (λ w x at. absurd (let l = slice_get_within c.new-all.result.items w x at in omega (arith, none, l)))
-              c.in_ok-first.ensures.unreserved;
+          c.in_ok-first.ensures.unreserved;
       kept = more_kept c.args.kept first c.new-all.result.items c.add.new.all.items c.in_ok-add.ensures.added
           (λ w x at. absurd (let l = slice_get_within c.new-all.result.items w x at in omega (arith, none, l))) c.in_ok-first.ensures.kept;
     }

@@ -56,7 +56,7 @@ workers-preserved g c =
           set_each xs w x' (λ v x. v < w + 1 → IsBehind code m bound input (suc k) v x) lt
           (λ below.
           behind_more code m c.requires.runnable.map bound input k w within y x' (messages_in row.0) (picked w rows)
-              (at w y row.0 before row.1)
+          (at w y row.0 before row.1)
           (λ alive. none_stopped olds w y before (sym (stops input k at) ∙ alive))
           (λ alive.
           coming code m c.requires.runnable.map bound input k olds rows at many long

@@ -16,7 +16,7 @@ under-requires g c =
     let some = c.requires.runnable.map.lawful.one in
     let many = c.requires.workers in
     let here : slice_get workers 0 ≡ Some x = slice_get-get_or workers 0 x (omega (arith, some, many)) ∙ ap (λ y. Some y)
-        (sym c.index.ensures) in
+    (sym c.index.ensures) in
     let reply = ((o.fresh 0 x here).going c.args.bound).equipped.buffers.reply in
     let most : c.capacity-most.result ≡ most_words code m = c.capacity-most.ensures ∙ reply in (
       c.rule.ensures.value,

@@ -40,11 +40,11 @@ loop-put-preserved g c =
             a.1,
             rw (done.values, done.noted, placed.is)
                 (settle_only rule m j lawful due found c.loop-put.values (inv.long ∙ c.requires.values) c.loop-put.noted x.cell
-                    x.entry placed.of
+                x.entry placed.of
                 (after rest) gone
                 (Leaves_same rule m j due found c.loop-put.values c.loop-put.noted (before rest)
                 (λ d. op (entry_in d (put_at x.cell x.entry)) (after rest d)) (column_next rule m j ws behind x c.in-Some.ensures.item
-                    rest) l.2)),
+                rest) l.2)),
           );
     }
 

@@ -69,7 +69,7 @@ loop-i-preserved g c =
             all = ap (λ z. take (i + 1) (paired ask_at ks z) ++ replied at j (drop n ws) (drop (i + 1) held0))
                 (sym (set-get_or xs i unasked))
                 ∙ ap (λ z. z ++ replied at j (drop n ws) (drop (i + 1) held0))
-                    (take_paired_set ask_at ks xs i k (get_or xs i unasked) long lk
+                (take_paired_set ask_at ks xs i k (get_or xs i unasked) long lk
                 p ∙ ap (λ (z : Asked). take i (paired ask_at ks xs) ++ ask_at k z ∷ []) both.0)
                 ∙ reply_not at j ws n i (take i (paired ask_at ks xs)) held0 (ask_at k x0) more _ inv.all f;
           }))
@@ -88,7 +88,7 @@ returns-clause-held g c =
     let e : take i (paired ask_at ks c.loop-i.asked.items) ≡ paired ask_at ks c.loop-i.asked.items =
     take_all i (paired ask_at ks c.loop-i.asked.items) (let r = c.requires.long in omega arith) in
     let d : drop i (paired ask_at ks c.args.asked.now.items) ≡ [] = drop_all i (paired ask_at ks c.args.asked.now.items)
-        (let r = c.requires.long in
+    (let r = c.requires.long in
     omega arith) in
     sym (ap (λ z. z ++ replied at j (drop c.loop-i.n c.args.words.now) (drop i (paired ask_at ks c.args.asked.now.items))) e
     ∙ ap (λ z. paired ask_at ks c.loop-i.asked.items ++ replied at j (drop c.loop-i.n c.args.words.now) z) d

@@ -26,7 +26,7 @@ pub place-home-requires : goal.place-home-requires
 place-home-requires g c =
     let m = g.M.AddressMap.shape c.args.map.now in
     rw c.cell_of.ensures (all_keys ask_at (IsAskBelow m.count) (λ k. k % 2 ^ 20 < m.count) (λ k x h. h) c.args.keys.now
-        c.args.asked.now.items
+    c.args.asked.now.items
     c.asks.i
     c.requires.long (let l = c.asks.invariant.long in omega arith) c.requires.cells)
 
@@ -35,7 +35,7 @@ bounds-replies-at g c =
     let m = g.M.AddressMap.shape c.args.map.now in
     let below : c.cell_of.result < m.count =
     rw c.cell_of.ensures (all_keys ask_at (IsAskBelow m.count) (λ k. k % 2 ^ 20 < m.count) (λ k x h. h) c.args.keys.now
-        c.args.asked.now.items
+    c.args.asked.now.items
     c.asks.i
     c.requires.long (let l = c.asks.invariant.long in omega arith) c.requires.cells) in
     let there = (g.met.M.AddressMap.lawful c.args.map.now).part_below c.cell_of.result below in
@@ -49,7 +49,7 @@ bounds-taken-at g c =
     let lawful = g.met.M.AddressMap.lawful c.args.map.now in
     let below : c.cell_of.result < m.count =
     rw c.cell_of.ensures (all_keys ask_at (IsAskBelow m.count) (λ k. k % 2 ^ 20 < m.count) (λ k x h. h) c.args.keys.now
-        c.args.asked.now.items
+    c.args.asked.now.items
     c.asks.i
     c.requires.long (let l = c.asks.invariant.long in omega arith) c.requires.cells) in
     let there = lawful.part_below c.cell_of.result below in
@@ -63,7 +63,7 @@ bounds-taken-at-in-asks g c =
     let lawful = g.met.M.AddressMap.lawful c.args.map.now in
     let below : c.cell_of.result < m.count =
     rw c.cell_of.ensures (all_keys ask_at (IsAskBelow m.count) (λ k. k % 2 ^ 20 < m.count) (λ k x h. h) c.args.keys.now
-        c.args.asked.now.items
+    c.args.asked.now.items
     c.asks.i
     c.requires.long (let l = c.asks.invariant.long in omega arith) c.requires.cells) in
     let there = lawful.part_below c.cell_of.result below in
@@ -112,7 +112,7 @@ asks-preserved g c =
       all = ap (λ z. take k (paired ask_at ks new) ++ left z) (sym (rest_of_pairs ask_at k ks xs xs0 after))
           ∙ run.held taken replies known as_many refl (sym (at_each rows home _ within))
           ∙ ap (λ z. take i (paired ask_at ks xs) ++ all_replied at 0 (left_of_all taken 0 replies) z)
-              (rest_of_pairs ask_at i ks xs xs0 inv.rest)
+          (rest_of_pairs ask_at i ks xs xs0 inv.rest)
           ∙ inv.all;
     }
 
@@ -129,7 +129,7 @@ returns-clause-held g c =
     let v = inv.long in
     let r = c.requires.long in
     let e : take i (paired ask_at ks c.asks.asked.items) ≡ paired ask_at ks c.asks.asked.items = take_all i
-        (paired ask_at ks c.asks.asked.items) (omega arith) in
+    (paired ask_at ks c.asks.asked.items) (omega arith) in
     let d : drop i (paired ask_at ks c.args.asked.now.items) ≡ [] = drop_all i (paired ask_at ks c.args.asked.now.items) (omega arith) in
     sym (ap (λ z. z ++ all_replied at 0 columns (drop i (paired ask_at ks c.args.asked.now.items))) e
     ∙ ap (λ z. paired ask_at ks c.asks.asked.items ++ z) (ap (all_replied at 0 columns) d ∙ nothing_held at columns 0)

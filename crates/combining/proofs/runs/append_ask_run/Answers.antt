@@ -89,7 +89,7 @@ module _ (at : ℕ → ℕ) (home : ℕ) (held : List HeldAsk) (from i : ℕ) (o
 pub returns-then-there-home-clause-got : goal.returns-then-there-home-clause-got
 returns-then-there-home-clause-got g c =
     so_far (g.M.AddressMap.shape c.args.map.now).part c.args.home (paired ask_at c.args.keys.now c.args.asked.now.items)
-        c.args.from c.asks.i
+    c.args.from c.asks.i
     c.args.list.items c.asks.list.items c.asks.invariant.got c.asks.invariant.others
 
 pub returns-clause-got : goal.returns-clause-got
@@ -97,7 +97,7 @@ returns-clause-got g c =
     let at = (g.M.AddressMap.shape c.args.map.now).part in
     let held = paired ask_at c.args.keys.now c.args.asked.now.items in
     let end : c.asks.i ≡ length c.marks-marks.result.now = (let f = c.asks-test.false in let e = c.asks.auto.i-end in let r =
-        c.requires.from in
+    c.requires.from in
     let n = c.marks-marks.ensures.length in omega (arith, f, e, r, n)) in
     subst (λ (k : ℕ). GetsFirst c.args.home (λ j. ask_words (asks_for at j (drop c.args.from held)))
     (λ j. ask_words (asks_for at j (drop k held))) c.args.list.items c.asks.list.items) end

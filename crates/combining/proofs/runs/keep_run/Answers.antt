@@ -85,7 +85,7 @@ asks-preserved g c =
                 ∷ all_replied at 0 (left_of_all us 0 replies) behind) (sym (set_again taken home n (n + 1)))
                 ∙ sym (ap (λ z. before ++ z) (ap (all_replied at 0 (left_of_all ts 0 replies)) more
                 ∙ one_taken at home ts n (get_or-set_same taken home n 0 known) q here as_long replies 0 home (omega arith) there
-                    some behind))
+                some behind))
                 ∙ inv.held taken replies known there is same;
           }))
       | else-n-words w ↦

@@ -58,7 +58,7 @@ loop-i-preserved g c =
       room = c.push_ask.ensures.room ∙ c.loop-i.invariant.room;
       all = pack_yes words_of mine held i (ask_at k x) more c.loop-i.list.items (c.args.list.items ++ packed words_of mine held)
           c.loop-i.invariant.all c.push_ask.new.out.items yes (c.push_ask.ensures.word ∙ same_word k x c.loop-i.list.items
-              (sym (c.requires.once i)));
+          (sym (c.requires.once i)));
     }
 
 pub returns-clause-words : goal.returns-clause-words
@@ -68,6 +68,6 @@ returns-clause-words g c =
     let long = length_paired ask_at c.args.keys.now c.args.asked.now.items c.requires.long in
     let as_long = c.requires.long in
     let off : length c.args.asked.now.items ≤ c.loop-i.i = (let n = c.requires.long in let t = c.loop-i-test.false in omega
-        (arith, n, t)) in
+    (arith, n, t)) in
     pack_end words_of (is_for m.part 0) held c.loop-i.i c.loop-i.list.items _ (omega (arith, long, as_long, off)) c.loop-i.invariant.all
     ∙ ap (λ ws. c.args.list.items ++ ws) (sym (words_for m.part 0 held))

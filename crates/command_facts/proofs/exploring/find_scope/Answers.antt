@@ -24,7 +24,7 @@ returns-clause-refused g c =
     let why = c.halted.result in
     let cells = c.cells.ensures.total
     ∙ ap total_size (c.layout.ensures ∙ ap (λ (p : Checked). p.layout) c.under-program.ensures ∙ same_layout c.args.scope.rule
-        loaded.program) in
+    loaded.program) in
     inr (
       loaded.program,
       program_in (g.S.Sources.holds c.args.sources.now) c.args.file.now loaded c.in_ok-loaded.ensures.loaded,

@@ -21,5 +21,5 @@ returns-clause-refused g c =
     inr (inr (stops_at_run (g.S.Sources.holds c.args.sources.now) c.args.words c.in_ok-loaded.input.items _ c.deref.ensures.value
     c.len.result _ c.from.result c.halted_run.result c.halted_run.ensures.stop c.halted_run.ensures.about
     verb.Rules c.args.file.now c.in_ok-loaded.loaded c.in_ok-loaded.ensures.loaded c.in_ok-loaded.ensures.input
-        (c.len.ensures ∙ c.in_ok-loaded.input.ok.0)
+    (c.len.ensures ∙ c.in_ok-loaded.input.ok.0)
     (c.cells-cells.ensures.total ∙ ap total_size c.layout.ensures) why))

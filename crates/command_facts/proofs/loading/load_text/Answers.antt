@@ -19,7 +19,7 @@ returns-in_err-bytes-clause-refused g c =
     let h = c.in_err-bytes.field-0.0 in
     hands_on _ h _ c.from_residual-in_err-bytes.ensures.1
     (unread_text (g.S.Sources.holds c.args.sources.now c.args.file.now.name.now) c.args.file.now h.stop h.about
-        c.in_err-bytes.ensures.unread)
+    c.in_err-bytes.ensures.unread)
 
 pub returns-in-Ok-clause-text : goal.returns-in-Ok-clause-text
 returns-in-Ok-clause-text g c =

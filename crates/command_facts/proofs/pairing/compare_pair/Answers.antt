@@ -26,5 +26,5 @@ returns-clause-found g c =
     let compared = c.in_ok-compared.compared in
     let is = subst (λ (l : List SharedEntry). IsCompared words p.layout l text compared) c.layout-2.ensures
     (subst (λ (l : List SharedEntry). IsCompared words l c.layout-2.result.now text compared) c.layout.ensures
-        c.in_ok-compared.ensures.compared) in
+    c.in_ok-compared.ensures.compared) in
     if_ok c.compare_on.result _ _ (λ r found. (compared, is, found)) c.compare_on.ensures.found

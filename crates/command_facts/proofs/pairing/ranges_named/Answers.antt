@@ -29,5 +29,5 @@ returns c =
     let rs = c.loop-part.ranges.items in
     sym (append-nil rs)
     ∙ sym (ap (λ (xs : List CommonRange). rs ++ xs) (at_drop_all (filter_map f) (parts c.args.word.now) (length c.loop-part.yielded)
-        (omega (arith, t.1))))
+    (omega (arith, t.1))))
     ∙ c.loop-part.invariant

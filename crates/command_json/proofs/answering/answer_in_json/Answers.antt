@@ -9,6 +9,6 @@ pub returns-in-Err : goal.returns-in-Err
 returns-in-Err g c = record {
   leaves = Stopped c.from.result
       (subst (λ (a : Result Request Stop). IsStop (g.S.Sources.holds c.args.sources.now) a c.from.result) (sym c.in-Err.is)
-          c.from.ensures) refl
+      c.from.ensures) refl
       c.report.ensures.told;
 }

@@ -7,8 +7,10 @@ use Rattle.command_json.proofs.answering.tell.Goals as goal
 pub returns-in-Ok : goal.returns-in-Ok
 returns-in-Ok g c =
     let w = c.in-Ok.ensures.written in
-    record { leaves = subst (LeavesFound (map string_bytes c.args.words.now) c.args.found.now _ _ _ _) (sym w.0)
-        (Told w.1.0 w.1.1 w.1.2 c.tell_found_in_time.ensures.told) }
+    record {
+      leaves = subst (LeavesFound (map string_bytes c.args.words.now) c.args.found.now _ _ _ _) (sym w.0)
+          (Told w.1.0 w.1.1 w.1.2 c.tell_found_in_time.ensures.told);
+    }
 
 pub returns-in-Err : goal.returns-in-Err
 returns-in-Err g c = record {

@@ -8,7 +8,7 @@ pub returns-in_err-write_all : goal.returns-in_err-write_all
 returns-in_err-write_all g c = record {
   written = cut_off _ _ _ _ c.from_residual.result c.from_residual.ensures.1
       (subst (StopsIn (g.O.Out.state c.args.out.now) (g.O.Out.state c.write_all.new.self)) c.as_bytes.ensures.value
-          c.in_err-write_all.ensures.written);
+      c.in_err-write_all.ensures.written);
 }
 
 pub returns : goal.returns

@@ -13,7 +13,7 @@ returns-then-is_ok g c =
     let run = c.args.run.now in
     let found = c.find_reason-reason.result in
     let same = ap (λ (l : List SharedEntry). fault_said run.loaded.source l c.args.fault.now (option_map reason_is found))
-        c.layout.ensures in
+    c.layout.ensures in
     record {
       written = (
         _,
@@ -30,7 +30,7 @@ returns g c =
     let run = c.args.run.now in
     let found = c.find_reason-reason.result in
     let same = ap (λ (l : List SharedEntry). fault_said run.loaded.source l c.args.fault.now (option_map reason_is found))
-        c.layout.ensures in
+    c.layout.ensures in
     record {
       written = (
         _,

@@ -16,7 +16,7 @@ returns-in_err-write_bound g c = record {
 pub returns-in-Some : goal.returns-in-Some
 returns-in-Some g c =
     let behind = subst (λ (o : Option Cycle). Writes (g.E.Out.state c.write_bound.new.err) (g.E.Out.state c.write_cycle.new.err)
-        (cycle_text o)
+    (cycle_text o)
     c.write_cycle.result) (sym c.in-Some.is) c.write_cycle.ensures.written in
     record {
       written = both _ _ _ _ (bound_sentence c.args.bound) (cycle_text c.args.cycle) c.write_cycle.result refl

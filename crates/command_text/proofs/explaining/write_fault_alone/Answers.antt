@@ -19,5 +19,5 @@ returns g c =
     record {
       written = both _ _ _ _ (told (reason_is c.unknown-reason.result)) no_reason c.write_all.result
           (ap (λ r. told r ++ no_reason) (sym c.unknown-reason.ensures)) c.in_ok-write_run_fault.ensures.written
-              c.write_all.ensures.written;
+          c.write_all.ensures.written;
     }

@@ -14,7 +14,7 @@ returns-in-Picture g c =
     let named = subst (λ (name : List ℕ). Writes old new (picture name c.deref.result.now) c.write_sweep_picture.result) c.as_slice.ensures
     c.write_sweep_picture.ensures.written in
     let drawn = subst (λ (rows : List SizeRow). Writes old new (picture s.sweep.name rows) c.write_sweep_picture.result)
-        c.deref.ensures.value
+    c.deref.ensures.value
     named in
     record {
       written = subst (λ (f : Form). Writes old new (swept_text f s.csv s) c.write_sweep_picture.result) (sym c.in-Picture.is) drawn;

@@ -22,7 +22,7 @@ returns-then-words g c =
     let cost = c.args.cost.now in
     let words = c.args.words in
     let told = goes_on _ _ _ _ _ (cost_text (verdict_of c.args.outcome.now) cost words.schedule)
-        (if_asked words.lines (lines_text cost.lines.items))
+    (if_asked words.lines (lines_text cost.lines.items))
     (starts _ _) refl c.in_ok-write_cost.ensures.written in
     let P : List LineCost → Type 0 = λ ls. Writes (g.O.Out.state c.write_cost.new.out) (g.O.Out.state c.write_lines.new.out) (lines_text ls)
     c.write_lines.result in

@@ -17,4 +17,4 @@ loop-input-preserved c =
     ∙ ap (λ (v : List ℤ). v ∷ rest) (sym c.deref.ensures.value) in
     further c.args.first.now c.args.second.now c.args.compared.now c.args.bound c.most_told-most.result (map values_of xs)
     (map values_of (drop i xs)) rest here (found_is c.loop-input.comparison) (found_is c.try_input.new.comparison) c.loop-input.invariant is
-        c.in_ok-try_input.ensures.found
+    c.in_ok-try_input.ensures.found

@@ -8,5 +8,7 @@ returns-in_err-write_quoted g c = record {
 }
 
 pub returns : goal.returns
-returns g c = record { written = both _ _ _ _ _ _ c.write_remarked.result (refl) c.in_ok-write_quoted.ensures.written
-    c.write_remarked.ensures.written }
+returns g c = record {
+  written = both _ _ _ _ _ _ c.write_remarked.result (refl) c.in_ok-write_quoted.ensures.written
+      c.write_remarked.ensures.written;
+}

@@ -10,5 +10,7 @@ returns-in_err-write_all g c = record {
 }
 
 pub returns : goal.returns
-returns g c = record { written = both _ _ _ _ _ _ c.write_met.result (ap (λ k. k ++ met_text c.args.who.now) (sym c.kind_sentence.ensures))
-    c.in_ok-write_all.ensures.written c.write_met.ensures.written }
+returns g c = record {
+  written = both _ _ _ _ _ _ c.write_met.result (ap (λ k. k ++ met_text c.args.who.now) (sym c.kind_sentence.ensures))
+      c.in_ok-write_all.ensures.written c.write_met.ensures.written;
+}

@@ -8,5 +8,7 @@ returns-in_err-write_all g c = record {
 }
 
 pub returns : goal.returns
-returns g c = record { written = both _ _ _ _ _ _ c.write_those.result (refl) c.in_ok-write_all.ensures.written
-    c.write_those.ensures.written }
+returns g c = record {
+  written = both _ _ _ _ _ _ c.write_those.result (refl) c.in_ok-write_all.ensures.written
+      c.write_those.ensures.written;
+}

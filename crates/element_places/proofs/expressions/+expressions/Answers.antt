@@ -20,9 +20,9 @@ pub add_elements-returns-in_ok-add_elements-in-Element : goal.add_elements-retur
 add_elements-returns-in_ok-add_elements-in-Element t c =
     let all = c.args.all.now.items in
     on_ok c.add_named.result (λ h. two all c.add_elements.new.all.items c.add_named.new.all.items _ _
-        c.in_ok-add_elements-in-Element.ensures h
+    c.in_ok-add_elements-in-Element.ensures h
     ∙ ap (λ l. all ++ l) (sym (as-Element c.args.word.now c.args.e.now c.in-Element.x c.in-Element.subscript c.get.result.now
-        c.in-Element.is
+    c.in-Element.is
     c.get.ensures))) c.add_named.ensures
 
 pub add_elements-returns-in-Paren : goal.add_elements-returns-in-Paren

@@ -11,6 +11,6 @@ returns g c =
     record {
       written = subst (λ (t : List ℕ). Writes (g.W.Out.state c.args.out.now) (g.W.Out.state c.write_parts.new.self) t c.write_parts.result)
           (λ i. codes "<text x='" ++ (x i ++ (codes "' y='272' text-anchor='middle' font-weight='bold'>" ++
-              (number i ++ (codes "</text>\n<text x='" ++
-              (x i ++ (codes "' y='286' text-anchor='middle'>line " ++ (line i ++ (codes "</text>\n"))))))))) c.write_parts.ensures.written;
+          (number i ++ (codes "</text>\n<text x='" ++
+          (x i ++ (codes "' y='286' text-anchor='middle'>line " ++ (line i ++ (codes "</text>\n"))))))))) c.write_parts.ensures.written;
     }

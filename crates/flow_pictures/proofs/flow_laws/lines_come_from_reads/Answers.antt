@@ -9,7 +9,7 @@ use Rattle.flow_pictures.proofs.flow_laws.lines_come_from_reads.Goals as goal
 pub returns-clause-line : goal.returns-clause-line
 returns-clause-line c = λ only aside es from to i p a source cell at one read is row_from row_to.
     arrow_among aside (cells only es from to) 1 (statements es from to) i p (arrow_by (1 + i) (aside p.1) (acts_in p.1) cell source)
-        at.within at.is
+    at.within at.is
     (arrow_is (cells only es from to) (1 + i) (aside p.1) (acts_in p.1) a source cell one read is row_from row_to)
 
 pub returns-clause-drawn : goal.returns-clause-drawn

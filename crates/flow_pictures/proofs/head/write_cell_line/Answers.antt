@@ -13,6 +13,6 @@ returns g c =
     record {
       written = subst (λ (t : List ℕ). Writes (g.W.Out.state c.args.out.now) (g.W.Out.state c.write_parts.new.self) t c.write_parts.result)
           (λ i. codes "<text x='12' y='38'>" ++ (all i ++
-              (codes " cells, " ++ (some i ++ (codes " of them drawn, " ++ (others i ++ (codes " not: " ++ ended i)))))))
-              c.write_parts.ensures.written;
+          (codes " cells, " ++ (some i ++ (codes " of them drawn, " ++ (others i ++ (codes " not: " ++ ended i)))))))
+          c.write_parts.ensures.written;
     }

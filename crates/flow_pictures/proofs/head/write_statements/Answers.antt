@@ -10,6 +10,6 @@ returns g c =
     record {
       written = subst (λ (t : List ℕ). Writes (g.W.Out.state c.args.out.now) (g.W.Out.state c.write_parts.new.self) t c.write_parts.result)
           (λ i. codes "<text x='12' y='20'>" ++ (all i ++
-              (codes " statements, " ++ (some i ++ (codes " of them drawn: those that touch shared memory")))))
-              c.write_parts.ensures.written;
+          (codes " statements, " ++ (some i ++ (codes " of them drawn: those that touch shared memory")))))
+          c.write_parts.ensures.written;
     }

@@ -5,7 +5,7 @@ use Rattle.flow_pictures.proofs.inside.+inside.Goals as goal
 pub add_step-returns-in_ok-add_steps-in-If : goal.add_step-returns-in_ok-add_steps-in-If
 add_step-returns-in_ok-add_steps-in-If t c =
     on_ok c.add_steps-in-If.result (λ h. step_if c.args.offset c.in-If.location c.args.s.now c.in-If.test c.in-If.then_part
-        c.in-If.else_part
+    c.in-If.else_part
     c.args.all.now.items c.add_here.new.all.items c.add_steps.new.all.items c.add_steps-in-If.new.all.items c.in-If.is
     c.in_ok-add_here-in-If.ensures c.in_ok-add_steps-in-If.ensures h) c.add_steps-in-If.ensures
 

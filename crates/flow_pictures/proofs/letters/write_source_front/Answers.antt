@@ -9,5 +9,5 @@ returns g c =
     record {
       written = subst (λ (t : List ℕ). Writes (g.W.Out.state c.args.out.now) (g.W.Out.state c.write_parts.new.self) t c.write_parts.result)
           (λ i. codes "<text transform='translate(" ++ (x i ++ (codes " 250)rotate(-90)' font-family='monospace' font-size='11'>")))
-              c.write_parts.ensures.written;
+          c.write_parts.ensures.written;
     }

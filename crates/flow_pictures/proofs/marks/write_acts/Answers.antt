@@ -9,9 +9,9 @@ use Rattle.flow_pictures.proofs.marks.write_acts.Goals as goal
 pub returns-in_err-write_arrows : goal.returns-in_err-write_arrows
 returns-in_err-write_arrows g c =
     let part1 = flat_map (arrow_text c.args.rows.now) (arrows c.args.rows.now c.args.column c.args.aside.now
-        (map act_is c.args.acts.now)) in
+    (map act_is c.args.acts.now)) in
     let part2 = flat_map (node_text c.args.rows.now)
-        (nodes c.args.rows.now c.args.column (value_in (map act_is c.args.acts.now) c.args.written.now) (map act_is c.args.acts.now)) in
+    (nodes c.args.rows.now c.args.column (value_in (map act_is c.args.acts.now) c.args.written.now) (map act_is c.args.acts.now)) in
     let part3 = flat_map (reading_text c.args.rows.now) (readings c.args.rows.now c.args.column (map act_is c.args.acts.now)) in
     record {
       written = breaks_off _ _ _ _ _ part1 (part2 ++ part3) c.from_residual.result _ c.from_residual.ensures.1 (starts _ _) refl
@@ -21,9 +21,9 @@ returns-in_err-write_arrows g c =
 pub returns-in_err-write_nodes : goal.returns-in_err-write_nodes
 returns-in_err-write_nodes g c =
     let part1 = flat_map (arrow_text c.args.rows.now) (arrows c.args.rows.now c.args.column c.args.aside.now
-        (map act_is c.args.acts.now)) in
+    (map act_is c.args.acts.now)) in
     let part2 = flat_map (node_text c.args.rows.now)
-        (nodes c.args.rows.now c.args.column (value_in (map act_is c.args.acts.now) c.args.written.now) (map act_is c.args.acts.now)) in
+    (nodes c.args.rows.now c.args.column (value_in (map act_is c.args.acts.now) c.args.written.now) (map act_is c.args.acts.now)) in
     let part3 = flat_map (reading_text c.args.rows.now) (readings c.args.rows.now c.args.column (map act_is c.args.acts.now)) in
     let after1 = goes_on _ _ _ _ _ part1 (part2 ++ part3) (starts _ _) refl c.in_ok-write_arrows.ensures.written in
     record {
@@ -34,9 +34,9 @@ returns-in_err-write_nodes g c =
 pub returns : goal.returns
 returns g c =
     let part1 = flat_map (arrow_text c.args.rows.now) (arrows c.args.rows.now c.args.column c.args.aside.now
-        (map act_is c.args.acts.now)) in
+    (map act_is c.args.acts.now)) in
     let part2 = flat_map (node_text c.args.rows.now)
-        (nodes c.args.rows.now c.args.column (value_in (map act_is c.args.acts.now) c.args.written.now) (map act_is c.args.acts.now)) in
+    (nodes c.args.rows.now c.args.column (value_in (map act_is c.args.acts.now) c.args.written.now) (map act_is c.args.acts.now)) in
     let part3 = flat_map (reading_text c.args.rows.now) (readings c.args.rows.now c.args.column (map act_is c.args.acts.now)) in
     let after1 = goes_on _ _ _ _ _ part1 (part2 ++ part3) (starts _ _) refl c.in_ok-write_arrows.ensures.written in
     let after2 = goes_on _ _ _ _ _ part2 part3 after1 refl c.in_ok-write_nodes.ensures.written in

@@ -11,8 +11,8 @@ use Rattle.flow_pictures.proofs.marks.write_arrows.Goals as goal
 pub returns-in_err-write_arrows_if : goal.returns-in_err-write_arrows_if
 returns-in_err-write_arrows_if g c =
     let at = all_kept_at (arrow_text c.args.rows.now) (arrows_to c.args.rows.now c.args.column c.args.aside.now
-        (map act_is c.args.acts.now)) (writes (map act_is c.args.acts.now)) c.args.rows.now c.loop-to.to-index _ c.loop-to-test.true
-        (get_or_default c.args.rows.now c.loop-to.to-index _ _ c.loop-to-test.true) in
+    (map act_is c.args.acts.now)) (writes (map act_is c.args.acts.now)) c.args.rows.now c.loop-to.to-index _ c.loop-to-test.true
+    (get_or_default c.args.rows.now c.loop-to.to-index _ _ c.loop-to-test.true) in
     record {
       written = writes_stopped _ _ _ c.from_residual.result _ c.from_residual.ensures.1
           (stops _ _ _ _ _ _ _ c.loop-to.invariant at c.in_err-write_arrows_if.ensures.written);
@@ -21,6 +21,6 @@ returns-in_err-write_arrows_if g c =
 pub loop-to-preserved : goal.loop-to-preserved
 loop-to-preserved g c =
     let at = all_kept_at (arrow_text c.args.rows.now) (arrows_to c.args.rows.now c.args.column c.args.aside.now
-        (map act_is c.args.acts.now)) (writes (map act_is c.args.acts.now)) c.args.rows.now c.loop-to.to-index _ c.loop-to-test.true
-        (get_or_default c.args.rows.now c.loop-to.to-index _ _ c.loop-to-test.true) in
+    (map act_is c.args.acts.now)) (writes (map act_is c.args.acts.now)) c.args.rows.now c.loop-to.to-index _ c.loop-to-test.true
+    (get_or_default c.args.rows.now c.loop-to.to-index _ _ c.loop-to-test.true) in
     goes_on _ _ _ _ _ _ _ c.loop-to.invariant at c.in_ok-write_arrows_if.ensures.written

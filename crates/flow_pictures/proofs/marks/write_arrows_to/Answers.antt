@@ -12,8 +12,8 @@ use Rattle.flow_pictures.proofs.marks.write_arrows_to.Goals as goal
 pub returns-in_err-write_arrow_if : goal.returns-in_err-write_arrow_if
 returns-in_err-write_arrow_if g c =
     let at = kept_at (arrow_text c.args.rows.now) (arrow_by c.args.column c.args.aside.now (map act_is c.args.acts.now) c.args.to)
-        (λ from. carries (map act_is c.args.acts.now) from (Some c.args.to)) c.args.rows.now c.loop-from.from-index _ c.loop-from-test.true
-        (get_or_default c.args.rows.now c.loop-from.from-index _ _ c.loop-from-test.true) in
+    (λ from. carries (map act_is c.args.acts.now) from (Some c.args.to)) c.args.rows.now c.loop-from.from-index _ c.loop-from-test.true
+    (get_or_default c.args.rows.now c.loop-from.from-index _ _ c.loop-from-test.true) in
     record {
       written = writes_stopped _ _ _ c.from_residual.result _ c.from_residual.ensures.1
           (stops _ _ _ _ _ _ _ c.loop-from.invariant at c.in_err-write_arrow_if.ensures.written);
@@ -22,6 +22,6 @@ returns-in_err-write_arrow_if g c =
 pub loop-from-preserved : goal.loop-from-preserved
 loop-from-preserved g c =
     let at = kept_at (arrow_text c.args.rows.now) (arrow_by c.args.column c.args.aside.now (map act_is c.args.acts.now) c.args.to)
-        (λ from. carries (map act_is c.args.acts.now) from (Some c.args.to)) c.args.rows.now c.loop-from.from-index _ c.loop-from-test.true
-        (get_or_default c.args.rows.now c.loop-from.from-index _ _ c.loop-from-test.true) in
+    (λ from. carries (map act_is c.args.acts.now) from (Some c.args.to)) c.args.rows.now c.loop-from.from-index _ c.loop-from-test.true
+    (get_or_default c.args.rows.now c.loop-from.from-index _ _ c.loop-from-test.true) in
     goes_on _ _ _ _ _ _ _ c.loop-from.invariant at c.in_ok-write_arrow_if.ensures.written

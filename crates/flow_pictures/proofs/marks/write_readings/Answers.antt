@@ -12,8 +12,8 @@ use Rattle.flow_pictures.proofs.marks.write_readings.Goals as goal
 pub returns-in_err-write_reading_if : goal.returns-in_err-write_reading_if
 returns-in_err-write_reading_if g c =
     let at = kept_at (reading_text c.args.rows.now) (reading c.args.column) (λ cell. carries (map act_is c.args.acts.now) cell None)
-        c.args.rows.now c.loop-cell.cell-index _ c.loop-cell-test.true (get_or_default c.args.rows.now c.loop-cell.cell-index _ _
-        c.loop-cell-test.true) in
+    c.args.rows.now c.loop-cell.cell-index _ c.loop-cell-test.true (get_or_default c.args.rows.now c.loop-cell.cell-index _ _
+    c.loop-cell-test.true) in
     record {
       written = writes_stopped _ _ _ c.from_residual.result _ c.from_residual.ensures.1
           (stops _ _ _ _ _ _ _ c.loop-cell.invariant at c.in_err-write_reading_if.ensures.written);
@@ -22,6 +22,6 @@ returns-in_err-write_reading_if g c =
 pub loop-cell-preserved : goal.loop-cell-preserved
 loop-cell-preserved g c =
     let at = kept_at (reading_text c.args.rows.now) (reading c.args.column) (λ cell. carries (map act_is c.args.acts.now) cell None)
-        c.args.rows.now c.loop-cell.cell-index _ c.loop-cell-test.true (get_or_default c.args.rows.now c.loop-cell.cell-index _ _
-        c.loop-cell-test.true) in
+    c.args.rows.now c.loop-cell.cell-index _ c.loop-cell-test.true (get_or_default c.args.rows.now c.loop-cell.cell-index _ _
+    c.loop-cell-test.true) in
     goes_on _ _ _ _ _ _ _ c.loop-cell.invariant at c.in_ok-write_reading_if.ensures.written

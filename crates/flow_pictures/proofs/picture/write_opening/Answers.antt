@@ -10,6 +10,6 @@ returns g c =
     record {
       written = subst (λ (t : List ℕ). Writes (g.W.Out.state c.args.out.now) (g.W.Out.state c.write_parts.new.self) t c.write_parts.result)
           (λ i. codes "<svg xmlns='http://www.w3.org/2000/svg' version='1.1' width='" ++
-              (wide i ++ (codes "' height='" ++ (tall i ++ (codes "' font-family='sans-serif' font-size='12'>\n<rect x='0' y='0' width='" ++
-              (wide i ++ (codes "' height='" ++ (tall i ++ (codes "' fill='#ffffff'/>\n"))))))))) c.write_parts.ensures.written;
+          (wide i ++ (codes "' height='" ++ (tall i ++ (codes "' font-family='sans-serif' font-size='12'>\n<rect x='0' y='0' width='" ++
+          (wide i ++ (codes "' height='" ++ (tall i ++ (codes "' fill='#ffffff'/>\n"))))))))) c.write_parts.ensures.written;
     }

@@ -10,5 +10,5 @@ returns g c =
     record {
       written = subst (λ (t : List ℕ). Writes (g.W.Out.state c.args.out.now) (g.W.Out.state c.write_parts.new.self) t c.write_parts.result)
           (λ i. codes "<path d='M198 " ++ (y i ++ (codes "H" ++ (end i ++ (codes "' stroke='#b0b0b0'/>\n")))))
-              c.write_parts.ensures.written;
+          c.write_parts.ensures.written;
     }

@@ -14,5 +14,5 @@ returns g c =
     record {
       written = subst (λ (t : List ℕ). Writes (g.W.Out.state c.args.out.now) (g.W.Out.state c.write_parts.new.self) t c.write_parts.result)
           (λ i. codes "<path d='M" ++ (x i ++ (codes " " ++ (y i ++ (codes "L" ++ (to_x i ++ (codes " " ++ (to_y i ++ ended i))))))))
-              c.write_parts.ensures.written;
+          c.write_parts.ensures.written;
     }

@@ -10,5 +10,5 @@ returns g c =
     record {
       written = subst (λ (t : List ℕ). Writes (g.W.Out.state c.args.out.now) (g.W.Out.state c.write_parts.new.self) t c.write_parts.result)
           (λ i. codes "<text x='" ++ (x i ++ (codes "' y='" ++ (y i ++ (codes "' text-anchor='" ++ (c.args.anchor.now ++ (codes "'")))))))
-              c.write_parts.ensures.written;
+          c.write_parts.ensures.written;
     }

@@ -20,12 +20,12 @@ loop-choice-preserved c =
             (sym w.in_ok-push.ensures.items ∙ sym (ap (λ v. v.items) w.found-is))
             (gathered_told front all _ i choice.Name c.loop-choice-test.true
             (subst (λ l. IsTold l one) c.loop-choice.invariant.same (is_so _ (IsTold now one) c.in_ok-is_told.ensures.decides
-                w.if-branch.true))
+            w.if-branch.true))
             c.loop-choice.invariant.gathered)
         | else-branch w ↦ subst (λ l. Gathered front all l (i + 1)) (sym (ap (λ v. v.items) w.found-is))
             (gathered_left_out front all _ i choice.Name c.loop-choice-test.true
             (subst (λ l. IsTold l one → ⊥) c.loop-choice.invariant.same (is_not_so _ (IsTold now one) c.in_ok-is_told.ensures.decides
-                w.if-branch.false))
+            w.if-branch.false))
             c.loop-choice.invariant.gathered)
       ];
     }

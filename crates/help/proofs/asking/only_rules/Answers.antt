@@ -19,5 +19,5 @@ returns-else-branch-clause-decides c =
     by_answer c.args.tokens.now.items c.could_stand-else-branch.result
     (is_not_so c.in_ok-could_stand.field-0 _ c.in_ok-could_stand.ensures.decides c.if-branch.false)
     (subst (λ l. IfOk c.could_stand-else-branch.result (λ b. Decides b (CouldStand l (sample choice.Rule))))
-        c.in_ok-could_stand.ensures.same
+    c.in_ok-could_stand.ensures.same
     c.could_stand-else-branch.ensures.decides)

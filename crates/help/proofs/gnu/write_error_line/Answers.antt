@@ -8,5 +8,7 @@ returns-in_err-write_place g c = record {
 }
 
 pub returns : goal.returns
-returns g c = record { written = both _ _ _ _ _ _ c.write_error.result (refl) c.in_ok-write_place.ensures.written
-    c.write_error.ensures.written }
+returns g c = record {
+  written = both _ _ _ _ _ _ c.write_error.result (refl) c.in_ok-write_place.ensures.written
+      c.write_error.ensures.written;
+}

@@ -8,5 +8,7 @@ returns-in_err-write_file g c = record {
 }
 
 pub returns : goal.returns
-returns g c = record { written = both _ _ _ _ _ _ c.write_spaced.result (refl) c.in_ok-write_file.ensures.written
-    c.write_spaced.ensures.written }
+returns g c = record {
+  written = both _ _ _ _ _ _ c.write_spaced.result (refl) c.in_ok-write_file.ensures.written
+      c.write_spaced.ensures.written;
+}

@@ -8,5 +8,7 @@ returns-in_err-write_error_line g c = record {
 }
 
 pub returns : goal.returns
-returns g c = record { written = both _ _ _ _ _ _ c.write_all.result (refl) c.in_ok-write_error_line.ensures.written
-    c.write_all.ensures.written }
+returns g c = record {
+  written = both _ _ _ _ _ _ c.write_all.result (refl) c.in_ok-write_error_line.ensures.written
+      c.write_all.ensures.written;
+}

@@ -6,7 +6,7 @@ use Rattle.help.proofs.in_scope.+reaching.Goals as goal
 pub reach_statement-returns-in-Assign : goal.reach_statement-returns-in-Assign
 reach_statement-returns-in-Assign t c =
     led c.reach.result _ (assign_names c.args.at _ _ c.args.statement.now c.in-Assign.target c.in-Assign.value c.in-Assign.is)
-        c.reach.ensures
+    c.reach.ensures
 
 pub reach_statement-returns-in-AssignElement : goal.reach_statement-returns-in-AssignElement
 reach_statement-returns-in-AssignElement t c =
@@ -56,5 +56,5 @@ reach_statement-returns-in_ok-reach_locals-in-Pardo t c =
     ∙ ap (λ i. reached_locals at locals (map known_is i) mid) (c.deref.ensures.value ∙ sym c.deref-in-Pardo.ensures.value) in
     led c.reach_block-in-Pardo.result _ (pardo_form at _ _ c.args.statement.now c.in-Pardo.location c.in-Pardo.low index c.in-Pardo.high
     locals locals c.in-Pardo.body _ (map known_is two) mid _ c.in-Pardo.is refl c.as_slice-in-Pardo-3.ensures named
-        c.in_ok-reach-in-Pardo.ensures behind)
+    c.in_ok-reach-in-Pardo.ensures behind)
     c.reach_block-in-Pardo.ensures

@@ -35,7 +35,7 @@ loop-choice-preserved c =
     let best = c.loop-choice.best in
     let goes : GoesOn front rest d n =
     subst (λ (ts : List Token). GoesOn (take c.args.at ts) (drop c.args.at ts) d n) c.loop-choice.invariant.same
-        c.in_ok-reached.ensures.reaches in
+    c.in_ok-reached.ensures.reaches in
     record {
       same = c.in_ok-reached.ensures.same ∙ c.loop-choice.invariant.same;
       at = c.loop-choice.invariant.at;
@@ -61,5 +61,5 @@ pub returns : goal.returns
 returns c =
     best_missing _ _ c.args.found.now c.loop-choice.most c.loop-choice.best
     (subst (λ (ds : List Choice). AreTried (take c.args.at c.args.tokens.now.items) (drop c.args.at c.args.tokens.now.items) ds
-        c.loop-choice.most c.loop-choice.best)
+    c.loop-choice.most c.loop-choice.best)
     (take_all c.loop-choice.choice-index c.args.found.now c.loop-choice-test.false) c.loop-choice.invariant.tried)

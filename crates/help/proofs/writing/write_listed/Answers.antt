@@ -25,5 +25,5 @@ loop-choice-preserved g c =
     let below : i < length ks = c.loop-choice-test.true in
     let counted : c.loop-choice.others + i ≡ length ks = c.loop-choice.invariant.counted in
     listed_more _ _ _ ks i c.loop-choice.others (c.loop-choice.others - 1) choice.Name c.loop-choice.invariant below
-        (omega (arith, below, counted))
+    (omega (arith, below, counted))
     c.in_ok-write_among.ensures.written

@@ -7,7 +7,7 @@ pub loop-entry-preserved : goal.loop-entry-preserved
 loop-entry-preserved c =
     let counted : c.loop-entry.before ≡ c.loop-entry.entry-index = c.loop-entry.invariant.counted in
     let at = steps_at c.args.layout.now c.args.tree.now c.args.source.now c.args.first c.args.last c.args.entries.now
-        c.loop-entry.entry-index
+    c.loop-entry.entry-index
     c.loop-entry.before
     c.entry-item.result c.loop-entry-test.true c.entry-item.is in
     record {

@@ -8,6 +8,6 @@ abbrev pub invariant-loop-entry : goal.invariant-loop-entry
 invariant-loop-entry l = record {
   so_far : SoFar (steps_from l.layout l.tree l.source l.first l.last 1 (map entry_is l.entries))
       (steps_from l.layout l.tree l.source l.first l.last (l.before + 1) (map entry_is (drop l.entry-index l.entries)))
-          (string_bytes l.text);
+      (string_bytes l.text);
   counted : l.before ≡ l.entry-index;
 }

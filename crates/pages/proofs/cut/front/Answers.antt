@@ -6,7 +6,7 @@ use Rattle.pages.proofs.cut.front.Goals as goal
 pub returns-then-size-gt-ROOM : goal.returns-then-size-gt-ROOM
 returns-then-size-gt-ROOM c =
     fronting_full c.args.first.now c.args.most c.args.beside c.loop-at.whole c.loop-at.size c.loop-at.at 0 c.loop-at.invariant
-        c.loop-at-test.true
+    c.loop-at-test.true
     (subst (λ w. room < c.loop-at.size + w) c.width-size.ensures c.if-size-gt-ROOM.true)
 
 pub loop-at-preserved-then-byte-eq10 : goal.loop-at-preserved-then-byte-eq10

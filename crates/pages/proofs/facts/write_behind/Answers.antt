@@ -8,5 +8,7 @@ returns-in_err-write_lines g c = record {
 }
 
 pub returns : goal.returns
-returns g c = record { written = both _ _ _ _ _ _ c.write_last.result refl c.in_ok-write_lines.ensures.written
-    c.write_last.ensures.written }
+returns g c = record {
+  written = both _ _ _ _ _ _ c.write_last.result refl c.in_ok-write_lines.ensures.written
+      c.write_last.ensures.written;
+}

@@ -11,5 +11,5 @@ returns-in_err-write_lines g c = record {
 pub returns : goal.returns
 returns g c =
     let counted = ap (λ n. embedded c.args.first.now ++ behind_text c.args.state.now c.args.last.now n c.args.left)
-        (sym c.line_count.ensures.value) in
+    (sym c.line_count.ensures.value) in
     record { written = both _ _ _ _ _ _ c.write_behind.result counted c.in_ok-write_lines.ensures.written c.write_behind.ensures.written }

@@ -8,5 +8,7 @@ returns-in_err-write_front g c = record {
 }
 
 pub returns : goal.returns
-returns g c = record { written = both _ _ _ _ _ _ c.write_rest.result refl c.in_ok-write_front.ensures.written
-    c.write_rest.ensures.written }
+returns g c = record {
+  written = both _ _ _ _ _ _ c.write_rest.result refl c.in_ok-write_front.ensures.written
+      c.write_rest.ensures.written;
+}

@@ -8,5 +8,7 @@ returns-in_err-write_reading g c = record {
 }
 
 pub returns : goal.returns
-returns g c = record { written = both _ _ _ _ _ _ c.write_drawing.result refl c.in_ok-write_reading.ensures.written
-    c.write_drawing.ensures.written }
+returns g c = record {
+  written = both _ _ _ _ _ _ c.write_drawing.result refl c.in_ok-write_reading.ensures.written
+      c.write_drawing.ensures.written;
+}

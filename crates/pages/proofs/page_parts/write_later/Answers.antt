@@ -8,5 +8,7 @@ returns-in_err-write_telling g c = record {
 }
 
 pub returns : goal.returns
-returns g c = record { written = both _ _ _ _ _ _ c.write_stepping.result refl c.in_ok-write_telling.ensures.written
-    c.write_stepping.ensures.written }
+returns g c = record {
+  written = both _ _ _ _ _ _ c.write_stepping.result refl c.in_ok-write_telling.ensures.written
+      c.write_stepping.ensures.written;
+}

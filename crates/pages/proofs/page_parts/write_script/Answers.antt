@@ -8,5 +8,7 @@ returns-in_err-write_earlier g c = record {
 }
 
 pub returns : goal.returns
-returns g c = record { written = both _ _ _ _ _ _ c.write_later.result refl c.in_ok-write_earlier.ensures.written
-    c.write_later.ensures.written }
+returns g c = record {
+  written = both _ _ _ _ _ _ c.write_later.result refl c.in_ok-write_earlier.ensures.written
+      c.write_later.ensures.written;
+}

@@ -9,7 +9,7 @@ push_of_statement-returns-in-Assign t c = sym (assign_pardos _ c.args.statement.
 pub push_of_statement-returns-in-AssignElement : goal.push_of_statement-returns-in-AssignElement
 push_of_statement-returns-in-AssignElement t c =
     sym (element_pardos _ c.args.statement.now c.in-AssignElement.target c.in-AssignElement.subscript c.in-AssignElement.value
-        c.in-AssignElement.is)
+    c.in-AssignElement.is)
 
 pub push_of_statement-returns-in-Print : goal.push_of_statement-returns-in-Print
 push_of_statement-returns-in-Print t c = sym (print_pardos _ c.args.statement.now c.in-Print.location c.in-Print.value c.in-Print.is)
@@ -33,7 +33,7 @@ pub push_of_statement-returns-in-Some : goal.push_of_statement-returns-in-Some
 push_of_statement-returns-in-Some t c =
     let given = ap Some c.as_slice-in-Some.ensures ∙ sym c.in-Some.is in
     led c.push_of_block-in-Some.result _ (if_pardos _ c.args.statement.now c.in-If.location c.in-If.test c.in-If.then_part _
-        c.in-If.else_part
+    c.in-If.else_part
     (Some c.as_slice-in-Some.result.now) _ c.in-If.is c.as_slice-in-If.ensures given c.in_ok-push_of_block-in-If.ensures)
     c.push_of_block-in-Some.ensures
 

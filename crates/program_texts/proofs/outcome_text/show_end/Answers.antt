@@ -20,7 +20,7 @@ returns-in_err-write_all g c =
     record {
       written = breaks_off _ _ _ _ _ (line
           (codes "ended")) cells c.from_residual-in_err-write_all.result _ c.from_residual-in_err-write_all.ensures.1 items refl
-              c.in_err-write_all.ensures.written;
+          c.in_err-write_all.ensures.written;
     }
 
 pub returns : goal.returns

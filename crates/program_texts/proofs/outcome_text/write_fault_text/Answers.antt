@@ -23,7 +23,7 @@ returns-in_err-write_place g c =
     record {
       written = breaks_off _ _ _ _ _ _ (codes " line " ++
           (decimal f.line ++ [])) c.from_residual-in_err-write_place.result _ c.from_residual-in_err-write_place.ensures.1 kind refl
-              c.in_err-write_place.ensures.written;
+          c.in_err-write_place.ensures.written;
     }
 
 pub returns : goal.returns

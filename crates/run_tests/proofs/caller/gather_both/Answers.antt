@@ -12,7 +12,7 @@ gather-requires-clause-ended g c = record {
       ∙ ap (λ l. l ++ c.args.second.0 ∷ []) (c.push_reserved.ensures.items ∙ ap (λ l. l ++ c.args.first.0 ∷ []) c.args.room.for_seats.0))
       (c.push_reserved-4.ensures.items
       ∙ ap (λ l. l ++ c.args.second.1 ∷ []) (c.push_reserved-3.ensures.items ∙ ap (λ l. l ++ c.args.first.1 ∷ [])
-          c.args.room.for_workers.0))
+      c.args.room.for_workers.0))
       c.requires.first.ended c.requires.second.ended);
 }
 

@@ -25,7 +25,7 @@ pub returns-in_err-high-clause-found : goal.returns-in_err-high-clause-found
 returns-in_err-high-clause-found c = λ low high p.
     let cut = cut_of c.args.word.now low high (Some (c.in_ok-first.first, c.in_ok-first.behind)) c.in_ok-first.ensures.cases p in
     let s : Some p.second ≡ Some c.in_ok-second.second.now = sym (ap behind_dot (c.as_bytes.ensures.value ∙ cut.1)) ∙
-        c.in_ok-second.ensures in
+    c.in_ok-second.ensures in
     let t : c.in_ok-second.second.now ≡ p.second = cc s in
     let e : None ≡ Some high = c.in_err-high.ensures ∙ ap number_of t ∙ p.high_is in
     absurd (cc e)
@@ -34,7 +34,7 @@ pub returns-then-high-low-clause-found : goal.returns-then-high-low-clause-found
 returns-then-high-low-clause-found c = λ low high p.
     let cut = cut_of c.args.word.now low high (Some (c.in_ok-first.first, c.in_ok-first.behind)) c.in_ok-first.ensures.cases p in
     let s : Some p.second ≡ Some c.in_ok-second.second.now = sym (ap behind_dot (c.as_bytes.ensures.value ∙ cut.1)) ∙
-        c.in_ok-second.ensures in
+    c.in_ok-second.ensures in
     let t : c.in_ok-second.second.now ≡ p.second = cc s in
     let l : Some c.in_ok-low.low ≡ Some low = c.in_ok-low.ensures ∙ ap number_of (c.as_bytes-2.ensures.value ∙ cut.0) ∙ p.low_is in
     let h : Some c.in_ok-high.high ≡ Some high = c.in_ok-high.ensures ∙ ap number_of t ∙ p.high_is in
@@ -50,7 +50,7 @@ returns-clause-spelled c =
     let low_fits : SFits w64 c.in_ok-low.low = search rules in
     let high_fits : SFits w64 c.in_ok-high.high = search rules in
     let parts = split_parts 46 c.args.word.now (Some (c.in_ok-first.first, c.in_ok-first.behind)) c.in_ok-first.ensures.cases
-        (omega arith) in
+    (omega arith) in
     let order = rw (to_z-of_z w64 c.in_ok-high.high high_fits, to_z-of_z w64 c.in_ok-low.low low_fits) at c.if-high-low.false in
     rw (to_z-of_z w64 c.in_ok-low.low low_fits, to_z-of_z w64 c.in_ok-high.high high_fits)
     (record {
@@ -67,7 +67,7 @@ pub returns-clause-found : goal.returns-clause-found
 returns-clause-found c = λ low high p.
     let cut = cut_of c.args.word.now low high (Some (c.in_ok-first.first, c.in_ok-first.behind)) c.in_ok-first.ensures.cases p in
     let s : Some p.second ≡ Some c.in_ok-second.second.now = sym (ap behind_dot (c.as_bytes.ensures.value ∙ cut.1)) ∙
-        c.in_ok-second.ensures in
+    c.in_ok-second.ensures in
     let t : c.in_ok-second.second.now ≡ p.second = cc s in
     let l : Some c.in_ok-low.low ≡ Some low = c.in_ok-low.ensures ∙ ap number_of (c.as_bytes-2.ensures.value ∙ cut.0) ∙ p.low_is in
     let h : Some c.in_ok-high.high ≡ Some high = c.in_ok-high.ensures ∙ ap number_of t ∙ p.high_is in

@@ -5,8 +5,10 @@ use Rattle.step_pictures.proofs.bands.write_band_front.Goals as goal
 
 pub returns-in_err-write_titles : goal.returns-in_err-write_titles
 returns-in_err-write_titles g c =
-    record { written = breaks_off _ _ _ _ _ _ (labels_from c.args.top 1 c.args.rows.now) c.from_residual.result _ c.from_residual.ensures.1
-        (starts _ _) (refl) c.in_err-write_titles.ensures.written }
+    record {
+      written = breaks_off _ _ _ _ _ _ (labels_from c.args.top 1 c.args.rows.now) c.from_residual.result _ c.from_residual.ensures.1
+          (starts _ _) (refl) c.in_err-write_titles.ensures.written;
+    }
 
 pub returns : goal.returns
 returns g c =

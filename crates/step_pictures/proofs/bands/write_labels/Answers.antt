@@ -9,7 +9,7 @@ use Rattle.step_pictures.proofs.bands.write_labels.Goals as goal
 pub returns-in_err-write_label : goal.returns-in_err-write_label
 returns-in_err-write_label g c =
     let at = labels_at c.args.top c.args.rows.now c.loop-index.index-index c.loop-index.before c.label_line.result _ c.label_line.ensures
-        c.loop-index-test.true (get_or_default c.args.rows.now c.loop-index.index-index _ _ c.loop-index-test.true) in
+    c.loop-index-test.true (get_or_default c.args.rows.now c.loop-index.index-index _ _ c.loop-index-test.true) in
     record {
       written = writes_stopped _ _ _ c.from_residual.result _ c.from_residual.ensures.1
           (stops _ _ _ _ _ _ _ c.loop-index.invariant.progress at c.in_err-write_label.ensures.written);
@@ -18,8 +18,8 @@ returns-in_err-write_label g c =
 pub loop-index-preserved : goal.loop-index-preserved
 loop-index-preserved g c =
     label_written _ _ _ _ c.args.top c.args.rows.now c.loop-index.index-index c.loop-index.before c.label_line.result _
-        c.loop-index.invariant c.label_line.ensures c.loop-index-test.true (get_or_default c.args.rows.now c.loop-index.index-index _ _
-        c.loop-index-test.true)
+    c.loop-index.invariant c.label_line.ensures c.loop-index-test.true (get_or_default c.args.rows.now c.loop-index.index-index _ _
+    c.loop-index-test.true)
     c.in_ok-write_label.ensures.written
 
 pub label_line-requires-clause-few : goal.label_line-requires-clause-few

@@ -11,6 +11,6 @@ returns g c =
     record {
       written = subst (λ (t : List ℕ). Writes (g.W.Out.state c.args.out.now) (g.W.Out.state c.write_parts.new.self) t c.write_parts.result)
           (λ i. codes "<text x='12' y='" ++ (upper i ++ (codes "' font-weight='bold'>statement</text>\n<text x='12' y='" ++
-              (lower i ++ (codes "' font-weight='bold'>processor</text>\n<text x='12' y='" ++ (first i ++ (codes "'>outside</text>\n")))))))
-              c.write_parts.ensures.written;
+          (lower i ++ (codes "' font-weight='bold'>processor</text>\n<text x='12' y='" ++ (first i ++ (codes "'>outside</text>\n")))))))
+          c.write_parts.ensures.written;
     }

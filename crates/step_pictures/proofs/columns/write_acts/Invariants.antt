@@ -8,4 +8,4 @@ use Rattle.step_pictures.proofs.columns.write_acts.Given as goal
 abbrev pub invariant-loop-act : goal.invariant-loop-act
 invariant-loop-act g l =
     Progress (g.W.Out.state l.fn.out) (g.W.Out.state l.out) (acts_drawn l.fn.layout l.fn.rows (column_is l.fn.at) (map act_is l.fn.acts))
-        (acts_drawn l.fn.layout l.fn.rows (column_is l.fn.at) (map act_is (drop l.act-index l.fn.acts)))
+    (acts_drawn l.fn.layout l.fn.rows (column_is l.fn.at) (map act_is (drop l.act-index l.fn.acts)))

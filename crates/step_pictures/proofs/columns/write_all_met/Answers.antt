@@ -8,7 +8,7 @@ use Rattle.step_pictures.proofs.columns.write_all_met.Goals as goal
 pub returns-in_err-write_met : goal.returns-in_err-write_met
 returns-in_err-write_met g c =
     let at = met_at c.args.rows.now (column_is c.args.at) c.args.met.now c.loop-index.index-index _ c.loop-index-test.true
-        (get_or_default c.args.met.now c.loop-index.index-index _ _ c.loop-index-test.true) in
+    (get_or_default c.args.met.now c.loop-index.index-index _ _ c.loop-index-test.true) in
     record {
       written = writes_stopped _ _ _ c.from_residual.result _ c.from_residual.ensures.1
           (stops _ _ _ _ _ _ _ c.loop-index.invariant at c.in_err-write_met.ensures.written);
@@ -17,5 +17,5 @@ returns-in_err-write_met g c =
 pub loop-index-preserved : goal.loop-index-preserved
 loop-index-preserved g c =
     let at = met_at c.args.rows.now (column_is c.args.at) c.args.met.now c.loop-index.index-index _ c.loop-index-test.true
-        (get_or_default c.args.met.now c.loop-index.index-index _ _ c.loop-index-test.true) in
+    (get_or_default c.args.met.now c.loop-index.index-index _ _ c.loop-index-test.true) in
     goes_on _ _ _ _ _ _ _ c.loop-index.invariant at c.in_ok-write_met.ensures.written

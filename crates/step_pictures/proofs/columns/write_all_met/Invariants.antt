@@ -7,4 +7,4 @@ use Rattle.step_pictures.proofs.columns.write_all_met.Given as goal
 abbrev pub invariant-loop-index : goal.invariant-loop-index
 invariant-loop-index g l =
     Progress (g.W.Out.state l.fn.out) (g.W.Out.state l.out) (all_met l.fn.rows (column_is l.fn.at) l.fn.met)
-        (all_met l.fn.rows (column_is l.fn.at) (drop l.index-index l.fn.met))
+    (all_met l.fn.rows (column_is l.fn.at) (drop l.index-index l.fn.met))

@@ -13,7 +13,7 @@ returns g c =
     record {
       written = subst (λ (t : List ℕ). Writes (g.W.Out.state c.args.out.now) (g.W.Out.state c.write_parts.new.self) t c.write_parts.result)
           (λ i. codes "<text x='" ++ (x i ++ (codes "' y='" ++
-              (upper i ++ (codes "'>" ++ (number i ++ (codes "</text>\n<text x='" ++
-              (x i ++ (codes "' y='" ++ (lower i ++ (codes "'>line " ++ (line i ++ (codes "</text>\n")))))))))))))
-              c.write_parts.ensures.written;
+          (upper i ++ (codes "'>" ++ (number i ++ (codes "</text>\n<text x='" ++
+          (x i ++ (codes "' y='" ++ (lower i ++ (codes "'>line " ++ (line i ++ (codes "</text>\n")))))))))))))
+          c.write_parts.ensures.written;
     }

@@ -7,7 +7,7 @@ use Rattle.step_pictures.proofs.foot.write_indices.Goals as goal
 pub returns-in_err-write_index : goal.returns-in_err-write_index
 returns-in_err-write_index g c =
     let at = indices_at c.args.indices.now c.loop-index.index-index _ c.loop-index-test.true
-        (get_or_default c.args.indices.now c.loop-index.index-index _ _ c.loop-index-test.true) in
+    (get_or_default c.args.indices.now c.loop-index.index-index _ _ c.loop-index-test.true) in
     record {
       written = writes_stopped _ _ _ c.from_residual.result _ c.from_residual.ensures.1
           (stops _ _ _ _ _ _ _ c.loop-index.invariant at c.in_err-write_index.ensures.written);
@@ -16,5 +16,5 @@ returns-in_err-write_index g c =
 pub loop-index-preserved : goal.loop-index-preserved
 loop-index-preserved g c =
     let at = indices_at c.args.indices.now c.loop-index.index-index _ c.loop-index-test.true
-        (get_or_default c.args.indices.now c.loop-index.index-index _ _ c.loop-index-test.true) in
+    (get_or_default c.args.indices.now c.loop-index.index-index _ _ c.loop-index-test.true) in
     goes_on _ _ _ _ _ _ _ c.loop-index.invariant at c.in_ok-write_index.ensures.written

@@ -5,8 +5,10 @@ use Rattle.step_pictures.proofs.marks.write_behind.Goals as goal
 
 pub returns-in_err-write_all : goal.returns-in_err-write_all
 returns-in_err-write_all g c =
-    record { written = breaks_off _ _ _ _ _ _ (cell_text c.args.layout.now c.args.cell) c.from_residual.result _ c.from_residual.ensures.1
-        (starts _ _) refl c.in_err-write_all.ensures.written }
+    record {
+      written = breaks_off _ _ _ _ _ _ (cell_text c.args.layout.now c.args.cell) c.from_residual.result _ c.from_residual.ensures.1
+          (starts _ _) refl c.in_err-write_all.ensures.written;
+    }
 
 pub returns : goal.returns
 returns g c =

@@ -13,6 +13,6 @@ returns g c =
     record {
       written = subst (λ (t : List ℕ). Writes (g.W.Out.state c.args.out.now) (g.W.Out.state c.write_parts.new.self) t c.write_parts.result)
           (λ i. codes "<rect x='" ++ (x i ++ (codes "' y='" ++
-              (y i ++ (codes "' width='60' height='18' fill='none' stroke='#000000' stroke-width='3'><title>processor " ++
-              (index i ++ (codes " met</title></rect>\n"))))))) c.write_parts.ensures.written;
+          (y i ++ (codes "' width='60' height='18' fill='none' stroke='#000000' stroke-width='3'><title>processor " ++
+          (index i ++ (codes " met</title></rect>\n"))))))) c.write_parts.ensures.written;
     }

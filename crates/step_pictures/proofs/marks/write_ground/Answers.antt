@@ -10,5 +10,5 @@ returns g c =
     record {
       written = subst (λ (t : List ℕ). Writes (g.W.Out.state c.args.out.now) (g.W.Out.state c.write_parts.new.self) t c.write_parts.result)
           (λ i. codes "<rect x='" ++ (x i ++ (codes "' y='" ++ (y i ++ (codes "' width='60' height='18' fill='#e0e0e0'><title>")))))
-              c.write_parts.ensures.written;
+          c.write_parts.ensures.written;
     }

@@ -12,7 +12,7 @@ returns g c =
     record {
       written = subst (λ (t : List ℕ). Writes (g.W.Out.state c.args.out.now) (g.W.Out.state c.write_parts.new.self) t c.write_parts.result)
           (λ i. codes "<rect x='" ++ (left i ++ (codes "' y='" ++
-              (top i ++ (codes "' width='26' height='14' fill='" ++
-              (c.args.colour.now ++ (codes "'/>\n<text x='" ++
-              (letter i ++ (codes "' y='" ++ (line i ++ (append-nil c.args.letter.now i))))))))))) c.write_parts.ensures.written;
+          (top i ++ (codes "' width='26' height='14' fill='" ++
+          (c.args.colour.now ++ (codes "'/>\n<text x='" ++
+          (letter i ++ (codes "' y='" ++ (line i ++ (append-nil c.args.letter.now i))))))))))) c.write_parts.ensures.written;
     }

@@ -8,8 +8,10 @@ pub returns-in_err-write_frame : goal.returns-in_err-write_frame
 returns-in_err-write_frame g c =
     let word = met_word (c.args.at.x + 33) (c.args.at.y + 13) in
     let at = ap (λ i. frame c.args.at.x c.args.at.y i ++ word) (sym (to_z-of_z w64 c.args.index c.ranges.index)) in
-    record { written = breaks_off _ _ _ _ _ _ word c.from_residual.result _ c.from_residual.ensures.1 (starts _ _) at
-        c.in_err-write_frame.ensures.written }
+    record {
+      written = breaks_off _ _ _ _ _ _ word c.from_residual.result _ c.from_residual.ensures.1 (starts _ _) at
+          c.in_err-write_frame.ensures.written;
+    }
 
 pub returns : goal.returns
 returns g c =

@@ -6,11 +6,13 @@ use Rattle.step_pictures.proofs.marks.write_title.Goals as goal
 
 pub returns-in_err-write_who : goal.returns-in_err-write_who
 returns-in_err-write_who g c =
-    record { written = breaks_off _ _ _ _ _ _ (accesses_text c.args.layout.now (act_is c.args.act.now)) c.from_residual.result _
-        c.from_residual.ensures.1 (starts _ _) refl c.in_err-write_who.ensures.written }
+    record {
+      written = breaks_off _ _ _ _ _ _ (accesses_text c.args.layout.now (act_is c.args.act.now)) c.from_residual.result _
+          c.from_residual.ensures.1 (starts _ _) refl c.in_err-write_who.ensures.written;
+    }
 
 pub returns : goal.returns
 returns g c =
     let after_1 = goes_on _ _ _ _ _ _ (accesses_text c.args.layout.now (act_is c.args.act.now)) (starts _ _) refl
-        c.in_ok-write_who.ensures.written in
+    c.in_ok-write_who.ensures.written in
     record { written = closes _ _ _ _ _ c.write_accesses.result after_1 c.write_accesses.ensures.written }

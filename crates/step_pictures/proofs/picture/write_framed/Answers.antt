@@ -16,8 +16,10 @@ returns-in_err-write_front g c =
     let rest_2 = table f es ++ rest_3 in
     let rest_1 = head f.part n (length f.rows) ++ rest_2 in
     let at : picture_of f es ≡ opening f n ++ rest_1 = ap (λ m. opening f m ++ (head f.part m (length f.rows) ++ rest_2)) same in
-    record { written = breaks_off _ _ _ _ _ _ (rest_1) c.from_residual.result _ c.from_residual.ensures.1 (starts _ _) (at)
-        c.in_err-write_front.ensures.written }
+    record {
+      written = breaks_off _ _ _ _ _ _ (rest_1) c.from_residual.result _ c.from_residual.ensures.1 (starts _ _) (at)
+          c.in_err-write_front.ensures.written;
+    }
 
 pub returns-in_err-write_head : goal.returns-in_err-write_head
 returns-in_err-write_head g c =
@@ -30,8 +32,10 @@ returns-in_err-write_head g c =
     let rest_1 = head f.part n (length f.rows) ++ rest_2 in
     let at : picture_of f es ≡ opening f n ++ rest_1 = ap (λ m. opening f m ++ (head f.part m (length f.rows) ++ rest_2)) same in
     let after_1 = goes_on _ _ _ _ _ _ (rest_1) (starts _ _) (at) c.in_ok-write_front.ensures.written in
-    record { written = breaks_off _ _ _ _ _ _ (rest_2) c.from_residual-in_err-write_head.result _
-        c.from_residual-in_err-write_head.ensures.1 after_1 (refl) c.in_err-write_head.ensures.written }
+    record {
+      written = breaks_off _ _ _ _ _ _ (rest_2) c.from_residual-in_err-write_head.result _
+          c.from_residual-in_err-write_head.ensures.1 after_1 (refl) c.in_err-write_head.ensures.written;
+    }
 
 pub returns-in_err-write_table : goal.returns-in_err-write_table
 returns-in_err-write_table g c =
@@ -45,8 +49,10 @@ returns-in_err-write_table g c =
     let at : picture_of f es ≡ opening f n ++ rest_1 = ap (λ m. opening f m ++ (head f.part m (length f.rows) ++ rest_2)) same in
     let after_1 = goes_on _ _ _ _ _ _ (rest_1) (starts _ _) (at) c.in_ok-write_front.ensures.written in
     let after_2 = goes_on _ _ _ _ _ _ (rest_2) after_1 (refl) c.in_ok-write_head.ensures.written in
-    record { written = breaks_off _ _ _ _ _ _ (rest_3) c.from_residual-in_err-write_table.result _
-        c.from_residual-in_err-write_table.ensures.1 after_2 (refl) c.in_err-write_table.ensures.written }
+    record {
+      written = breaks_off _ _ _ _ _ _ (rest_3) c.from_residual-in_err-write_table.result _
+          c.from_residual-in_err-write_table.ensures.1 after_2 (refl) c.in_err-write_table.ensures.written;
+    }
 
 pub returns : goal.returns
 returns g c =

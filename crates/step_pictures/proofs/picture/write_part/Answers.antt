@@ -11,7 +11,13 @@ returns g c =
     let letters = c.letters_of-letters.ensures.letters in
     record {
       written = subst (λ (t : List ℕ). Writes (g.W.Out.state c.args.out.now) (g.W.Out.state c.write_framed.new.out) t c.write_framed.result)
-          (λ i. picture_of (record { layout = c.args.layout.now; text = c.args.text.now; rows = rows i; letters = letters i; part =
-              c.args.part }) es)
+          (λ i. picture_of (record {
+            layout = c.args.layout.now;
+            text = c.args.text.now;
+            rows = rows i;
+            letters = letters i;
+            part =
+                c.args.part;
+          }) es)
           c.write_framed.ensures.written;
     }

@@ -16,7 +16,7 @@ pub returns : goal.returns
 returns g c =
     let at : upright (c.args.x + 24) c.args.y (first_row c.args.bytes.now) ++ more_code (c.args.x + 38) c.args.y (next_row c.args.bytes.now)
     ≡ upright (c.args.x + 24) c.args.y c.first_row.result.now ++ more_code (c.args.x + 38) c.args.y c.next_row.result.now = λ i. upright
-        (c.args.x + 24) c.args.y (sym c.first_row.ensures i) ++ more_code (c.args.x + 38) c.args.y (sym c.next_row.ensures i) in
+    (c.args.x + 24) c.args.y (sym c.first_row.ensures i) ++ more_code (c.args.x + 38) c.args.y (sym c.next_row.ensures i) in
     let after_1 = goes_on _ _ _ _ _ _ (more_code (c.args.x + 38) c.args.y c.next_row.result.now) (starts _ _) at
     c.in_ok-write_upright.ensures.written in
     record { written = closes _ _ _ _ _ c.write_more.result after_1 c.write_more.ensures.written }

@@ -4,8 +4,10 @@ use Rattle.step_pictures.proofs.program_lines.write_letters_and_dots.Goals as go
 
 pub returns-in_err-write_letters : goal.returns-in_err-write_letters
 returns-in_err-write_letters g c =
-    record { written = breaks_off _ _ _ _ _ _ (codes "..") c.from_residual.result _ c.from_residual.ensures.1 (starts _ _) (refl)
-        c.in_err-write_letters.ensures.written }
+    record {
+      written = breaks_off _ _ _ _ _ _ (codes "..") c.from_residual.result _ c.from_residual.ensures.1 (starts _ _) (refl)
+          c.in_err-write_letters.ensures.written;
+    }
 
 pub returns : goal.returns
 returns g c =

@@ -10,6 +10,6 @@ returns g c =
     record {
       written = subst (λ (t : List ℕ). Writes (g.W.Out.state c.args.out.now) (g.W.Out.state c.write_parts.new.self) t c.write_parts.result)
           (λ i. codes "<text transform='translate(" ++
-              (x i ++ (codes " " ++ (y i ++ (codes ") rotate(-90)' font-family='monospace' font-size='11'>")))))
-              c.write_parts.ensures.written;
+          (x i ++ (codes " " ++ (y i ++ (codes ") rotate(-90)' font-family='monospace' font-size='11'>")))))
+          c.write_parts.ensures.written;
     }

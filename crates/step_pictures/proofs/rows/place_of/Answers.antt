@@ -22,6 +22,6 @@ returns-after-loop-at-clause-value c =
     let i : ℤ = to_z w64 (of_z w64 c.args.index) in
     let so_far = c.loop-at.invariant.is in
     let over : place_of (drop c.loop-at.at c.args.rows.now) i ≡ 0 = at_drop_all (λ xs. place_of xs i) c.args.rows.now c.loop-at.at
-        c.loop-at-test.false in
+    c.loop-at-test.false in
     let found : c.loop-at.at ≡ place_of c.args.rows.now i = omega (arith, so_far, over) in
     found ∙ ap (place_of c.args.rows.now) (to_z-of_z w64 c.args.index c.ranges.index)

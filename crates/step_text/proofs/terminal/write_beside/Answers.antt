@@ -5,8 +5,10 @@ use Rattle.step_text.proofs.terminal.write_beside.Goals as goal
 
 pub returns-in_err-write_all : goal.returns-in_err-write_all
 returns-in_err-write_all g c =
-    record { written = breaks_off _ _ _ _ _ _ (shown_line c.args.text.now c.args.line) c.from_residual.result _ c.from_residual.ensures.1
-        (starts _ _) refl c.in_err-write_all.ensures.written }
+    record {
+      written = breaks_off _ _ _ _ _ _ (shown_line c.args.text.now c.args.line) c.from_residual.result _ c.from_residual.ensures.1
+          (starts _ _) refl c.in_err-write_all.ensures.written;
+    }
 
 pub returns : goal.returns
 returns g c =

@@ -8,7 +8,7 @@ use Rattle.straight_lowering.proofs.cursor.+passed.Goals as goal
 pub passed-now-requires : goal.passed-now-requires
 passed-now-requires t c =
     let part = first_part c.args.e.now c.deref-in-Chain.result.now c.in-Chain.first c.in-Chain.links c.in-Chain.is
-        c.deref-in-Chain.ensures in
+    c.deref-in-Chain.ensures in
     (search (rules, the_lemmas), (omega (arith, part.reads, c.requires.registers), omega (arith, part.positions, c.requires.numbers)))
 
 pub passed-operand-requires : goal.passed-operand-requires
@@ -21,7 +21,7 @@ passed-operand-requires t c =
     let g = formula_of l.operand in
     let part =
     link_part e c.in-Chain.first c.in-Chain.links items i l c.in-Chain.is c.deref-link-items.ensures.value c.loop-link-test.true
-        c.link-item.is in
+    c.link-item.is in
     let all = operand_positions l.operator f g (formula_of e) c.args.at c.loop-link.now part c.loop-link.invariant c.requires.numbers in (
       search (rules, the_lemmas),
       (
@@ -38,5 +38,5 @@ behind_operator-now-requires t c =
     let l = c.link-item.result in
     operator_position l.operator (so_far e items i) (formula_of l.operand) (formula_of e) c.args.at c.loop-link.now c.passed-operand.result
     (link_part e c.in-Chain.first c.in-Chain.links items i l c.in-Chain.is c.deref-link-items.ensures.value c.loop-link-test.true
-        c.link-item.is)
+    c.link-item.is)
     c.loop-link.invariant c.passed-operand.ensures c.requires.numbers

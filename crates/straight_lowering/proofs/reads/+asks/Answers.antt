@@ -13,7 +13,7 @@ use Rattle.straight_lowering.proofs.reads.+asks.Goals as goal
 pub asks-requires-in-Chain : goal.asks-requires-in-Chain
 asks-requires-in-Chain t c =
     let part = first_part c.args.e.now c.deref-in-Chain.result.now c.in-Chain.first c.in-Chain.links c.in-Chain.is
-        c.deref-in-Chain.ensures in
+    c.deref-in-Chain.ensures in
     (search (rules, the_lemmas), part_room _ _ c.args.at.read c.args.base c.args.at.position part c.requires.room)
 
 pub asks-requires-in-loop-link : goal.asks-requires-in-loop-link
@@ -24,7 +24,7 @@ asks-requires-in-loop-link t c =
     let l = c.link-item.result in
     let part =
     link_part e c.in-Chain.first c.in-Chain.links items i l c.in-Chain.is c.deref-link-items.ensures.value c.loop-link-test.true
-        c.link-item.is in
+    c.link-item.is in
     let up : c.args.base ≤ c.args.base + 1 = omega arith in (
       search (rules, the_lemmas),
       operand_room l.operator (so_far e items i) (formula_of l.operand) (formula_of e) c.args.at c.loop-link.left.behind c.args.base
@@ -40,7 +40,7 @@ behind_operator-behind-requires-in-loop-link t c =
     let l = c.link-item.result in
     let part =
     link_part e c.in-Chain.first c.in-Chain.links items i l c.in-Chain.is c.deref-link-items.ensures.value c.loop-link-test.true
-        c.link-item.is in
+    c.link-item.is in
     let numbers : c.args.at.position + positions (formula_of e) < 2 ^ 32 = omega (arith, c.requires.room.positions) in
     operator_position l.operator (so_far e items i) (formula_of l.operand) (formula_of e) c.args.at c.loop-link.left.behind
     c.in_ok-right-in-Chain.right.behind part (ap (λ d. d.behind) c.loop-link.invariant.depth)

@@ -10,5 +10,7 @@ returns-in_err-write_blanks g c = record {
 }
 
 pub returns : goal.returns
-returns g c = record { written = both _ _ _ _ _ _ c.write_all.result (ap (λ l. map spec.blank_byte l ++ codes "^\n") (sym c.front.ensures))
-    c.in_ok-write_blanks.ensures.written c.write_all.ensures.written }
+returns g c = record {
+  written = both _ _ _ _ _ _ c.write_all.result (ap (λ l. map spec.blank_byte l ++ codes "^\n") (sym c.front.ensures))
+      c.in_ok-write_blanks.ensures.written c.write_all.ensures.written;
+}

@@ -11,6 +11,8 @@ returns-in_err-write_place g c = record {
 }
 
 pub returns : goal.returns
-returns g c = record { written = both _ _ _ _ _ _ c.write_marked.result
-    (ap (λ p. spec.place_line c.args.name.now p ++ spec.marked_line c.args.text.now p) (sym c.place_of-place.ensures.value))
-    c.in_ok-write_place.ensures.written c.write_marked.ensures.written }
+returns g c = record {
+  written = both _ _ _ _ _ _ c.write_marked.result
+      (ap (λ p. spec.place_line c.args.name.now p ++ spec.marked_line c.args.text.now p) (sym c.place_of-place.ensures.value))
+      c.in_ok-write_place.ensures.written c.write_marked.ensures.written;
+}

@@ -11,6 +11,8 @@ returns-in_err-write_shown g c = record {
 }
 
 pub returns : goal.returns
-returns g c = record { written = both _ _ _ _ _ _ c.write_all.result
-    (ap (λ l. spec.shown l ++ 10 ∷ []) (ap spec.without_return (sym c.line_text.ensures) ∙ sym c.without_return.ensures))
-    c.in_ok-write_shown.ensures.written c.write_all.ensures.written }
+returns g c = record {
+  written = both _ _ _ _ _ _ c.write_all.result
+      (ap (λ l. spec.shown l ++ 10 ∷ []) (ap spec.without_return (sym c.line_text.ensures) ∙ sym c.without_return.ensures))
+      c.in_ok-write_shown.ensures.written c.write_all.ensures.written;
+}

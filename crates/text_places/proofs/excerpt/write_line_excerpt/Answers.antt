@@ -8,5 +8,7 @@ returns-in_err-write_line_place g c = record {
 }
 
 pub returns : goal.returns
-returns g c = record { written = both _ _ _ _ _ _ c.write_line.result (refl) c.in_ok-write_line_place.ensures.written
-    c.write_line.ensures.written }
+returns g c = record {
+  written = both _ _ _ _ _ _ c.write_line.result (refl) c.in_ok-write_line_place.ensures.written
+      c.write_line.ensures.written;
+}

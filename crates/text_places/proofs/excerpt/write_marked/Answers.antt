@@ -9,6 +9,8 @@ returns-in_err-write_line g c = record {
 }
 
 pub returns : goal.returns
-returns g c = record { written = both _ _ _ _ _ _ c.write_caret.result
-    (ap (λ l. spec.shown_line c.args.text.now c.args.place.line ++ spec.caret_line l c.args.place.column) (sym c.line_text.ensures))
-    c.in_ok-write_line.ensures.written c.write_caret.ensures.written }
+returns g c = record {
+  written = both _ _ _ _ _ _ c.write_caret.result
+      (ap (λ l. spec.shown_line c.args.text.now c.args.place.line ++ spec.caret_line l c.args.place.column) (sym c.line_text.ensures))
+      c.in_ok-write_line.ensures.written c.write_caret.ensures.written;
+}

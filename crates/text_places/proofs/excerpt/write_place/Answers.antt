@@ -8,5 +8,7 @@ returns-in_err-write_escaped g c = record {
 }
 
 pub returns : goal.returns
-returns g c = record { written = both _ _ _ _ _ _ c.write_numbers.result refl c.in_ok-write_escaped.ensures.written
-    c.write_numbers.ensures.written }
+returns g c = record {
+  written = both _ _ _ _ _ _ c.write_numbers.result refl c.in_ok-write_escaped.ensures.written
+      c.write_numbers.ensures.written;
+}

@@ -13,8 +13,8 @@ returns g c =
     record {
       written = subst (λ (t : List ℕ). Writes (g.W.Out.state c.args.out.now) (g.W.Out.state c.write_parts.new.self) t c.write_parts.result)
           (λ i. codes "<rect x='" ++ (x i ++ (codes "' y='" ++
-              (y i ++ (codes "' width='12' height='" ++
-              (height i ++ (codes "' " ++ (c.args.paint.now ++
-              (codes "><title>worker " ++ (number i ++ (c.args.did.now ++ (count i ++ (codes "</title></rect>\n")))))))))))))
-              c.write_parts.ensures.written;
+          (y i ++ (codes "' width='12' height='" ++
+          (height i ++ (codes "' " ++ (c.args.paint.now ++
+          (codes "><title>worker " ++ (number i ++ (c.args.did.now ++ (count i ++ (codes "</title></rect>\n")))))))))))))
+          c.write_parts.ensures.written;
     }

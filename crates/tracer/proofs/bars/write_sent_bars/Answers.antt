@@ -23,7 +23,7 @@ returns-in_err-write_sent_bar g c =
     record {
       written = writes_stopped _ _ _ c.from_residual.result _ c.from_residual.ensures.1
           (stops _ _ _ _ _ _ _ c.workers.invariant.progress (sent_at c.args.scale.most c.args.scale.x c.workers.w e.sent c.sent.result below
-              c.sent.ensures)
+          c.sent.ensures)
           c.in_err-write_sent_bar.ensures.written);
     }
 
@@ -36,5 +36,5 @@ workers-preserved g c =
     record {
       progress = goes_on _ _ _ _ _ _ _ c.workers.invariant.progress
           (sent_at c.args.scale.most c.args.scale.x c.workers.w e.sent c.sent.result below c.sent.ensures)
-              c.in_ok-write_sent_bar.ensures.written;
+          c.in_ok-write_sent_bar.ensures.written;
     }

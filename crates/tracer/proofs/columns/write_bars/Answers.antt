@@ -6,12 +6,14 @@ use Rattle.tracer.proofs.columns.write_bars.Goals as goal
 
 pub returns-in_err-write_sent_bars : goal.returns-in_err-write_sent_bars
 returns-in_err-write_sent_bars g c =
-    record { written = breaks_off _ _ _ _ _ _ (received_bars c.args.scale.most c.args.scale.x 0
-        (exchange_at c.args.counts.now c.args.k).received) c.from_residual.result _ c.from_residual.ensures.1 (starts _ _) refl
-        c.in_err-write_sent_bars.ensures.written }
+    record {
+      written = breaks_off _ _ _ _ _ _ (received_bars c.args.scale.most c.args.scale.x 0
+          (exchange_at c.args.counts.now c.args.k).received) c.from_residual.result _ c.from_residual.ensures.1 (starts _ _) refl
+          c.in_err-write_sent_bars.ensures.written;
+    }
 
 pub returns : goal.returns
 returns g c =
     let after_1 = goes_on _ _ _ _ _ _ (received_bars c.args.scale.most c.args.scale.x 0 (exchange_at c.args.counts.now c.args.k).received)
-        (starts _ _) refl c.in_ok-write_sent_bars.ensures.written in
+    (starts _ _) refl c.in_ok-write_sent_bars.ensures.written in
     record { written = closes _ _ _ _ _ c.write_received_bars.result after_1 c.write_received_bars.ensures.written }

@@ -19,8 +19,8 @@ returns g c =
     let part1 = bars c.args.scale.most c.args.scale.x (exchange_at c.args.counts.now c.args.k) in
     let part2 = worker_numbers c.args.scale.x 0 c.workers-workers.result in
     let after1 = goes_on _ _ _ _ _ part1 part2 (starts _ _)
-        (λ i. bars c.args.scale.most c.args.scale.x (exchange_at c.args.counts.now c.args.k) ++ worker_numbers c.args.scale.x 0
-        (c.workers-workers.ensures.sent c.args.k c.requires.first c.requires.last i)) c.in_ok-write_bars.ensures.written in
+    (λ i. bars c.args.scale.most c.args.scale.x (exchange_at c.args.counts.now c.args.k) ++ worker_numbers c.args.scale.x 0
+    (c.workers-workers.ensures.sent c.args.k c.requires.first c.requires.last i)) c.in_ok-write_bars.ensures.written in
     record {
       written = closes _ _ _ _ _ c.write_worker_numbers.result after1 c.write_worker_numbers.ensures.written;
     }

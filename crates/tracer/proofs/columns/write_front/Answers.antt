@@ -15,10 +15,10 @@ returns g c =
     record {
       written = subst (λ (t : List ℕ). Writes (g.W.Out.state c.args.out.now) (g.W.Out.state c.write_parts.new.self) t c.write_parts.result)
           (λ i. codes "<rect x='" ++ (left i ++ (codes "' y='50' width='" ++
-              (wide i ++ (codes "' height='300' fill='" ++
-              (ground i ++ (codes "'/>\n<text x='" ++ (words i ++
-              (codes "' y='64'>" ++ (number i ++ (codes "</text>\n<text x='" ++
-              (words i ++ (codes "' y='78'>" ++ (kind i ++
-              (codes "</text>\n<text x='" ++ (words i ++ (codes "' y='344'>h " ++ (relation i ++ (codes "</text>\n")))))))))))))))))))
-              c.write_parts.ensures.written;
+          (wide i ++ (codes "' height='300' fill='" ++
+          (ground i ++ (codes "'/>\n<text x='" ++ (words i ++
+          (codes "' y='64'>" ++ (number i ++ (codes "</text>\n<text x='" ++
+          (words i ++ (codes "' y='78'>" ++ (kind i ++
+          (codes "</text>\n<text x='" ++ (words i ++ (codes "' y='344'>h " ++ (relation i ++ (codes "</text>\n")))))))))))))))))))
+          c.write_parts.ensures.written;
     }

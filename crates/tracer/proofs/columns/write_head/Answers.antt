@@ -19,8 +19,8 @@ returns g c =
     let part1 = column_front c.args.x c.args.width c.args.k (purpose_is c.exchange-purpose.result.0) c.exchange-purpose.result.1 in
     let part2 = column_line c.args.x c.args.line in
     let after1 = goes_on _ _ _ _ _ part1 part2 (starts _ _) (λ i. column_front c.args.x c.args.width c.args.k
-        (sym c.exchange-purpose.ensures.purpose i) (sym c.exchange-purpose.ensures.relation i) ++ column_line c.args.x c.args.line)
-        c.in_ok-write_front.ensures.written in
+    (sym c.exchange-purpose.ensures.purpose i) (sym c.exchange-purpose.ensures.relation i) ++ column_line c.args.x c.args.line)
+    c.in_ok-write_front.ensures.written in
     record {
       written = closes _ _ _ _ _ c.write_column_line.result after1 c.write_column_line.ensures.written;
     }

@@ -20,7 +20,7 @@ returns g c =
     let part1 = front_text c.args.k (purpose_is c.exchange-purpose.result.0) in
     let part2 = rest_text c.args.line (exchange_at c.args.counts.now c.args.k) in
     let after1 = goes_on _ _ _ _ _ part1 part2 (starts _ _) (λ i. front_text c.args.k (sym c.exchange-purpose.ensures.purpose i) ++
-        rest_text c.args.line (exchange_at c.args.counts.now c.args.k)) c.in_ok-write_front.ensures.written in
+    rest_text c.args.line (exchange_at c.args.counts.now c.args.k)) c.in_ok-write_front.ensures.written in
     record {
       written = closes _ _ _ _ _ c.write_rest.result after1 c.write_rest.ensures.written;
     }

@@ -19,7 +19,7 @@ returns g c =
     let part1 = words_text (exchange_at c.args.counts.now c.args.k) in
     let part2 = ending_text c.args.h c.args.line in
     let after1 = goes_on _ _ _ _ _ part1 part2 (starts _ _) (λ i. words_text (exchange_at c.args.counts.now c.args.k) ++ ending_text
-        (sym c.requires.relation i) c.args.line) c.in_ok-write_words.ensures.written in
+    (sym c.requires.relation i) c.args.line) c.in_ok-write_words.ensures.written in
     record {
       written = closes _ _ _ _ _ c.write_ending.result after1 c.write_ending.ensures.written;
     }

@@ -24,7 +24,7 @@ returns-in_err-write_column g c =
       written = writes_stopped _ _ _ c.from_residual.result _ c.from_residual.ensures.1
           (stops _ _ _ _ _ _ _ c.exchanges.invariant.progress
           (columns_at c.args.measure.workers c.args.measure.most c.args.lines.now c.args.counts.now c.exchanges.i c.line_of.result below
-              c.line_of.ensures) c.in_err-write_column.ensures.written);
+          c.line_of.ensures) c.in_err-write_column.ensures.written);
     }
 
 pub exchanges-preserved : goal.exchanges-preserved
@@ -35,5 +35,5 @@ exchanges-preserved g c =
     record {
       progress = goes_on _ _ _ _ _ _ _ c.exchanges.invariant.progress
           (columns_at c.args.measure.workers c.args.measure.most c.args.lines.now c.args.counts.now c.exchanges.i c.line_of.result below
-              c.line_of.ensures) c.in_ok-write_column.ensures.written;
+          c.line_of.ensures) c.in_ok-write_column.ensures.written;
     }

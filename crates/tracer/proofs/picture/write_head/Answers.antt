@@ -11,5 +11,5 @@ returns g c =
     record {
       written = subst (λ (t : List ℕ). Writes (g.W.Out.state c.args.out.now) (g.W.Out.state c.write_parts.new.self) t c.write_parts.result)
           (λ i. codes "<text x='12' y='20'>workers " ++
-              (number i ++ (codes ", exchanges " ++ (digits i ++ (cut i ++ (codes "</text>\n")))))) c.write_parts.ensures.written;
+          (number i ++ (codes ", exchanges " ++ (digits i ++ (cut i ++ (codes "</text>\n")))))) c.write_parts.ensures.written;
     }

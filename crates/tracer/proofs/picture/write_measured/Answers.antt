@@ -21,9 +21,9 @@ returns-in_err-write_columns g c =
     let part2 = columns_from c.args.measure.workers c.args.measure.most c.args.lines.now 1 (drawn c.args.counts.now) in
     let part3 = ending_text c.args.width c.args.measure.most c.args.outcome.now in
     let after1 = goes_on _ _ _ _ _ part1 (part2 ++ part3) (starts _ _) (λ i. above c.args.width c.args.measure.workers
-        (sym c.len-exchanges.ensures i) ++ (columns_from c.args.measure.workers c.args.measure.most c.args.lines.now 1
-        (drawn c.args.counts.now) ++ ending_text c.args.width c.args.measure.most c.args.outcome.now))
-        c.in_ok-write_above.ensures.written in
+    (sym c.len-exchanges.ensures i) ++ (columns_from c.args.measure.workers c.args.measure.most c.args.lines.now 1
+    (drawn c.args.counts.now) ++ ending_text c.args.width c.args.measure.most c.args.outcome.now))
+    c.in_ok-write_above.ensures.written in
     record {
       written = breaks_off _ _ _ _ _ part2 part3 c.from_residual-in_err-write_columns.result _
           c.from_residual-in_err-write_columns.ensures.1 after1 refl c.in_err-write_columns.ensures.written;
@@ -35,9 +35,9 @@ returns g c =
     let part2 = columns_from c.args.measure.workers c.args.measure.most c.args.lines.now 1 (drawn c.args.counts.now) in
     let part3 = ending_text c.args.width c.args.measure.most c.args.outcome.now in
     let after1 = goes_on _ _ _ _ _ part1 (part2 ++ part3) (starts _ _) (λ i. above c.args.width c.args.measure.workers
-        (sym c.len-exchanges.ensures i) ++ (columns_from c.args.measure.workers c.args.measure.most c.args.lines.now 1
-        (drawn c.args.counts.now) ++ ending_text c.args.width c.args.measure.most c.args.outcome.now))
-        c.in_ok-write_above.ensures.written in
+    (sym c.len-exchanges.ensures i) ++ (columns_from c.args.measure.workers c.args.measure.most c.args.lines.now 1
+    (drawn c.args.counts.now) ++ ending_text c.args.width c.args.measure.most c.args.outcome.now))
+    c.in_ok-write_above.ensures.written in
     let after2 = goes_on _ _ _ _ _ part2 part3 after1 refl c.in_ok-write_columns.ensures.written in
     record {
       written = closes _ _ _ _ _ c.write_ending.result after2 c.write_ending.ensures.written;

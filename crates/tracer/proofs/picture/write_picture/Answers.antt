@@ -10,6 +10,6 @@ returns g c =
       written = subst (λ (t : List ℕ). Writes (g.W.Out.state c.args.out.now) (g.W.Out.state c.write_measured.new.out) t
           c.write_measured.result)
           (λ i. picture_of (wide i) (c.workers_of.ensures i) (c.most_words.ensures.most i) c.args.lines.now c.args.outcome.now
-              c.args.counts.now)
+          c.args.counts.now)
           c.write_measured.ensures.written;
     }

@@ -18,7 +18,7 @@ returns g c =
     let part1 = tick (214 - c.bar_height-height.result) c.args.number in
     let part2 = tick (214 + c.bar_height-height.result) c.args.number in
     let after1 = goes_on _ _ _ _ _ part1 part2 (starts _ _) (λ i. tick (214 - (sym c.bar_height-height.ensures.height i)) c.args.number ++
-        tick (214 + (sym c.bar_height-height.ensures.height i)) c.args.number) c.in_ok-write_tick.ensures.written in
+    tick (214 + (sym c.bar_height-height.ensures.height i)) c.args.number) c.in_ok-write_tick.ensures.written in
     record {
       written = closes _ _ _ _ _ c.write_tick-2.result after1 c.write_tick-2.ensures.written;
     }

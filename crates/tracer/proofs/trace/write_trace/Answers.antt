@@ -13,7 +13,7 @@ returns-in_err-write_exchange g c =
     record {
       written = writes_stopped _ _ _ c.from_residual.result _ c.from_residual.ensures.1
           (stops _ _ _ _ _ _ _ c.exchanges.invariant.progress (exchanges_at c.args.lines.now c.args.counts.now c.exchanges.i
-              c.line_of.result below c.line_of.ensures)
+          c.line_of.result below c.line_of.ensures)
           c.in_err-write_exchange.ensures.written);
     }
 

@@ -52,7 +52,7 @@ returns-clause-going g c = λ bound runnable.
     let here : x.steps.bank.worker ≡ c.args.worker = c.in_ok-steps.ensures.worker.0 in
     let many : x.steps.bank.workers ≡ m.parts = c.in_ok-steps.ensures.worker.1 ∙ c.modules-workers.ensures in
     let same : c.words_for_each.result * ((c.procs.result + (c.modules-workers.result - 1)) / c.modules-workers.result) ≡
-        most_words code m =
+    most_words code m =
     λ i. (c.words_for_each.ensures ∙ ap words_for_each c.rule.ensures.value) i
     * ((c.procs.ensures.value i + (c.modules-workers.ensures i - 1)) / c.modules-workers.ensures i) in
     let low = c.requires.worker in

@@ -15,9 +15,9 @@ count_puts-requires-clause-few g c = λ j l.
     let n = as_many rule m puts asks rooms can c.args.columns.now refl in
     let k = as_many rule m puts asks rooms can c.pack_all.new.columns (c.pack_all.ensures.rooms ∙ c.clear_all.ensures.rooms) in
     let empty : (i : ℕ) → i < m.parts → column (words_of c.clear_all.new.columns) i ≡ [] = λ i b. c.clear_all.ensures.words i
-        (omega (arith, n, b)) in
+    (omega (arith, n, b)) in
     few_words rule m puts asks rooms can c.clear_all.new.columns c.pack_all.new.columns empty c.pack_all.ensures.words j
-        (omega (arith, l, k))
+    (omega (arith, l, k))
 
 pub pack_all-requires-2-clause-room : goal.pack_all-requires-2-clause-room
 pack_all-requires-2-clause-room g c =
@@ -29,7 +29,7 @@ pack_all-requires-2-clause-room g c =
     let can = c.requires.held in
     let n = as_many rule m puts asks rooms can c.args.columns.now refl in
     let empty : (i : ℕ) → i < m.parts → column (words_of c.clear_all.new.columns) i ≡ [] = λ i b. c.clear_all.ensures.words i
-        (omega (arith, n, b)) in
+    (omega (arith, n, b)) in
     room_for_asks rule m puts asks rooms can c.clear_all.new.columns c.pack_all.new.columns empty c.pack_all.ensures.words
     (c.pack_all.ensures.rooms ∙ c.clear_all.ensures.rooms)
 
@@ -44,6 +44,6 @@ returns-clause-written g c =
     let n = as_many rule m puts asks rooms can c.args.columns.now refl in
     let k = as_many rule m puts asks rooms can c.pack_all.new.columns (c.pack_all.ensures.rooms ∙ c.clear_all.ensures.rooms) in
     let empty : (i : ℕ) → i < m.parts → column (words_of c.clear_all.new.columns) i ≡ [] = λ i b. c.clear_all.ensures.words i
-        (omega (arith, n, b)) in
+    (omega (arith, n, b)) in
     all_written rule m puts asks rooms can c.clear_all.new.columns c.pack_all.new.columns empty c.pack_all.ensures.words
     c.pack_all-2.new.columns c.count_puts.new.counts c.pack_all-2.ensures.words (λ j l. c.count_puts.ensures.counts j (omega (arith, l, k)))

@@ -9,5 +9,5 @@ abbrev pub invariant-messages : goal.invariant-messages
 invariant-messages g l = record {
   each : (i : ℕ) → i < l.i → part_at l.parts i
       ≡ ask_part (g.R.WriteRule.rule l.rule) (read_header (message_at (g.C.Column.came l.column) i).header)
-          (message_at (g.C.Column.came l.column) i).words;
+      (message_at (g.C.Column.came l.column) i).words;
 }

@@ -68,5 +68,5 @@ returns-clause-equipped g c = λ code e.
 pub returns-clause-verified : goal.returns-clause-verified
 returns-clause-verified g c = λ code formed v there.
     verified_replied code c.args.local.now.steps c.answer_worker.new.steps c.take_replies.new.self.held
-        c.answer_worker.ensures.answered formed v
+    c.answer_worker.ensures.answered formed v
     there

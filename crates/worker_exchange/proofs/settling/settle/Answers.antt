@@ -32,7 +32,7 @@ returns-then-reads_shared g c = λ code bound n is.
     let all : map (λ (x : Bor (List ℕ)). x.now) (take c.modules-workers.result parts) ≡ put_parts rule (received came) =
     ap (λ k. map (λ (x : Bor (List ℕ)). x.now) (take k parts)) (count ∙ sym many)
     ∙ parts_are came parts (put_part rule) (omega (arith, few, many, kept))
-        (λ i l. c.put_parts.ensures.each i (omega (arith, l, many, count))) in
+    (λ i l. c.put_parts.ensures.each i (omega (arith, l, many, count))) in
     let merged : IsMerged m code.rule c.args.part (put_parts code.rule (received came)) c.args.cells.now new found =
     subst (λ r. IsMerged m r c.args.part (put_parts r (received came)) c.args.cells.now new found) is
     (subst (λ columns. IsMerged m rule c.args.part columns c.args.cells.now new found) all c.merge_at_module-found.ensures.merged) in
@@ -59,7 +59,7 @@ returns g c = λ code bound n is.
     let all : map (λ (x : Bor (List ℕ)). x.now) (take c.modules-workers.result parts) ≡ put_parts rule (received came) =
     ap (λ k. map (λ (x : Bor (List ℕ)). x.now) (take k parts)) (count ∙ sym many)
     ∙ parts_are came parts (put_part rule) (omega (arith, few, many, kept))
-        (λ i l. c.put_parts.ensures.each i (omega (arith, l, many, count))) in
+    (λ i l. c.put_parts.ensures.each i (omega (arith, l, many, count))) in
     let merged : IsMerged m code.rule c.args.part (put_parts code.rule (received came)) c.args.cells.now new found =
     subst (λ r. IsMerged m r c.args.part (put_parts r (received came)) c.args.cells.now new found) is
     (subst (λ columns. IsMerged m rule c.args.part columns c.args.cells.now new found) all c.merge_at_module-found.ensures.merged) in
@@ -70,7 +70,7 @@ returns g c = λ code bound n is.
     ∙ parts_are came asked (ask_part rule) (omega (arith, few, many, kept, still))
     (λ i l. c.ask_parts.ensures.each i (omega (arith, l, many, count))) in
     let key = c.key_of_reads-read_key.ensures.key code bound n (received came) (ap (λ r. ask_parts r (received came)) (sym is) ∙
-        sym asks) in
+    sym asks) in
     let reads = ap (λ (xs : List Read). map read_is xs) c.as_slice.ensures in
     let messages = messages_to code.rule m c.args.part Sends came in
     let noted = c.key_of_reads-read_key.result in

@@ -24,7 +24,7 @@ processors-preserved g c =
     let old = before.few in
     let index : to_z w64 (of_z w64 c.index_of-index.result) ≡ index_of u (number_of bank j) =
     to_z-of_z w64 c.index_of-index.result c.index_of-index.ensures.fits ∙ c.index_of-index.ensures.value ∙ ap (index_of u)
-        c.number.ensures in
+    c.number.ensures in
     let write : c.write_to-write.result ≡ write_to (cell_in cells j) (value_of values j) = c.write_to-write.ensures
     ∙ ap (write_to (cell_in cells j)) (to_z-of_z w64 c.value_at.result c.value_at.ensures.fits ∙ c.value_at.ensures.value) in
     record {

@@ -18,7 +18,7 @@ returns-in-Negate-Private-default-default-default-clause-after c =
     let w = c.in-Negate-Private-default-default-default in
     λ code. subst (λ i. IsAfter code i (uniform_of c.args.u.now) c.args.bank.now c.negate.new.self)
     (sym (negate_private (length c.args.bank.now.columns.items) c.args.instr w.side w.destination w.source w.position w.is
-        c.requires.registers))
+    c.requires.registers))
     (c.negate.ensures.after code (uniform_of c.args.u.now) w.position)
 
 pub returns-in-Negate-Private-default-default-default-clause-fault :
@@ -27,7 +27,7 @@ returns-in-Negate-Private-default-default-default-clause-fault c =
     let w = c.in-Negate-Private-default-default-default in
     λ code. subst (λ i. IsFirstFault code i c.args.bank.now c.negate.result)
     (sym (negate_private (length c.args.bank.now.columns.items) c.args.instr w.side w.destination w.source w.position w.is
-        c.requires.registers))
+    c.requires.registers))
     (c.negate.ensures.fault code w.position)
 
 pub returns-in-Calculate-Private-default-default-default-default-default-clause-after :
@@ -36,7 +36,7 @@ returns-in-Calculate-Private-default-default-default-default-default-clause-afte
     let w = c.in-Calculate-Private-default-default-default-default-default in
     λ code. subst (λ i. IsAfter code i (uniform_of c.args.u.now) c.args.bank.now c.calculate.new.self)
     (sym (calculate_private (length c.args.bank.now.columns.items) c.args.instr w.side w.operation w.destination w.left w.right w.position
-        w.is c.requires.registers))
+    w.is c.requires.registers))
     (c.calculate.ensures.after code (uniform_of c.args.u.now) w.position)
 
 pub returns-in-Calculate-Private-default-default-default-default-default-clause-fault :
@@ -45,7 +45,7 @@ returns-in-Calculate-Private-default-default-default-default-default-clause-faul
     let w = c.in-Calculate-Private-default-default-default-default-default in
     λ code. subst (λ i. IsFirstFault code i c.args.bank.now c.calculate.result)
     (sym (calculate_private (length c.args.bank.now.columns.items) c.args.instr w.side w.operation w.destination w.left w.right w.position
-        w.is c.requires.registers))
+    w.is c.requires.registers))
     (c.calculate.ensures.fault code w.position)
 
 pub returns-in-Copy-Private-default-default-clause-after : goal.returns-in-Copy-Private-default-default-clause-after
@@ -70,7 +70,7 @@ returns-in-Decide-Private-default-default-default-default-clause-after c =
     let w = c.in-Decide-Private-default-default-default-default in
     λ code. subst (λ i. IsAfter code i (uniform_of c.args.u.now) c.args.bank.now c.decide.new.self)
     (sym (decide_private (length c.args.bank.now.columns.items) c.args.instr w.side w.operation w.destination w.left w.right w.is
-        c.requires.registers))
+    c.requires.registers))
     (c.decide.ensures.after code (uniform_of c.args.u.now))
 
 pub returns-in-Not-Private-default-default-clause-after : goal.returns-in-Not-Private-default-default-clause-after

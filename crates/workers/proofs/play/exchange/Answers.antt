@@ -25,5 +25,5 @@ returns-clause-exchanged g c =
           let at = c.until_exchange.ensures.at states told a.worker b in
           behind_exchange code m c.args.bound states told a.worker c.until_exchange.new.self c.receive.new.self (letters mid.row)
           (letters column) at c.receive.ensures.stopped c.receive.ensures.reserve c.receive.ensures.mark
-              (c.receive.ensures.behind states told a.worker (letters mid.row) at);
+          (c.receive.ensures.behind states told a.worker (letters mid.row) at);
     }

@@ -53,7 +53,7 @@ new-requires-2-clause-room g c =
     let few = accepted.few in
     let many = c.in_ok-opened.ensures.count in
     let here : slice_get workers 0 ≡ Some x = slice_get-get_or workers 0 x (omega (arith, few, many)) ∙ ap (λ y. Some y)
-        (sym c.index.ensures) in
+    (sym c.index.ensures) in
     let reply = ((c.in_ok-opened.ensures.opened 0 x here).going c.args.terms.bound).equipped.buffers.reply in
     let most : c.capacity-most.result ≡ most_words code m = c.capacity-most.ensures ∙ reply in
     let short = few_words code m c.instructions-instructions.ensures.stands (omega (arith, few, parts)) in
@@ -70,7 +70,7 @@ play_all-seats-requires-clause-begin g c κs within =
     let few = accepted.few in
     let many = c.in_ok-opened.ensures.count in
     let here : slice_get workers 0 ≡ Some x = slice_get-get_or workers 0 x (omega (arith, few, many)) ∙ ap (λ y. Some y)
-        (sym c.index.ensures) in
+    (sym c.index.ensures) in
     let goes = (c.in_ok-opened.ensures.opened 0 x here).going c.args.terms.bound in
     let most : c.capacity-most.result ≡ most_words code m = c.capacity-most.ensures ∙ goes.equipped.buffers.reply in
     let made = c.in-Ok-new.ensures in
@@ -93,7 +93,7 @@ gather-requires-clause-runnable g c =
     let few = c.in_ok-opened.ensures.accepted.few in
     let many = c.in_ok-opened.ensures.count in
     let here : slice_get workers 0 ≡ Some x = slice_get-get_or workers 0 x (omega (arith, few, many)) ∙ ap (λ y. Some y)
-        (sym c.index.ensures) in
+    (sym c.index.ensures) in
     ((c.in_ok-opened.ensures.opened 0 x here).going c.args.terms.bound).runnable
 
 pub gather-requires-clause-ended : goal.gather-requires-clause-ended
@@ -142,10 +142,10 @@ returns-in-Some-clause-refused g c =
     HaveEnded code m c.args.terms.bound input c.play_all-seats.result.0.items ended.items))
     c.in-Some.is c.play_all-seats.ensures.ended c.args.input.now c.in_ok-opened.ensures.opened in
     let have = subst (λ (o : Option (Vec CountedWorker Global)). IfSome o (λ ended. (reserve : Option Reserve) → HaveReserve
-        reserve opened →
+    reserve opened →
     HaveReserve reserve ended.items)) c.in-Some.is c.play_all-seats.ensures.reserve c.args.terms.reserve c.in_ok-opened.ensures.given in
     refused_with code m c.args.terms.workers c.args.input.now c.args.terms.bound c.args.terms.reserve c.gather.result
-        c.in_ok-opened.ensures.accepted
+    c.in_ok-opened.ensures.accepted
     (c.gather.ensures.given c.args.terms.reserve have)
     (λ reserve is. if_err _ _ (λ refusal h. h c.args.terms.bound c.args.input.now reserve ended
     (subst (λ o. HaveReserve o c.in-Some.ended.items) is have)) c.gather.result c.gather.ensures.past)
@@ -159,7 +159,7 @@ returns-in-Some-clause-within g c =
     HaveEnded code m c.args.terms.bound input c.play_all-seats.result.0.items ended.items))
     c.in-Some.is c.play_all-seats.ensures.ended c.args.input.now c.in_ok-opened.ensures.opened in
     let have = subst (λ (o : Option (Vec CountedWorker Global)). IfSome o (λ ended. (reserve : Option Reserve) → HaveReserve
-        reserve opened →
+    reserve opened →
     HaveReserve reserve ended.items)) c.in-Some.is c.play_all-seats.ensures.reserve c.args.terms.reserve c.in_ok-opened.ensures.given in
     within_with code m c.args.input.now c.args.terms.bound c.args.terms.reserve c.gather.result
     (λ reserve is. if_ok _ _ (λ found h. h c.args.terms.bound c.args.input.now reserve ended

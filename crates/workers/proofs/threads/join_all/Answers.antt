@@ -11,7 +11,7 @@ push_reserved-requires g c =
     let i = c.handles.invariant in
     let y = c.handles.yielded in
     let long = pairs_long (λ before r. IsReportOf g.T.Deed.done before r.runner r.played) (map runner_of y) c.handles.reports.items
-        i.reports in
+    i.reports in
     let same = length-map y runner_of in
     let s = ap length c.in-Some.ensures.steps.0 in
     let rest = ap length i.rest in
@@ -30,7 +30,7 @@ handles-preserved g c =
       reports = subst (AreReports done (map runner_of (y ++ h ∷ []))) (sym c.push_reserved.ensures.items)
           (subst (λ rs. AreReports done rs (c.handles.reports.items ++ c.join.result ∷ [])) (sym (map-append runner_of y (h ∷ [])))
           (pairs_end (λ before r. IsReportOf done before r.runner r.played) (map runner_of y) c.handles.reports.items (runner_of h)
-              c.join.result
+          c.join.result
           i.reports c.join.ensures));
       room = search rules;
       left = (let s = ap length c.in-Some.ensures.steps.0 in let n = c.in-Some.ensures.steps.1 in let d = i.left in omega (arith, s, n, d));

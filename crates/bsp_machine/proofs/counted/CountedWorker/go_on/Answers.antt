@@ -67,7 +67,7 @@ pub returns-in-Ok-clause-full : goal.returns-in-Ok-clause-full
 returns-in-Ok-clause-full g c = λ stopped states told w n b low.
     let e = c.until_exchange-purpose.ensures in
     stopped_short c.args.code.now (g.M.AddressMap.shape c.args.map.now) c.args.bound states told w c.args.self.now
-        c.until_exchange-purpose.new.self
+    c.until_exchange-purpose.new.self
     b (going_on c.args.self.now.local.way c.requires.going.going) e.shown e.past n low stopped
 
 pub returns-in-Err-clause-full : goal.returns-in-Err-clause-full

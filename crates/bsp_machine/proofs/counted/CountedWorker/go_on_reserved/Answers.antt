@@ -35,7 +35,7 @@ returns-then-is_past-clause-at g c = λ states told w b.
     (length (ready (setting code m c.args.bound n) w (states n)).state.worker.uniform.output) (length (told n)) ≡ true)
     (one_reserve x.reserve c.args.reserve r c.requires.reserve some)
     (past_is code m c.args.bound states told w x c.until_exchange-purpose.new.self c.args.reserve b alive had.0 had.2 purpose.shown
-        purpose.past n low
+    purpose.past n low
     ∙ sym c.is_past.ensures ∙ c.if-is_past.true))
     e.row e.read
 

@@ -40,10 +40,10 @@ returns-clause-behind g c = λ states told w row at.
       counted = λ h n low.
           let on = (c.requires.ready.purpose (alive h)).going in
           let more = one_more_told (count_of old (words_in came)) c.count.ensures.kept (c.count.ensures.made on)
-              (c.count.ensures.counted on)
+          (c.count.ensures.counted on)
           (at.counted (alive h) n low) in
           subst (λ words. IsTold c.count.new.counts (told n ++ record (share_at x row came) { sent = words } ∷ []))
-              (at.sent (alive h)) more;
+          (at.sent (alive h)) more;
       items = λ h.
           let had = at.items (alive h) in
           record {

@@ -40,7 +40,7 @@ returns-then-i-held-clause-held c =
     let small = c.requires.cell in
     rw (c.hold-i.ensures.held (omega (arith, f, l, n)), c.mark.ensures.items, f, ← c.self.view_is)
     (hold_at ask_at (λ (x : HeldAsk). eqb (key_of x.ask) key) marked_twice again key unasked (meant_at read cell) (λ k x. refl) ks
-        xs x _ n l
+    xs x _ n l
     (get_or_default xs (place_of key ks) unasked x l) refl
     ∙ ap (λ (y : HeldAsk). hold (λ (x : HeldAsk). eqb (key_of x.ask) key) marked_twice y (paired ask_at ks xs)) (fresh_at read cell small))
 

@@ -101,7 +101,7 @@ returns-clause-words g c =
     let n = length_paired ask_at c.self.inside.index.keys c.self.inside.asked.items c.self.invariant.1 in
     let h = ap (λ (v : HeldAsks). length v.held) c.self.view_is in
     pack_end words_of (is_for at c.args.part) c.args.self.now.held c.loop-i.i _ _
-        (let v = ap (λ (us : List ℕ). length us) c.keys-keys.ensures.keys in
+    (let v = ap (λ (us : List ℕ). length us) c.keys-keys.ensures.keys in
     omega (arith, v)) c.loop-i.invariant.all ∙ sym (words_for at c.args.part c.args.self.now.held)
 
 pub returns-clause-count : goal.returns-clause-count

@@ -73,7 +73,7 @@ add_ask_run-i-requires-clause-room g c =
     subst (λ (hs : List HeldAsk). length (get_or row home v).items + length (ask_words (asks_for m.part home (drop i hs)))
     ≤ vec_capacity (get_or row home v)) (sym same)
     (room_for_run row c.args.columns.now home v (ask_words (asks_for m.part home (drop i held)))
-        (ask_words (asks_for m.part home held)) within
+    (ask_words (asks_for m.part home held)) within
     c.index-columns-at.is inv.rooms (c.requires.room home there) (inv.got home there))
 
 pub asks-smaller : goal.asks-smaller

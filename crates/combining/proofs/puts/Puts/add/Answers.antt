@@ -55,7 +55,7 @@ returns-then-i-len-clause-held g c =
     (hold_at held_at (λ (x : CellPut). eqb x.cell c.args.cell) change
     (λ (x : Compact). compact_of ((combining rule).join (entry_of x) e)) c.args.cell (compact_of e) (λ k x. refl)
     (λ k x. sym (held_back k ((combining rule).join (entry_of x) e))) ks xs x c.of.result n l is
-        (c.of.ensures.compact ∙ ap compact_of joined)
+    (c.of.ensures.compact ∙ ap compact_of joined)
     ∙ ap (λ (y : CellPut). hold (λ (x : CellPut). eqb x.cell c.args.cell) change y (paired held_at ks xs)) (held_back c.args.cell e))
 
 pub returns-else-i-len-clause-held : goal.returns-else-i-len-clause-held

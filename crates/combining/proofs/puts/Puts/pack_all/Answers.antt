@@ -132,7 +132,7 @@ puts-preserved g c =
       rooms = same_of_all vec_capacity row home v w is (c.add_put_run-i.ensures.room ∙ ap vec_capacity (sym is)) ∙ inv.rooms;
       within = (let a = c.add_put_run-i.ensures.within in let d = ap length c.deref-in-puts.ensures.value in
           let h = ap (λ (v : HeldPuts). length v.held) c.self.view_is in let p = length_paired held_at ks xs n in omega
-              (arith, a, d, h, p, n));
+          (arith, a, d, h, p, n));
       got = λ j low. run_added row home v w within is (to_come i) (to_come next) got j ∙ inv.got j low;
     }
 

@@ -20,7 +20,7 @@ returns-then-is_empty-clause-items c =
     omega (arith, h, k, v)) in
     rw (c.values_of.ensures.values, ← c.self.view_is)
     (ap (λ us. both bs (map (cast_signed w64) us)) (take_few n (length bs) ws few) ∙ both_words bs ws ∙ ap (λ us. worded ws (both bs us))
-        (sym none))
+    (sym none))
 
 pub put-requires : goal.put-requires
 put-requires c =
@@ -38,7 +38,7 @@ returns-clause-items c =
     let ws = c.args.words.now in
     let xs = c.args.self.now.items in
     let long = ap (λ (y : AllAsked). length y.items) (sym c.self.view_is) ∙ length_both c.self.inside.marks.items
-        c.self.inside.came.items in
+    c.self.inside.came.items in
     let end : c.loop-i.i ≡ min (length ws) (length xs) =
     (let few = c.min-count.ensures in let k = c.len.ensures in let v = c.self.inside.marks.ok in let t = c.loop-i-test.false in
     let e = c.loop-i.auto.i-end in omega (arith, long, few, k, v, t, e)) in

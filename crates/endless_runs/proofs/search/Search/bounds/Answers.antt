@@ -11,5 +11,5 @@ returns-clause-bounds c =
     let end : to_z w64 (of_z w64 b) ≡ b = search rules in
     rw (first, end)
     ((ran_bounds c.args.self.now.interpreter.program.now c.args.self.now.interpreter.bound c.args.location.line c.args.low.now
-        c.args.high.now
+    c.args.high.now
     (state_of c.args.run.now) (state_of c.run_bounds.new.run) (a, b) c.requires.within c.in_ok-next.ensures.value).0)

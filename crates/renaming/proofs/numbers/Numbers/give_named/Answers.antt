@@ -16,7 +16,7 @@ loop-k-preserved c =
           (sym w.self-is)
           (among_more (named c.args.side c.args.instr) c.loop-k.k w.in-Some.register
           (some_there (named c.args.side c.args.instr) c.loop-k.k w.in-Some.register (read ∙ w.in-Some.is)) c.loop-k.invariant
-              w.give.ensures)
+          w.give.ensures)
       | in_default w ↦
           subst (λ (y : Numbers). HaveNumbers (λ r. IsAmongBelow (c.loop-k.k + 1) r (named c.args.side c.args.instr)) c.args.self.now y)
           (sym w.self-is)

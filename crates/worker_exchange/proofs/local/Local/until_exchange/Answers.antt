@@ -78,7 +78,7 @@ returns-in-Ok-clause-read g c = λ n s j enough low shown.
     (subst (λ r. IsRow m.parts (told r m b) row) c.requires.rule c.tell.ensures.filled).each j low
     ∙ told_is t stands run.map run.formed w lt b s shows same j in
     subst (λ (x : Local). IsWrittenFor code.rule m j (purpose_is x.purpose) (message_of t w (marked c.tell.new.self.way s) j)
-        (message_at row j))
+    (message_at row j))
     (sym c.tell.ensures.same)
     (subst (λ q. IsWrittenFor code.rule m j (purpose_is b.purpose) (message_of t w q j) (message_at row j)) (sym clear)
     (subst (λ x. IsWrittenFor code.rule m j (purpose_is b.purpose) (message_of t w s j) x) (sym is)

@@ -31,7 +31,7 @@ hold_asks-requires-clause-below c = λ j cell l e.
     own_cell_small c.args.code.now a c.args.destination c.args.entry c.args.subscript j cell c.cells-cells.result
     (cell_in c.ask-fault.new.cells j) c.ask-fault.new.self
     (c.ask-fault.ensures.after c.args.code.now (uniform_of a.uniform) 0 [] [] j (sym c.layout-layout.ensures.value)
-        (omega (arith, l, same)))
+    (omega (arith, l, same)))
     (ap (λ xs. cell_in xs j) (sym (column_is c)) ∙ e)
     (c.cells-cells.ensures.total ∙ ap Rattle.pram_model.specs.Layout.total_size c.layout-layout.ensures.value) c.cells-cells.ensures.most
 
@@ -78,7 +78,7 @@ returns-clause-done c =
     c.ask-fault.ensures.same (ap length is ∙ c.ask-fault.ensures.room ∙ ap length c.as_mut_slice.ensures.value ∙ room)
     (c.least-key.ensures ∙ ap (least a.key) k)
     (c.hold_asks.ensures.held ∙ ap (λ n. asked_after (by_read n (cells_of c.as_slice.result.now c.ask-fault.new.self.masks.many))
-        a.asks.held) e
+    a.asks.held) e
     ∙ ap (λ xs. asked_after (by_read (length a.uniform.asks.items) (cells_of xs c.ask-fault.new.self.masks.many)) a.asks.held) column)
     c.hold_asks.ensures.few c.hold_asks.ensures.room c.in_ok-step_uniform.ensures.reserve)
 

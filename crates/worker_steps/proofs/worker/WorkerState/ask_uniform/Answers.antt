@@ -14,7 +14,7 @@ use Rattle.worker_steps.proofs.worker.WorkerState.ask_uniform.Goals as goal
 pub hold_ask-requires-clause-below : goal.hold_ask-requires-clause-below
 hold_ask-requires-clause-below c = λ cell e.
     cell_small c.layout-layout.result.now c.args.entry (to_z w64 (of_z w64 c.register.result)) cell c.cells-cells.result
-        (sym c.cell-cell.ensures ∙ e)
+    (sym c.cell-cell.ensures ∙ e)
     c.cells-cells.ensures.total c.cells-cells.ensures.most
 
 pub hold_ask-requires-clause-room : goal.hold_ask-requires-clause-room

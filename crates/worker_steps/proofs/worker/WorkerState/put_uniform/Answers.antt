@@ -32,7 +32,7 @@ returns-clause-done g c =
     ∙ sym (none_least (uniform_key code (Put Uniform entry s v q) u))))
     (uniform_made code a entry s v q c.requires.fitted c.requires.met)
     (c.hold_write.ensures.held ∙ ap (λ xs. held_after (g.R.WriteRule.rule c.args.rule.now)
-        (made (by_processor (pos 0) c.write_of-write.result ∷ [])) xs)
+    (made (by_processor (pos 0) c.write_of-write.result ∷ [])) xs)
     c.clear.ensures.none
     ∙ (λ k. held_after (c.requires.rule k) (made (by_processor (pos 0) (c.write_of-write.ensures k) ∷ [])) []))
     (c.hold_write.ensures.room ∙ c.clear.ensures.room)

@@ -7,14 +7,14 @@ pub close-requires-clause-runners : goal.close-requires-clause-runners
 close-requires-clause-runners g c =
     let e = c.in_threads-starter.result in
     tables_are g.T.Deed.done c.args.self.line c.args.tasks.items e.starter e.reports.items e.unsaid c.in_threads-starter.ensures
-        c.requires.count
+    c.requires.count
     c.apart-ended.result.0.items c.apart-ended.ensures.ended
 
 pub close-requires-clause-over : goal.close-requires-clause-over
 close-requires-clause-over g c =
     let e = c.in_threads-starter.result in
     is_over g.T.Deed.done c.args.self.line c.args.tasks.items e.starter e.reports.items e.unsaid c.in_threads-starter.ensures
-        c.requires.count
+    c.requires.count
     c.apart-ended.result.0.items c.apart-ended.ensures.ended
 
 pub returns-in-None-clause-done : goal.returns-in-None-clause-done
