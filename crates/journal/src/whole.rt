@@ -23,7 +23,7 @@ use write_rules::Outcome;
 /// Runs a program on an input, for at most `bound` statements, as [`pram_meaning::reference_run`]
 /// does, and tells beside the outcome what each statement did: entry k, counted from 1, is the k-th
 /// statement that ran, with what each processor read and wrote, what it changed and what it printed.
-/// Where the run faults, the last entry is the fault, with its cause. Its entries are the time steps that `work_time` counts. E11 where
+/// Where the run faults, the last entry is the fault, with its cause. Its entries are the time steps that `costs` counts. E11 where
 /// there are more values than cells; E16 only where memory was refused.
 #[tactic(auto, using(crate::proofs::Laws::told_memory, crate::proofs::Laws::told_output, crate::proofs::Laws::told_last, crate::proofs::Costed::told_steps))]
 pub fn steps_of(
