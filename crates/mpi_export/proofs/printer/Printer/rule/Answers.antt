@@ -1,8 +1,8 @@
-use Rattle.std.proofs.Common.{sym}
+use Rattle.std.proofs.Common.{sym, ◌∙◌}
 use Rattle.text_out.proofs.Printed.{printed_as, prints_then}
 use Rattle.mpi_export.proofs.printer.Printer.rule.Goals as goal
 
 pub returns-clause-prints : goal.returns-clause-prints
 returns-clause-prints g c =
-    prints_then c.text.ensures.prints (prints_then (printed_as (sym c.word.ensures) c.text-2.ensures.prints)
+    prints_then c.text.ensures.prints (prints_then (printed_as (sym (c.as_bytes.ensures.value ∙ c.word.ensures)) c.text-2.ensures.prints)
     c.text-3.ensures.prints)

@@ -7,7 +7,7 @@ use Rattle.pram_printer.proofs.printer.Printer.header.Goals as goal
 
 pub returns-clause-prints : goal.returns-clause-prints
 returns-clause-prints g c =
-    let word = printed_as (ap (λ t. t ++ 32 ∷ []) (sym (c.word.ensures ∙ ap rule_word c.rule.ensures.value)))
+    let word = printed_as (ap (λ t. t ++ 32 ∷ []) (sym (c.as_bytes.ensures.value ∙ (c.word.ensures ∙ ap rule_word c.rule.ensures.value))))
     c.put.ensures.prints in
     let number = printed_as (ap (λ n. spelled (token.Number n)) (sym c.procs.ensures.value)) c.number.ensures.prints in
     prints_then c.mark.ensures.prints
