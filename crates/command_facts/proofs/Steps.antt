@@ -1,4 +1,4 @@
--- Runs that are to be told as they go, and everything else that is found.
+-- Runs that are to be told as they go.
 use Rattle.std.proofs.Common.{◌≡◌, ◌≤◌, ◌<◌, ℕ, List, arith, refl, subst}
 use Rattle.std.specs.Prelude.{Option, length}
 use Rattle.pram_model.specs.Layout.{total_size}
@@ -11,7 +11,7 @@ use Rattle.command_requests.specs.declared.request.Verb.TheVariants as verb
 use Rattle.command_facts.specs.declared.found.Found.{Found}
 use Rattle.command_facts.specs.declared.found.Found.TheVariants as found
 use Rattle.command_facts.specs.declared.found.FoundSteps.{FoundSteps}
-use Rattle.command_facts.specs.Calls.{Finds, FindsOf, FitsIn, IsSettled}
+use Rattle.command_facts.specs.Calls.{Finds, FindsOf, FitsIn}
 
 -- ---- what fits
 
@@ -42,35 +42,7 @@ asked_fit holds (request.ListingInC file) s is = absurd is
 -- what a request finds fits
 pub found_fits : (holds : List ℕ → Option (List ℕ) → Type 0) (r : Request) (f : Found) → Finds holds r f → FitsIn f
 found_fits holds r (found.Stepped s) is = asked_fit holds r s is
-found_fits holds r found.Version is = tt
-found_fits holds r (found.Explanation subject) is = tt
-found_fits holds r (found.Accepted l) is = tt
-found_fits holds r (found.Expanded t) is = tt
-found_fits holds r (found.Planned code) is = tt
-found_fits holds r (found.Exported code) is = tt
-found_fits holds r (found.Compared c) is = tt
-found_fits holds r (found.Run run) is = tt
-found_fits holds r (found.Swept t) is = tt
-found_fits holds r (found.Explored t) is = tt
-found_fits holds r (found.Paired p) is = tt
-found_fits holds r (found.Executed c) is = tt
-
--- ---- what is known whole
-
-pub settled : (f : Found) → ((s : FoundSteps) → f ≡ found.Stepped s → ⊥) → IsSettled f
-settled (found.Stepped s) none = none s refl
-settled found.Version none = tt
-settled (found.Explanation subject) none = tt
-settled (found.Accepted l) none = tt
-settled (found.Expanded t) none = tt
-settled (found.Planned code) none = tt
-settled (found.Exported code) none = tt
-settled (found.Compared c) none = tt
-settled (found.Run run) none = tt
-settled (found.Swept t) none = tt
-settled (found.Explored t) none = tt
-settled (found.Paired p) none = tt
-settled (found.Executed c) none = tt
+found_fits holds r (found.Settled s) is = tt
 
 -- an input that fits has not too many values
 pub not_too_long : (values cells : ℕ) → values ≤ cells → cells < values → ⊥

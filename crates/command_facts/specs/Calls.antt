@@ -22,6 +22,8 @@ use Rattle.command_requests.specs.declared.request.Verb.{Verb}
 use Rattle.command_requests.specs.declared.request.Verb.TheVariants as verb
 use Rattle.command_facts.specs.declared.found.Found.{Found}
 use Rattle.command_facts.specs.declared.found.Found.TheVariants as found
+use Rattle.command_facts.specs.declared.found.Settled.{Settled}
+use Rattle.command_facts.specs.declared.found.Settled.TheVariants as settled
 use Rattle.diagnoses.specs.declared.halted.Halted.{Halted}
 use Rattle.bsp_verify.specs.WellFormed.{IsWellFormed}
 use Rattle.command_facts.specs.Held.{IsExpansionIn, IsListingIn, IsTextIn, StopsAtListing, StopsAtProgram, StopsAtText}
@@ -39,39 +41,34 @@ IsCodeOfFile holds file code =
 
 -- What a call over a program's file finds.
 abbrev pub FindsOf : (List ℕ → Option (List ℕ) → Type 0) → Verb → ProgramFile → RunWords → Found → Type 0
-FindsOf holds verb.Check file words (found.Accepted l) = IsLoaded (holds file.name.now) file l
-FindsOf holds verb.Expand file words (found.Expanded s) = IsTextIn (holds file.name.now) file.sizes.items s
-FindsOf holds verb.Plan file words (found.Planned code) = IsCodeOfFile holds file code
-FindsOf holds verb.Export file words (found.Exported code) = IsCodeOfFile holds file code
-FindsOf holds verb.Rules file words (found.Compared c) = IsComparisonFound holds file words c
-FindsOf holds verb.Meaning file words (found.Run r) = IsRunFound holds verb.Meaning file words r
-FindsOf holds verb.Cost file words (found.Run r) = IsRunFound holds verb.Cost file words r
+FindsOf holds verb.Check file words (found.Settled (settled.Accepted l)) = IsLoaded (holds file.name.now) file l
+FindsOf holds verb.Expand file words (found.Settled (settled.Expanded s)) = IsTextIn (holds file.name.now) file.sizes.items s
+FindsOf holds verb.Plan file words (found.Settled (settled.Planned code)) = IsCodeOfFile holds file code
+FindsOf holds verb.Export file words (found.Settled (settled.Exported code)) = IsCodeOfFile holds file code
+FindsOf holds verb.Rules file words (found.Settled (settled.Compared c)) = IsComparisonFound holds file words c
+FindsOf holds verb.Meaning file words (found.Settled (settled.Run r)) = IsRunFound holds verb.Meaning file words r
+FindsOf holds verb.Cost file words (found.Settled (settled.Run r)) = IsRunFound holds verb.Cost file words r
 FindsOf holds verb.Steps file words (found.Stepped s) = IsStepsFound holds file words s
-FindsOf holds verb.Run file words (found.Run r) = IsRunFound holds verb.Run file words r
-FindsOf holds verb.Trace file words (found.Run r) = IsRunFound holds verb.Trace file words r
+FindsOf holds verb.Run file words (found.Settled (settled.Run r)) = IsRunFound holds verb.Run file words r
+FindsOf holds verb.Trace file words (found.Settled (settled.Run r)) = IsRunFound holds verb.Trace file words r
 FindsOf holds _ file words _ = ⊥
 
 -- what a call finds
 abbrev pub Finds : (List ℕ → Option (List ℕ) → Type 0) → Request → Found → Type 0
-Finds holds request.Version found.Version = Unit {0}
-Finds holds (request.Explanation subject) (found.Explanation told) = told ≡ subject
+Finds holds request.Version (found.Settled settled.Version) = Unit {0}
+Finds holds (request.Explanation subject) (found.Settled (settled.Explanation told)) = told ≡ subject
 Finds holds (request.Program verb file words) f = FindsOf holds verb file words f
-Finds holds (request.Sweep file sweep words) (found.Swept s) = IsSwept holds file sweep words s
-Finds holds (request.Exploration file scope words) (found.Explored f) = IsExplored holds file scope words.options.bound f
-Finds holds (request.Pair words) (found.Paired f) = IsPaired holds words f
-Finds holds (request.Listing file words) (found.Executed c) = IsCodeFound holds file.now words c
-Finds holds (request.ListingInC file) (found.Exported code) = IsListingIn (holds file.now) code × IsWellFormed code
+Finds holds (request.Sweep file sweep words) (found.Settled (settled.Swept s)) = IsSwept holds file sweep words s
+Finds holds (request.Exploration file scope words) (found.Settled (settled.Explored f)) = IsExplored holds file scope words.options.bound f
+Finds holds (request.Pair words) (found.Settled (settled.Paired f)) = IsPaired holds words f
+Finds holds (request.Listing file words) (found.Settled (settled.Executed c)) = IsCodeFound holds file.now words c
+Finds holds (request.ListingInC file) (found.Settled (settled.Exported code)) = IsListingIn (holds file.now) code × IsWellFormed code
 Finds holds _ _ = ⊥
-
--- What was found is known whole. A run that is to be told as it goes is not.
-abbrev pub IsSettled : Found → Type 0
-IsSettled (found.Stepped s) = ⊥
-IsSettled _ = Unit {0}
 
 -- The input of a run that is to be told as it goes has no more values than there are cells.
 abbrev pub FitsIn : Found → Type 0
 FitsIn (found.Stepped s) = length s.input.items ≤ total_size s.loaded.program.layout
-FitsIn _ = Unit {0}
+FitsIn (found.Settled s) = Unit {0}
 
 -- a size at which the run faults or is refused
 abbrev pub is_bad : Ending → Bool
@@ -105,13 +102,13 @@ status_of_differing (d ∷ told) = status.Faulted
 abbrev pub status_of_pair : comparisons.Found → Status
 status_of_pair f = status_of_differing f.told
 
--- The exit status that goes with what was found. A run that is still to be told has that of its outcome.
-abbrev pub status_of_found : Found → Status
-status_of_found (found.Run r) = status_of r.outcome
-status_of_found (found.Executed c) = status_of c.outcome
-status_of_found (found.Swept s) = status_of_rows s.rows.items
-status_of_found (found.Explored f) = status_of_findings f.findings.faulted f.findings.go_on
-status_of_found (found.Paired f) = status_of_pair (comparisons.found_is f.comparison)
+-- The exit status that goes with what was found.
+abbrev pub status_of_found : Settled → Status
+status_of_found (settled.Run r) = status_of r.outcome
+status_of_found (settled.Executed c) = status_of c.outcome
+status_of_found (settled.Swept s) = status_of_rows s.rows.items
+status_of_found (settled.Explored f) = status_of_findings f.findings.faulted f.findings.go_on
+status_of_found (settled.Paired f) = status_of_pair (comparisons.found_is f.comparison)
 status_of_found _ = status.Done
 
 -- ---- why

@@ -17,7 +17,7 @@ ghost use Rattle.command_facts.specs.Refused.{
 ghost use Rattle.command_facts.specs.Held.{StopsAtProgram};
 
 use crate::exploring::find_scope;
-use crate::found::{Found, FoundCode, FoundRun, FoundSteps};
+use crate::found::{Found, FoundCode, FoundRun, FoundSteps, Settled};
 use crate::halted::halted_run;
 use crate::loaded::Loaded;
 use crate::loading::{load_listing, load_program, load_text};
@@ -246,18 +246,18 @@ fn find_of<'a, R: Threads + Wait + Sync, S: Sources, V: Watch + Gate + Sync>(
     ensures refused { IfErr result (RefusesOf (S.Sources.holds sources.old) verb file.now words.entry) }
 {
     match verb {
-        Verb::Check => Ok(Found::Accepted(load_program(alloc, sources, file)?)),
-        Verb::Expand => Ok(Found::Expanded(load_text(alloc, sources, file)?)),
-        Verb::Plan => Ok(Found::Planned(find_code(alloc, file, sources)?)),
-        Verb::Export => Ok(Found::Exported(find_code(alloc, file, sources)?)),
+        Verb::Check => Ok(Found::Settled(Settled::Accepted(load_program(alloc, sources, file)?))),
+        Verb::Expand => Ok(Found::Settled(Settled::Expanded(load_text(alloc, sources, file)?))),
+        Verb::Plan => Ok(Found::Settled(Settled::Planned(find_code(alloc, file, sources)?))),
+        Verb::Export => Ok(Found::Settled(Settled::Exported(find_code(alloc, file, sources)?))),
         Verb::Rules => {
             let comparison = find_comparison(alloc, file, words, sources, watch)?;
-            Ok(Found::Compared(comparison))
+            Ok(Found::Settled(Settled::Compared(comparison)))
         }
         Verb::Steps => Ok(Found::Stepped(find_steps(alloc, file, words, sources, watch)?)),
         Verb::Meaning | Verb::Cost | Verb::Run | Verb::Trace => {
             let run = find_run(rt, alloc, verb, file, words, sources, watch)?;
-            Ok(Found::Run(run))
+            Ok(Found::Settled(Settled::Run(run)))
         }
     }
 }
@@ -285,24 +285,28 @@ pub fn find<'a, R: Threads + Wait + Sync, S: Sources, V: Watch + Gate + Sync>(
     ensures refused { IfErr result (Refuses (S.Sources.holds sources.old) request.entry) }
 {
     match request {
-        Request::Version => Ok(Found::Version),
-        Request::Explanation(subject) => Ok(Found::Explanation(subject)),
+        Request::Version => Ok(Found::Settled(Settled::Version)),
+        Request::Explanation(subject) => Ok(Found::Settled(Settled::Explanation(subject))),
         Request::Program { verb, file, words } => find_of(
             rt, alloc, verb, &file, words, sources, watch,
         ),
         Request::Sweep { file, sweep, words } => {
             let swept = find_sweep(rt, alloc, &file, &sweep, words, sources)?;
-            Ok(Found::Swept(swept))
+            Ok(Found::Settled(Settled::Swept(swept)))
         }
         Request::Exploration { file, scope, words } => {
             let found = find_scope(rt, alloc, &file, scope, words.options.bound, sources, watch)?;
-            Ok(Found::Explored(found))
+            Ok(Found::Settled(Settled::Explored(found)))
         }
-        Request::Pair(words) => Ok(Found::Paired(find_pair(alloc, &words, sources)?)),
-        Request::ListingInC { file } => Ok(Found::Exported(load_listing(alloc, sources, file)?)),
+        Request::Pair(words) => Ok(Found::Settled(Settled::Paired(find_pair(
+            alloc, &words, sources,
+        )?))),
+        Request::ListingInC { file } => Ok(Found::Settled(Settled::Exported(load_listing(
+            alloc, sources, file,
+        )?))),
         Request::Listing { file, words } => {
             let run = find_code_run(rt, alloc, file, words, sources, watch)?;
-            Ok(Found::Executed(run))
+            Ok(Found::Settled(Settled::Executed(run)))
         }
     }
 }

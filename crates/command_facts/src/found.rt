@@ -110,9 +110,9 @@ pub struct FoundPair {
     pub comparison: Comparison,
 }
 
-/// What a call finds.
+/// What a call finds that is known whole before anything is written of it.
 #[derive(Drop)]
-pub enum Found<'a> {
+pub enum Settled<'a> {
     /// The version was asked for.
     Version,
     /// What there is to say of a subject was asked for.
@@ -129,8 +129,6 @@ pub enum Found<'a> {
     Compared(UnderRules),
     /// A program was run.
     Run(FoundRun<'a>),
-    /// A program is to be run, and told as it runs.
-    Stepped(FoundSteps<'a>),
     /// A program was run at several sizes.
     Swept(FoundSweep),
     /// A program was run on every input of a scope.
@@ -139,4 +137,13 @@ pub enum Found<'a> {
     Paired(FoundPair),
     /// A listing was run.
     Executed(FoundCode<'a>),
+}
+
+/// What a call finds.
+#[derive(Drop)]
+pub enum Found<'a> {
+    /// What is known whole.
+    Settled(Settled<'a>),
+    /// A program is to be run, and told as it runs.
+    Stepped(FoundSteps<'a>),
 }

@@ -22,6 +22,7 @@ mod tracing;
 pub use finding::find;
 pub use found::{
     Facts, Found, FoundCode, FoundPair, FoundRun, FoundScope, FoundSteps, FoundSweep, FoundTrace,
+    Settled,
 };
 pub use loaded::Loaded;
 pub use status::status_of;

@@ -5,7 +5,7 @@ ghost use Rattle.std.specs.List.{list_any};
 ghost use Rattle.comparing.specs.Found.{differing_is, found_is};
 ghost use Rattle.command_facts.specs.Calls as spec;
 
-use crate::found::Found;
+use crate::found::Settled;
 use comparing::{Comparison, FoundDifference};
 use program_texts::Status;
 use scopes::Findings;
@@ -102,23 +102,22 @@ fn status_of_pair(comparison: &Comparison) -> Status
     status_of_differing(&comparison.told)
 }
 
-/// The exit status that goes with what was found, however it is told. That of a run that is still to be told comes with its outcome.
-pub fn status_of(found: &Found<'_>) -> Status
+/// The exit status that goes with what was found, however it is told.
+pub fn status_of(found: &Settled<'_>) -> Status
     ensures { result ≡ spec.status_of_found found.now }
 {
     match found {
-        Found::Run(run) => Status::of(&run.outcome),
-        Found::Executed(run) => Status::of(&run.outcome),
-        Found::Swept(swept) => status_of_rows(&swept.rows),
-        Found::Stepped(_) => Status::Done,
-        Found::Version => Status::Done,
-        Found::Explanation(_) => Status::Done,
-        Found::Accepted(_) => Status::Done,
-        Found::Expanded(_) => Status::Done,
-        Found::Planned(_) => Status::Done,
-        Found::Exported(_) => Status::Done,
-        Found::Explored(found) => status_of_findings(&found.findings),
-        Found::Paired(pair) => status_of_pair(&pair.comparison),
-        Found::Compared(_) => Status::Done,
+        Settled::Run(run) => Status::of(&run.outcome),
+        Settled::Executed(run) => Status::of(&run.outcome),
+        Settled::Swept(swept) => status_of_rows(&swept.rows),
+        Settled::Version => Status::Done,
+        Settled::Explanation(_) => Status::Done,
+        Settled::Accepted(_) => Status::Done,
+        Settled::Expanded(_) => Status::Done,
+        Settled::Planned(_) => Status::Done,
+        Settled::Exported(_) => Status::Done,
+        Settled::Explored(found) => status_of_findings(&found.findings),
+        Settled::Paired(pair) => status_of_pair(&pair.comparison),
+        Settled::Compared(_) => Status::Done,
     }
 }

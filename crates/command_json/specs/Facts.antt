@@ -13,10 +13,10 @@ use Rattle.program_texts.specs.declared.stop.Stop.TheVariants as stop
 use Rattle.command_facts.specs.Calls.{status_of_found}
 use Rattle.command_facts.specs.declared.found.Facts.{Facts}
 use Rattle.command_facts.specs.declared.found.Facts.TheVariants as facts
-use Rattle.command_facts.specs.declared.found.Found.{Found}
-use Rattle.command_facts.specs.declared.found.Found.TheVariants as found
 use Rattle.command_facts.specs.declared.found.FoundCode.{FoundCode}
 use Rattle.command_facts.specs.declared.found.FoundRun.{FoundRun}
+use Rattle.command_facts.specs.declared.found.Settled.{Settled}
+use Rattle.command_facts.specs.declared.found.Settled.TheVariants as settled
 use Rattle.json_texts.specs.AcceptedFacts.{accepted_facts}
 use Rattle.json_texts.specs.CostFacts.{cost_facts}
 use Rattle.comparing.specs.Found as pairs
@@ -45,39 +45,38 @@ run_facts r (facts.Exchanges t) =
 abbrev pub code_facts : FoundCode → Data
 code_facts c = chosen_facts c.shown c.code.layout (verdict_of c.outcome)
 
--- The facts of what was found. Texts, code, explanations and the version are not told as JSON, and a run that is told as it goes has none
--- yet.
-abbrev pub AreFactsOf : Found → List Data → Type 0
-AreFactsOf (found.Accepted l) told = told ≡ accepted_facts l.program ∷ []
-AreFactsOf (found.Compared c) told = told ≡ comparison_facts c ∷ []
-AreFactsOf (found.Run r) told = told ≡ run_facts r r.facts
-AreFactsOf (found.Explored f) told = told ≡ exploration_facts f.program.layout (found_is f.findings) ∷ []
-AreFactsOf (found.Paired p) told = told ≡ pair_facts p.first.layout p.second.layout p.drawn (pairs.found_is p.comparison)
-AreFactsOf (found.Swept s) told = told ≡ sweep_facts s.sweep.name s.rows.items s.growths
-AreFactsOf (found.Executed c) told = told ≡ code_facts c ∷ []
+-- The facts of what was found. Texts, code, explanations and the version are not told as JSON.
+abbrev pub AreFactsOf : Settled → List Data → Type 0
+AreFactsOf (settled.Accepted l) told = told ≡ accepted_facts l.program ∷ []
+AreFactsOf (settled.Compared c) told = told ≡ comparison_facts c ∷ []
+AreFactsOf (settled.Run r) told = told ≡ run_facts r r.facts
+AreFactsOf (settled.Explored f) told = told ≡ exploration_facts f.program.layout (found_is f.findings) ∷ []
+AreFactsOf (settled.Paired p) told = told ≡ pair_facts p.first.layout p.second.layout p.drawn (pairs.found_is p.comparison)
+AreFactsOf (settled.Swept s) told = told ≡ sweep_facts s.sweep.name s.rows.items s.growths
+AreFactsOf (settled.Executed c) told = told ≡ code_facts c ∷ []
 AreFactsOf _ told = ⊥
 
 -- lines of JSON that say them
-abbrev pub IsJsonOf : Found → List ℕ → Type 0
+abbrev pub IsJsonOf : Settled → List ℕ → Type 0
 IsJsonOf f text = (told : List Data) × AreFactsOf f told × IsJson told text
 
 -- what was found is not told as JSON
-abbrev pub IsUntold : Found → Type 0
-IsUntold found.Version = Unit {0}
-IsUntold (found.Explanation subject) = Unit {0}
-IsUntold (found.Expanded s) = Unit {0}
-IsUntold (found.Planned code) = Unit {0}
-IsUntold (found.Exported code) = Unit {0}
+abbrev pub IsUntold : Settled → Type 0
+IsUntold settled.Version = Unit {0}
+IsUntold (settled.Explanation subject) = Unit {0}
+IsUntold (settled.Expanded s) = Unit {0}
+IsUntold (settled.Planned code) = Unit {0}
+IsUntold (settled.Exported code) = Unit {0}
 IsUntold _ = ⊥
 
 -- why no lines are made: memory was refused, or what was found is not told so
-abbrev pub IsUnmade : Found → Stop → Type 0
+abbrev pub IsUnmade : Settled → Stop → Type 0
 IsUnmade f (stop.Refused refusal.OutOfMemory) = Unit {0}
 IsUnmade f (stop.Number word) = IsUntold f × (word.now ≡ codes "json")
 IsUnmade f _ = ⊥
 
 -- such lines were written whole, or the writer failed in them, or none were made
-abbrev pub WritesFound : Found → OutState → OutState → Result Status Stop → Type 0
+abbrev pub WritesFound : Settled → OutState → OutState → Result Status Stop → Type 0
 WritesFound f old new (Ok s) = (s ≡ status_of_found f) × ((text : List ℕ) × IsJsonOf f text × (new ≡ with_bytes old text))
 WritesFound f old new (Err why) =
     ((why ≡ stop.WriteFailed) × ((text : List ℕ) × IsJsonOf f text × StopsIn old new text)) ⊎ (IsUnmade f why × (new ≡ old))

@@ -18,6 +18,8 @@ use Rattle.command_requests.specs.declared.request.RunWords.{RunWords}
 use Rattle.command_facts.specs.declared.found.Found.{Found}
 use Rattle.command_facts.specs.declared.found.Found.TheVariants as found
 use Rattle.command_facts.specs.declared.found.FoundSteps.{FoundSteps}
+use Rattle.command_facts.specs.declared.found.Settled.{Settled}
+use Rattle.command_facts.specs.declared.found.Settled.TheVariants as settled
 use Rattle.diagnoses.specs.declared.halted.Halted.{Halted}
 use Rattle.command_facts.specs.Calls.{Finds, IsStop, status_of_found}
 use Rattle.command_facts.specs.Found.{IsOutcomeOf}
@@ -66,8 +68,8 @@ abbrev pub IsTimeTold : Outcome → RunWords → OutState → OutState → Type 
 IsTimeTold (GoesOn output) words old new = IsLimitTold words.seconds words.options.bound old new
 IsTimeTold _ words old new = new ≡ old
 
-abbrev pub IsFoundInTime : Found → OutState → OutState → Type 0
-IsFoundInTime (found.Run r) old new = IsTimeTold r.outcome r.words old new
+abbrev pub IsFoundInTime : Settled → OutState → OutState → Type 0
+IsFoundInTime (settled.Run r) old new = IsTimeTold r.outcome r.words old new
 IsFoundInTime _ old new = new ≡ old
 
 -- ---- both streams
@@ -75,9 +77,9 @@ IsFoundInTime _ old new = new ≡ old
 -- After what was found is told, with the exit status: its facts stand on standard output, whole, and on standard error nothing but that its
 -- time was over; or why not.
 pub data LeavesFound (words : List (List ℕ)) (f : Found) (out out_new err err_new : OutState) : Status → Type 0 where
-  Told : (text : List ℕ) → IsJsonOf f text → out_new ≡ with_bytes out text → IsFoundInTime f err err_new
-      → LeavesFound words f out out_new err err_new (status_of_found f)
-  CutOff : (why : Stop) → WritesFound f out out_new (Err why) → IsRefusalSaid words why about.Nothing err err_new
+  Told : (s : Settled) (text : List ℕ) → f ≡ found.Settled s → IsJsonOf s text → out_new ≡ with_bytes out text
+      → IsFoundInTime s err err_new → LeavesFound words f out out_new err err_new (status_of_found s)
+  CutOff : (s : Settled) (why : Stop) → f ≡ found.Settled s → WritesFound s out out_new (Err why) → IsRefusalSaid words why about.Nothing err err_new
       → LeavesFound words f out out_new err err_new status.Refused
   -- a run is told statement by statement as it goes: the outcome is that of the program, and it gives the status
   ToldAsItRan : (s : FoundSteps) (o : Outcome) (text : List ℕ) → f ≡ found.Stepped s → IsOutcomeOf s o → IsJson (all_facts s o) text

@@ -3,14 +3,14 @@
 ghost use Rattle.std.specs.Prelude.{◌≤◌, length, map};
 ghost use Rattle.std.specs.String.{string_bytes};
 ghost use Rattle.pram_model.specs.Layout.{total_size};
-ghost use Rattle.command_facts.specs.Calls.{FitsIn, IsSettled};
+ghost use Rattle.command_facts.specs.Calls.{FitsIn};
 ghost use Rattle.command_json.specs.Left.{LeavesFound, LeavesJson};
 ghost use Rattle.command_json.specs.Stepped.{IsToldBy};
 
 use crate::reporting::{report, tell_found_in_time, tell_time};
 use crate::stepping::write_stepped;
 use crate::telling::write_found;
-use command_facts::{Found, FoundSteps, find};
+use command_facts::{Found, FoundSteps, Settled, find};
 use command_requests::Request;
 use diagnoses::Halted;
 use observing::{Nobody, Watch};
@@ -72,12 +72,11 @@ fn tell_steps<V: Watch, O: Out, E: Out>(
 fn tell<O: Out, E: Out>(
     alloc: Global,
     words: &[String],
-    found: &Found<'_>,
+    found: &Settled<'_>,
     out: &mut O,
     err: &mut E,
 ) -> Status
-    requires settled { IsSettled found.now }
-    ensures leaves { LeavesFound (map string_bytes words.now) found.now (O.Out.state out.old) (O.Out.state out.new)
+    ensures leaves { LeavesFound (map string_bytes words.now) (Found.Settled found.now) (O.Out.state out.old) (O.Out.state out.new)
         (E.Out.state err.old) (E.Out.state err.new) result }
 {
     match write_found(alloc, found, out) {
@@ -93,7 +92,6 @@ fn tell<O: Out, E: Out>(
 }
 
 // Either.
-#[tactic(auto, using(command_facts::proofs::Steps::settled))]
 fn tell_found<V: Watch, O: Out, E: Out>(
     alloc: Global,
     words: &[String],
@@ -109,7 +107,7 @@ fn tell_found<V: Watch, O: Out, E: Out>(
 {
     match found {
         Found::Stepped(steps) => tell_steps(alloc, words, on_terminal, steps, watch, out, err),
-        settled => tell(alloc, words, settled, out, err),
+        Found::Settled(settled) => tell(alloc, words, settled, out, err),
     }
 }
 

@@ -11,7 +11,7 @@ ghost use Rattle.diagnoses.specs.Stops.{bytes_in as bytes_of, name_in as name_of
 ghost use Rattle.command_facts.specs.Written.{IsReported};
 ghost use Rattle.command_json.specs.Left as spec;
 
-use command_facts::Found;
+use command_facts::Settled;
 use command_messages::message_for;
 use command_requests::RunWords;
 use diagnoses::{Halted, bytes_in, name_in, refusal_as_it_stands};
@@ -99,11 +99,11 @@ pub(crate) fn tell_time<E: Out>(err: &mut E, outcome: &Outcome, words: &RunWords
 }
 
 /// The same of what was found.
-pub(crate) fn tell_found_in_time<E: Out>(err: &mut E, found: &Found<'_>)
+pub(crate) fn tell_found_in_time<E: Out>(err: &mut E, found: &Settled<'_>)
     ensures told { spec.IsFoundInTime found.now (E.Out.state err.old) (E.Out.state err.new) }
 {
     match found {
-        Found::Run(run) => tell_time(err, &run.outcome, &run.words),
+        Settled::Run(run) => tell_time(err, &run.outcome, &run.words),
         _ => {}
     }
 }

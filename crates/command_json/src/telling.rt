@@ -14,14 +14,14 @@ ghost use Rattle.command_json.specs.Facts as spec;
 
 use crate::writing::write_json;
 use command_facts::{
-    Facts, Found, FoundCode, FoundPair, FoundRun, FoundScope, FoundSweep, FoundTrace, status_of,
+    Facts, FoundCode, FoundPair, FoundRun, FoundScope, FoundSweep, FoundTrace, Settled, status_of,
 };
 use exchange_counts::Counts;
 use json_texts::{
     json_accepted, json_comparison, json_cost, json_exploration, json_outcome, json_pair,
     json_sweep, json_trace,
 };
-use program_texts::{Refusal, Status, Stop};
+use program_texts::{Status, Stop};
 use std::alloc::{AllocError, Global};
 use text_out::Out;
 use tracer::{Rates, bsp_cost};
@@ -109,32 +109,30 @@ fn pair_text(alloc: Global, pair: &FoundPair) -> Result<String, AllocError>
 }
 
 // The lines of what was found.
-fn text_of<'a>(alloc: Global, found: &Found<'_>) -> Result<String, Stop<'a>>
+fn text_of<'a>(alloc: Global, found: &Settled<'_>) -> Result<String, Stop<'a>>
     ensures told { IfOk result (λ text. spec.IsJsonOf found.now (string_bytes text)) }
     ensures unmade { IfErr result (spec.IsUnmade found.now) }
 {
     match found {
-        Found::Accepted(loaded) => Ok(json_accepted(alloc, &loaded.program)?),
-        Found::Compared(comparison) => Ok(json_comparison(alloc, comparison)?),
-        Found::Run(run) => Ok(run_text(alloc, run)?),
-        Found::Swept(swept) => Ok(sweep_text(alloc, swept)?),
-        Found::Explored(found) => Ok(scope_text(alloc, found)?),
-        Found::Paired(pair) => Ok(pair_text(alloc, pair)?),
-        Found::Executed(run) => Ok(code_text(alloc, run)?),
-        // It is told as it runs.
-        Found::Stepped(_) => Err(Stop::Refused(Refusal::OutOfMemory)),
-        Found::Version => Err(Stop::Number(JSON)),
-        Found::Explanation(_) => Err(Stop::Number(JSON)),
-        Found::Expanded(_) => Err(Stop::Number(JSON)),
-        Found::Planned(_) => Err(Stop::Number(JSON)),
-        Found::Exported(_) => Err(Stop::Number(JSON)),
+        Settled::Accepted(loaded) => Ok(json_accepted(alloc, &loaded.program)?),
+        Settled::Compared(comparison) => Ok(json_comparison(alloc, comparison)?),
+        Settled::Run(run) => Ok(run_text(alloc, run)?),
+        Settled::Swept(swept) => Ok(sweep_text(alloc, swept)?),
+        Settled::Explored(found) => Ok(scope_text(alloc, found)?),
+        Settled::Paired(pair) => Ok(pair_text(alloc, pair)?),
+        Settled::Executed(run) => Ok(code_text(alloc, run)?),
+        Settled::Version => Err(Stop::Number(JSON)),
+        Settled::Explanation(_) => Err(Stop::Number(JSON)),
+        Settled::Expanded(_) => Err(Stop::Number(JSON)),
+        Settled::Planned(_) => Err(Stop::Number(JSON)),
+        Settled::Exported(_) => Err(Stop::Number(JSON)),
     }
 }
 
 /// Writes what was found as lines of JSON, and nothing where memory for them was refused or it isn't told so.
 pub(crate) fn write_found<'a, O: Out>(
     alloc: Global,
-    found: &Found<'_>,
+    found: &Settled<'_>,
     out: &mut O,
 ) -> Result<Status, Stop<'a>>
     ensures written { spec.WritesFound found.now (O.Out.state out.old) (O.Out.state out.new) result }

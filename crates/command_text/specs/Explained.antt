@@ -17,10 +17,10 @@ use Rattle.diagnoses.specs.Reasons.{Reason, run_reason, unknown}
 use Rattle.diagnoses.specs.RefusedLines.{stop_line}
 use Rattle.diagnoses.specs.Stops.{IsSaid}
 use Rattle.command_messages.specs.Editors.{IsForEditors}
-use Rattle.command_facts.specs.declared.found.Found.{Found}
-use Rattle.command_facts.specs.declared.found.Found.TheVariants as found
 use Rattle.command_facts.specs.declared.found.FoundCode.{FoundCode}
 use Rattle.command_facts.specs.declared.found.FoundRun.{FoundRun}
+use Rattle.command_facts.specs.declared.found.Settled.{Settled}
+use Rattle.command_facts.specs.declared.found.Settled.TheVariants as settled
 use Rattle.command_facts.specs.Written.{IsReported}
 use Rattle.command_requests.specs.Sentences.{word_fault}
 use Rattle.command_requests.specs.Values.{IsWrong}
@@ -125,7 +125,7 @@ IsCodeExplained true c (Faulted fault output) old new = IsReported old new (faul
 IsCodeExplained _ c o old new = new ≡ old
 
 -- Where that is asked for, the fault of what was found is explained; and nothing is said where there is none.
-abbrev pub IsExplained : Bool → Found → OutState → OutState → Type 0
-IsExplained explains (found.Run r) old new = IsRunExplained explains r r.outcome old new
-IsExplained explains (found.Executed c) old new = IsCodeExplained explains c c.outcome old new
+abbrev pub IsExplained : Bool → Settled → OutState → OutState → Type 0
+IsExplained explains (settled.Run r) old new = IsRunExplained explains r r.outcome old new
+IsExplained explains (settled.Executed c) old new = IsCodeExplained explains c c.outcome old new
 IsExplained explains _ old new = new ≡ old

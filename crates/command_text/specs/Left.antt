@@ -11,6 +11,7 @@ use Rattle.command_requests.specs.declared.request.Request.{Request}
 use Rattle.command_facts.specs.declared.found.Found.{Found}
 use Rattle.command_facts.specs.declared.found.Found.TheVariants as found
 use Rattle.command_facts.specs.declared.found.FoundSteps.{FoundSteps}
+use Rattle.command_facts.specs.declared.found.Settled.{Settled}
 use Rattle.diagnoses.specs.declared.halted.Halted.{Halted}
 use Rattle.command_facts.specs.Calls.{Finds, IsStop, status_of_found}
 use Rattle.command_facts.specs.Found.{IsOutcomeOf, with_outcome}
@@ -23,9 +24,9 @@ use Rattle.command_text.specs.Texts.{IsTextOf}
 -- Both streams after what was found is told, with the exit status: it stands on standard output, whole, and on standard error nothing, but
 -- a fault where that is to be explained; or standard output failed in it, and that is told.
 pub data LeavesFound (on : Terminal) (words : List (List ℕ)) (f : Found) (out out_new err err_new : OutState) : Status → Type 0 where
-  Told : (text : List ℕ) → IsTextOf f text → out_new ≡ with_bytes out text → IsExplained on.errors f err err_new
-      → LeavesFound on words f out out_new err err_new (status_of_found f)
-  CutOff : (why : Stop) → WroteSome (status_of_found f) ⊥ (IsTextOf f) out out_new (Err why)
+  Told : (s : Settled) (text : List ℕ) → f ≡ found.Settled s → IsTextOf s text → out_new ≡ with_bytes out text
+      → IsExplained on.errors s err err_new → LeavesFound on words f out out_new err err_new (status_of_found s)
+  CutOff : (s : Settled) (why : Stop) → f ≡ found.Settled s → WroteSome (status_of_found s) ⊥ (IsTextOf s) out out_new (Err why)
       → IsRefusalReported on words why about.Nothing err err_new → LeavesFound on words f out out_new err err_new status.Refused
   -- a run is told statement by statement as it goes: the outcome is that of the program, and it gives the status
   ToldAsItRan : (s : FoundSteps) (o : Outcome) (text : List ℕ) → f ≡ found.Stepped s → IsOutcomeOf s o → IsToldText on s o text

@@ -28,10 +28,10 @@ use Rattle.command_requests.specs.declared.form.Form.{Form}
 use Rattle.command_requests.specs.declared.form.Form.TheVariants as form
 use Rattle.command_facts.specs.declared.found.Facts.{Facts}
 use Rattle.command_facts.specs.declared.found.Facts.TheVariants as facts
-use Rattle.command_facts.specs.declared.found.Found.{Found}
-use Rattle.command_facts.specs.declared.found.Found.TheVariants as found
 use Rattle.command_facts.specs.declared.found.FoundRun.{FoundRun}
 use Rattle.command_facts.specs.declared.found.FoundSweep.{FoundSweep}
+use Rattle.command_facts.specs.declared.found.Settled.{Settled}
+use Rattle.command_facts.specs.declared.found.Settled.TheVariants as settled
 use Rattle.command_text.specs.declared.terminal.Terminal.{Terminal}
 use Rattle.command_text.specs.Costs.{costs_text}
 use Rattle.command_text.specs.Spans.{chosen_spans}
@@ -97,18 +97,17 @@ IsRunText r (facts.Cost c) text =
     text ≡ costs_text (verdict_of r.outcome) c r.words.costs.schedule r.words.costs.lines ++ outcome_text r
 IsRunText r (facts.Exchanges t) text = text ≡ counts_text r.words.form r.words.trace (outcome_text r) t
 
--- The text of what was found. A run that is still to be told has none yet.
-abbrev pub IsTextOf : Found → List ℕ → Type 0
-IsTextOf found.Version text = text ≡ version_text
-IsTextOf (found.Explanation subject) text = text ≡ explanation subject
-IsTextOf (found.Accepted l) text = text ≡ accepted_line l.program
-IsTextOf (found.Expanded s) text = text ≡ text_in s
-IsTextOf (found.Planned code) text = text ≡ spelling code
-IsTextOf (found.Exported code) text = text ≡ c_text code
-IsTextOf (found.Compared c) text = text ≡ comparison_text c
-IsTextOf (found.Explored f) text = text ≡ findings_text f.program.layout (found_is f.findings)
-IsTextOf (found.Paired p) text = text ≡ pair_texts.comparison_text p.first.layout p.second.layout p.drawn (pairs.found_is p.comparison)
-IsTextOf (found.Run r) text = IsRunText r r.facts text
-IsTextOf (found.Swept s) text = text ≡ swept_text s.form s.csv s
-IsTextOf (found.Stepped s) text = ⊥
-IsTextOf (found.Executed c) text = text ≡ shown_by c.shown c.code.layout (verdict_of c.outcome)
+-- The text of what was found.
+abbrev pub IsTextOf : Settled → List ℕ → Type 0
+IsTextOf settled.Version text = text ≡ version_text
+IsTextOf (settled.Explanation subject) text = text ≡ explanation subject
+IsTextOf (settled.Accepted l) text = text ≡ accepted_line l.program
+IsTextOf (settled.Expanded s) text = text ≡ text_in s
+IsTextOf (settled.Planned code) text = text ≡ spelling code
+IsTextOf (settled.Exported code) text = text ≡ c_text code
+IsTextOf (settled.Compared c) text = text ≡ comparison_text c
+IsTextOf (settled.Explored f) text = text ≡ findings_text f.program.layout (found_is f.findings)
+IsTextOf (settled.Paired p) text = text ≡ pair_texts.comparison_text p.first.layout p.second.layout p.drawn (pairs.found_is p.comparison)
+IsTextOf (settled.Run r) text = IsRunText r r.facts text
+IsTextOf (settled.Swept s) text = text ≡ swept_text s.form s.csv s
+IsTextOf (settled.Executed c) text = text ≡ shown_by c.shown c.code.layout (verdict_of c.outcome)

@@ -3,7 +3,7 @@
 ghost use Rattle.std.specs.Prelude.{◌≤◌, length, map};
 ghost use Rattle.std.specs.String.{string_bytes};
 ghost use Rattle.pram_model.specs.Layout.{total_size};
-ghost use Rattle.command_facts.specs.Calls.{FitsIn, IsSettled};
+ghost use Rattle.command_facts.specs.Calls.{FitsIn};
 ghost use Rattle.command_text.specs.Left.{Leaves, LeavesFound};
 ghost use Rattle.command_text.specs.Stepped.{IsToldRun};
 
@@ -11,7 +11,7 @@ use crate::explaining::{explain, explain_run, report};
 use crate::stepping::write_stepped;
 use crate::telling::write_found;
 use crate::terminal::Terminal;
-use command_facts::{Found, FoundRun, FoundSteps, find};
+use command_facts::{Found, FoundRun, FoundSteps, Settled, find};
 use command_requests::Request;
 use diagnoses::Halted;
 use observing::{Nobody, Watch};
@@ -73,13 +73,12 @@ fn tell<V: Watch, O: Out, E: Out>(
     alloc: Global,
     words: &[String],
     on: Terminal,
-    found: &Found<'_>,
+    found: &Settled<'_>,
     watch: &mut V,
     out: &mut O,
     err: &mut E,
 ) -> Status
-    requires settled { IsSettled found.now }
-    ensures leaves { LeavesFound on (map string_bytes words.now) found.now (O.Out.state out.old) (O.Out.state out.new)
+    ensures leaves { LeavesFound on (map string_bytes words.now) (Found.Settled found.now) (O.Out.state out.old) (O.Out.state out.new)
         (E.Out.state err.old) (E.Out.state err.new) result }
 {
     match write_found(found, out) {
@@ -95,7 +94,6 @@ fn tell<V: Watch, O: Out, E: Out>(
 }
 
 // Either.
-#[tactic(auto, using(command_facts::proofs::Steps::settled))]
 fn tell_found<V: Watch, O: Out, E: Out>(
     alloc: Global,
     words: &[String],
@@ -111,7 +109,7 @@ fn tell_found<V: Watch, O: Out, E: Out>(
 {
     match found {
         Found::Stepped(steps) => tell_steps(alloc, words, on, steps, watch, out, err),
-        settled => tell(alloc, words, on, &settled, watch, out, err),
+        Found::Settled(settled) => tell(alloc, words, on, &settled, watch, out, err),
     }
 }
 

@@ -11,7 +11,7 @@ ghost use Rattle.command_facts.specs.Written.{IsReported};
 ghost use Rattle.command_text.specs.Explained as spec;
 
 use crate::terminal::Terminal;
-use command_facts::{Found, FoundCode, FoundRun};
+use command_facts::{FoundCode, FoundRun, Settled};
 use command_messages::write_for_editors;
 use command_requests::{Given, write_word_fault, wrong_option};
 use diagnoses::{
@@ -339,24 +339,23 @@ pub(crate) fn explain<V: Watch, E: Out>(
     alloc: Global,
     watch: &mut V,
     err: &mut E,
-    found: &Found<'_>,
+    found: &Settled<'_>,
     explains: bool,
 )
     ensures left { spec.IsExplained explains found.now (E.Out.state err.old) (E.Out.state err.new) }
 {
     match found {
-        Found::Run(run) => explain_run(alloc, watch, err, run, explains),
-        Found::Executed(run) => explain_code(alloc, err, run, explains),
-        Found::Stepped(_) => {}
-        Found::Version => {}
-        Found::Explanation(_) => {}
-        Found::Accepted(_) => {}
-        Found::Expanded(_) => {}
-        Found::Planned(_) => {}
-        Found::Exported(_) => {}
-        Found::Explored(_) => {}
-        Found::Paired(_) => {}
-        Found::Compared(_) => {}
-        Found::Swept(_) => {}
+        Settled::Run(run) => explain_run(alloc, watch, err, run, explains),
+        Settled::Executed(run) => explain_code(alloc, err, run, explains),
+        Settled::Version => {}
+        Settled::Explanation(_) => {}
+        Settled::Accepted(_) => {}
+        Settled::Expanded(_) => {}
+        Settled::Planned(_) => {}
+        Settled::Exported(_) => {}
+        Settled::Explored(_) => {}
+        Settled::Paired(_) => {}
+        Settled::Compared(_) => {}
+        Settled::Swept(_) => {}
     }
 }

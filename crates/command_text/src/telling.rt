@@ -1,6 +1,6 @@
 //! What was found, told on standard output.
 ghost use Rattle.program_texts.specs.Status.{status_of};
-ghost use Rattle.command_facts.specs.Calls.{IsSettled, status_of_found};
+ghost use Rattle.command_facts.specs.Calls.{status_of_found};
 ghost use Rattle.command_facts.specs.Written.{Wrote, WroteSome};
 ghost use Rattle.command_text.specs.Texts as spec;
 
@@ -10,7 +10,7 @@ use crate::writing::{
     write_accepted, write_costs, write_exploration, write_export, write_outcome, write_pair,
     write_plan, write_rules, write_subject, write_text, write_version,
 };
-use command_facts::{Facts, Found, FoundRun, status_of};
+use command_facts::{Facts, FoundRun, Settled, status_of};
 use program_texts::{Status, Stop};
 use text_out::Out;
 
@@ -28,29 +28,26 @@ fn write_run<'a, O: Out>(run: &FoundRun<'_>, out: &mut O) -> Result<Status, Stop
 }
 
 /// Writes what was found, which takes no memory.
-pub(crate) fn write_found<'a, O: Out>(found: &Found<'_>, out: &mut O) -> Result<Status, Stop<'a>>
-    requires settled { IsSettled found.now }
+pub(crate) fn write_found<'a, O: Out>(found: &Settled<'_>, out: &mut O) -> Result<Status, Stop<'a>>
     ensures written { WroteSome (status_of_found found.now) ⊥ (spec.IsTextOf found.now)
         (O.Out.state out.old) (O.Out.state out.new) result }
 {
     match found {
-        Found::Version => write_version(out),
-        Found::Explanation(subject) => write_subject(out, *subject),
-        Found::Accepted(loaded) => write_accepted(out, &loaded.program),
-        Found::Expanded(source) => write_text(out, source.text()),
-        Found::Planned(code) => write_plan(out, code.code()),
-        Found::Exported(code) => write_export(out, code.code()),
-        Found::Compared(comparison) => write_rules(out, comparison),
-        Found::Run(run) => write_run(run, out),
-        // It is told as it runs.
-        Found::Stepped(_) => Ok(Status::Done),
-        Found::Swept(swept) => write_swept(out, swept, status_of(found)),
-        Found::Explored(explored) => {
+        Settled::Version => write_version(out),
+        Settled::Explanation(subject) => write_subject(out, *subject),
+        Settled::Accepted(loaded) => write_accepted(out, &loaded.program),
+        Settled::Expanded(source) => write_text(out, source.text()),
+        Settled::Planned(code) => write_plan(out, code.code()),
+        Settled::Exported(code) => write_export(out, code.code()),
+        Settled::Compared(comparison) => write_rules(out, comparison),
+        Settled::Run(run) => write_run(run, out),
+        Settled::Swept(swept) => write_swept(out, swept, status_of(found)),
+        Settled::Explored(explored) => {
             let (layout, status) = (explored.program.layout(), status_of(found));
             write_exploration(out, layout, &explored.findings, status)
         }
-        Found::Paired(pair) => write_pair(out, pair, status_of(found)),
-        Found::Executed(run) => {
+        Settled::Paired(pair) => write_pair(out, pair, status_of(found)),
+        Settled::Executed(run) => {
             write_outcome(out, run.code.code().layout(), &run.outcome, run.shown)
         }
     }

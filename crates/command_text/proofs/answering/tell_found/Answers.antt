@@ -9,3 +9,10 @@ returns-in-Stepped g c = record {
       (g.O.Out.state c.tell_steps.new.out) (g.E.Out.state c.args.err.now) (g.E.Out.state c.tell_steps.new.err) c.tell_steps.result)
       (sym c.in-Stepped.is) c.tell_steps.ensures.leaves;
 }
+
+pub returns-in-Settled : goal.returns-in-Settled
+returns-in-Settled g c = record {
+  leaves = subst (λ f. LeavesFound c.args.on (map string_bytes c.args.words.now) f (g.O.Out.state c.args.out.now)
+      (g.O.Out.state c.tell.new.out) (g.E.Out.state c.args.err.now) (g.E.Out.state c.tell.new.err) c.tell.result)
+      (sym c.in-Settled.is) c.tell.ensures.leaves;
+}
