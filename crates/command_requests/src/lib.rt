@@ -1,4 +1,4 @@
-//! What the words of the command line ask for, what may stand in them, and the sizes that they give to a text.
+//! What the words of a command line can ask for, which of them are wrong, and the sizes that they give to a text.
 #![tactic(auto)]
 
 mod cost_words;

@@ -1,4 +1,4 @@
-//! Two programs beside each other on the same inputs, and one program under each rule.
+//! Two programs compared on the same inputs, and one program under each of the five rules of concurrent access.
 #![tactic(auto)]
 
 mod common;

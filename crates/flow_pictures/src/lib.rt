@@ -1,4 +1,4 @@
-//! The flow of values between statements, as a picture: which cells a statement reads and writes.
+//! The flow of data in a run as a picture: which cells each statement reads and writes, and from where to where values go.
 #![tactic(auto)]
 
 mod asides;

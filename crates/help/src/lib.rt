@@ -1,4 +1,4 @@
-//! What helps with a text that is refused: names that are near, tokens that could stand there, habits of other languages, and the lines of a message.
+//! What helps a reader whose text is refused: the name that was meant, what could stand there, and a message that says so.
 #![tactic(auto)]
 
 mod asking;

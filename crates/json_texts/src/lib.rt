@@ -1,4 +1,4 @@
-//! What is told, as JSON: a line for each fact of an outcome, its costs, its steps and what is refused.
+//! What the commands tell, as JSON: a line for each fact of an outcome, its costs, its steps and what is refused.
 #![tactic(auto)]
 
 mod accepted;

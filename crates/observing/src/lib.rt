@@ -1,4 +1,4 @@
-//! A run that is looked at while it goes: how far it is is told, and it may be broken off.
+//! Runs of a program by its definition, during which somebody is told how far they are.
 #![tactic(auto)]
 
 mod hearing;

@@ -1,4 +1,4 @@
-//! A page of HTML that steps through a run, with what it knows as JSON in it.
+//! A page of HTML that steps through a run, with what it knows of the run as JSON in it.
 #![tactic(auto)]
 
 mod asked;

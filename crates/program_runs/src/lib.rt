@@ -1,4 +1,4 @@
-//! Programs compiled from their texts, and run by workers in threads.
+//! From the text of a program to the outcome of its run: compiled, and run by workers in threads that exchange messages at a barrier.
 #![tactic(auto)]
 
 pub mod code_laws;

@@ -1,4 +1,4 @@
-//! The inputs of a small scope, all of them or drawn ones, and what is found of a program on all of them, by one worker or several.
+//! Every input of a small scope, or inputs drawn at random, and what a program comes to on all inputs of a scope.
 #![tactic(auto)]
 
 mod apart;

@@ -1,4 +1,4 @@
-//! The steps of a run in words: which of them, which names, and the lines of each.
+//! A run statement by statement in words: a line for each, of all that changed or of some names, written as the run goes.
 #![tactic(auto)]
 
 mod asked;
