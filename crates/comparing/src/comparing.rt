@@ -40,30 +40,6 @@ fn difference(
     Ok(first_difference(compared, &outcome, &other, time, counted.work))
 }
 
-/// Runs two programs on an input, each for at most `bound` statements, and says what differs first, or that they come to the same.
-/// E11 where the input has more values than one of them has cells; E16 only where memory was refused.
-pub fn compare_two(
-    alloc: Global,
-    first: &Program,
-    second: &Program,
-    compared: &Compared,
-    input: &[i64],
-    bound: u32,
-) -> Result<Option<Difference>, ComparisonRefusal>
-    // It tells what differs first between the two runs: how they come out, an output item, a common cell, time or work
-    // above a limit; nothing where they agree.
-    ensures difference { IfOk result (λ d. d ≡ difference_on first.now second.now compared.now bound input.now) }
-    // The input is refused exactly where a program has fewer cells than it has values, the first program before the
-    // second.
-    ensures too_long { (side : rust.Side) → (result ≡ Err (ComparisonRefusal.InputTooLong side))
-        ↔ (spec.too_long first.now second.now (length input.now) ≡ Some side) }
-{
-    match too_long(first, second, input.len()) {
-        Some(side) => Err(ComparisonRefusal::InputTooLong(side)),
-        None => difference(alloc, first, second, compared, input, bound),
-    }
-}
-
 // Runs both programs on one input more.
 fn try_input(
     alloc: Global,

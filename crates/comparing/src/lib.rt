@@ -26,7 +26,7 @@ mod unequal;
 pub use common::{common_ranges, front_cells, named_range};
 pub use compare::compare_rules;
 pub use compared::{CommonRange, Compared, Limits};
-pub use comparing::{compare_drawn, compare_inputs, compare_scope, compare_two};
+pub use comparing::{compare_drawn, compare_inputs, compare_scope};
 pub use comparison::{Comparison, FoundDifference};
 pub use comparison_text::write_comparison;
 pub use difference::{Difference, Ending};

@@ -73,8 +73,3 @@ all_steps p (x ∷ ms) =
 
 pub entries_are_time_steps : EntriesAreTimeSteps
 entries_are_time_steps p input n = all_steps p (run_moments p input n)
-
--- the same where the entries are those that were told
-pub told_steps : (p : Checked) (input : List ℤ) (n : ℕ) (es : List Entry) → es ≡ run_entries p input n →
-    map step_of es ≡ cost.run_steps p input n
-told_steps p input n es e = ap (map step_of) e ∙ entries_are_time_steps p input n

@@ -48,18 +48,3 @@ pub the_fault_is_last : TheFaultIsLast
 the_fault_is_last p input n v is =
     subst (λ v. HasItsFault p v (run_entries p input n)) (sym ((outcome_is_computed p input n v).0 is))
     (last_of p (opening p input) (run_entries p input n) (body_done p input n) (whole p input n))
-
--- ---- the same where the entries are those that were told
-
-pub told_memory : (p : Checked) (input : List ℤ) (n : ℕ) (v : Verdict) (es : List Entry) → IsOutcome p input n v →
-    es ≡ run_entries p input n → HasMemory v (fold with_cells (opening p input).cells es)
-told_memory p input n v es is e =
-    subst (λ es. HasMemory v (fold with_cells (opening p input).cells es)) (sym e) (changes_give_the_memory p input n v is)
-
-pub told_output : (p : Checked) (input : List ℤ) (n : ℕ) (v : Verdict) (es : List Entry) → IsOutcome p input n v →
-    es ≡ run_entries p input n → items_of es ≡ output_of v
-told_output p input n v es is e = ap items_of e ∙ items_give_the_output p input n v is
-
-pub told_last : (p : Checked) (input : List ℤ) (n : ℕ) (v : Verdict) (es : List Entry) → IsOutcome p input n v →
-    es ≡ run_entries p input n → HasItsFault p v es
-told_last p input n v es is e = subst (HasItsFault p v) (sym e) (the_fault_is_last p input n v is)

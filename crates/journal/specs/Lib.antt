@@ -15,7 +15,6 @@ pub mod Costs
 pub mod LastFault
 pub mod HeardFaults
 pub mod HeardLaws
-pub mod KeptLaws
 pub mod Telling
 pub mod Between
 pub mod BetweenLaws

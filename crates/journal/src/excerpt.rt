@@ -24,7 +24,7 @@ pub struct Excerpt {
     pub whole: usize,
 }
 
-/// Runs a program on an input, for at most `bound` statements, as [`steps_of`](crate::steps_of) does, and keeps the entries alone whose
+/// Runs a program on an input, for at most `bound` statements, as [`tell_run`](crate::tell_run) does, and keeps the entries alone whose
 /// numbers, counted from 1, go from `first` to `last`: beside the run it takes the memory of these, and of one statement. The watch is told
 /// how far the run is. E11 where there are more values than cells; E16 only where memory was refused.
 pub fn steps_between<V: Watch>(

@@ -47,7 +47,7 @@ fn hear_fault<V: Watch>(
     }
 }
 
-/// The entry of the fault with which a program's run on an input ends within `bound` statements, as [`steps_of`](crate::steps_of) tells
+/// The entry of the fault with which a program's run on an input ends within `bound` statements, as [`tell_run`](crate::tell_run) tells
 /// it, and none where the run ends or goes on. Of what runs before nothing is kept, so it takes the memory of the run and of one
 /// statement. The watch is told how far the run is. E11 where there are more values than cells; E16 only where memory was refused.
 pub fn fault_of<V: Watch>(

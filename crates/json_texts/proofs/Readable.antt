@@ -39,7 +39,7 @@ use Rattle.memory_texts.specs.declared.choice.Choice.{Choice}
 use Rattle.memory_texts.specs.declared.choice.Choice.TheVariants.{All}
 use Rattle.json_texts.specs.OutcomeFacts.{bounds_fields, chosen_facts, chosen_fields, entry_facts, fault_fields, memory_facts}
 use Rattle.json_texts.specs.OutcomeFacts.{opening_facts, outcome_facts, outcome_fields}
-use Rattle.json_texts.specs.RefusalFacts.{cause_fields, place_fields, reason_fields, stop_facts, stop_fields, text_fields, told_place}
+use Rattle.json_texts.specs.RefusalFacts.{cause_fields, place_fields, reason_fields, stop_fields, text_fields, told_place}
 use Rattle.json_texts.specs.RuleFacts.{comparison_facts, declared_fields, finding_fields, rule_facts}
 use Rattle.json_texts.specs.ActFacts.{act_facts, cell_fact, position_fact, processor_fact, value_fact, write_fact, written_fact}
 use Rattle.json_texts.specs.CauseFacts.{beyond_fields, known_fields, why_fields, write_facts}
@@ -142,9 +142,6 @@ small_stop source (stop.NotVerified at reason) = (small_word 3 _, (small_word 3 
 small_stop source (stop.BadListing at) = (small_word 3 _, (small_word 3 _, small_place source (Some at)))
 small_stop source stop.WriteFailed = (small_word 3 _, (small_word 3 _, tt))
 small_stop source (stop.BadSize at r) = (small_word 3 _, (small_word 3 _, (small_word 3 _, small_place source (Some at))))
-
-pub readable_stop : (source : List ℕ) (why : Stop) → IsReadable (stop_facts source why)
-readable_stop source why = readable (stop_fields source why) (small_stop source why)
 
 -- ---- costs
 

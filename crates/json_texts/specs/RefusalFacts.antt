@@ -70,10 +70,6 @@ unverified_fields at reason =
     (codes "refused", word (codes "E14")) ∷ (codes "name", word (codes "NotVerified")) ∷ (codes "instruction", count at)
     ∷ (codes "reason", word reason) ∷ []
 
--- the same with the line of the instruction, counted from 1
-abbrev pub unverified_at : ℕ → List ℕ → (line : ℕ) → Data
-unverified_at at reason line = object_of (unverified_fields at reason ++ (codes "line", count line) ∷ [])
-
 -- a text with sizes that has no expansion
 abbrev pub size_fields : List ℕ → ℕ → Reason → List Field
 size_fields source at r =

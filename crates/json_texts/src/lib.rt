@@ -28,7 +28,7 @@ pub use exploration::json_exploration;
 pub use message::json_refusal;
 pub use outcome::{json_opening, json_outcome};
 pub use pair::json_pair;
-pub use refusal::{json_stop, json_unverified, out_of_memory_line};
+pub use refusal::out_of_memory_line;
 pub use rules::json_comparison;
 pub use steps::{json_step, json_steps};
 pub use streaming::stream_json;

@@ -304,9 +304,10 @@ fn refusal_facts(
 }
 
 /// Why a call stops, and what there is to say of it, on a line. The file of the text that was refused has that name and holds this; where
-/// the refusal is about no text it makes no difference. Beside the fields of `json_stop` it has, each where there is such a thing, the
-/// sentence (`message`), its `place` with `file`, `line`, and of a byte `column` and `offset`, what could stand there (`expected`), the
-/// name that was `meant`, and `notes`, each a `message` with a `place`; and of an instruction that is refused the `line`.
+/// the refusal is about no text it makes no difference. Beside the number and the name of the refusal, and its place, it has, each where
+/// there is such a thing, the sentence (`message`), its `place` with `file`, `line`, and of a byte `column` and `offset`, what could stand
+/// there (`expected`), the name that was `meant`, and `notes`, each a `message` with a `place`; and of an instruction that is refused the
+/// `line`.
 pub fn json_refusal(
     alloc: Global,
     name: &[u8],

@@ -1,18 +1,18 @@
 //! Refusals.
 
-ghost use Rattle.std.specs.Prelude.{◌≡◌, ℕ, List, ◌∷◌, ◌++◌, [], IfOk, OnOk, string_bytes};
+ghost use Rattle.std.specs.Prelude.{◌≡◌, ℕ, List, ◌∷◌, [], OnOk};
 ghost use Rattle.json_lines.specs.Facts.{with_fields};
 ghost use Rattle.json_lines.specs.Lines.{IsJson};
 ghost use Rattle.json_lines.specs.Shown.{shown};
 ghost use Rattle.program_texts.specs.Stopped as texts;
 ghost use Rattle.json_texts.specs.RefusalFacts as spec;
 
-use json_lines::{Object, line_of};
+use json_lines::Object;
 use pram_check::{Cause, Limit, Spot};
 use pram_trees::TextFault;
 use program_texts::{Refusal, Stop};
 use sized_texts::{Reason, reason_word};
-use std::alloc::{AllocError, Global};
+use std::alloc::AllocError;
 use text_places::place_of;
 
 // The number and the name.
@@ -197,33 +197,6 @@ pub(crate) fn put_stop(
         Stop::WriteFailed => put_named(object, "E17", "WriteFailed"),
         Stop::BadSize(at, reason) => put_bad_size(object, source, *at, *reason),
     }
-}
-
-/// Why a call stops, on a line: `{"column":7,"line":4,"name":"UnknownName","offset":57,"refused":"E6"}`. The text is the one that was
-/// refused; where the refusal has no place in a text it makes no difference.
-pub fn json_stop(alloc: Global, source: &[u8], stop: &Stop<'_>) -> Result<String, AllocError>
-    // The line is exactly the facts of the refusal by itself, and read as JSON it is these facts again.
-    ensures json { IfOk result (λ text. IsJson (spec.stop_facts source.now stop.now ∷ []) (string_bytes text)) }
-{
-    let mut object = Object::new(alloc);
-    put_stop(&mut object, source, stop)?;
-    line_of(alloc, &object.into_value())
-}
-
-/// Code that isn't well formed, by the instruction, the word for the reason, and the line of the listing where the instruction stands,
-/// counted from 1: `{"instruction":0,"line":7,"name":"NotVerified","reason":"exchange","refused":"E14"}`.
-pub fn json_unverified(
-    alloc: Global,
-    at: u32,
-    reason: &str,
-    line: usize,
-) -> Result<String, AllocError>
-    ensures json { IfOk result (λ text. IsJson (spec.unverified_at at reason.now line ∷ []) (string_bytes text)) }
-{
-    let mut object = Object::new(alloc);
-    put_unverified(&mut object, at, reason)?;
-    object.put_count("line", line as u64)?;
-    line_of(alloc, &object.into_value())
 }
 
 /// The line of a call that stops where memory was refused (E16). It takes no memory.
