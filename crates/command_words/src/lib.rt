@@ -11,4 +11,3 @@ mod scope_reading;
 mod subcommands;
 
 pub use command_line::CommandLine;
-pub use reading::read_words;

@@ -329,7 +329,7 @@ fn unmatched<'a>(
 }
 
 /// Reads the words behind the program's name.
-pub fn read_words<'a>(alloc: Global, words: &'a [String]) -> Result<Request<'a>, Stop<'a>>
+pub(crate) fn read_words<'a>(alloc: Global, words: &'a [String]) -> Result<Request<'a>, Stop<'a>>
     // The word for the version alone asks for it.
     ensures version { AsksForVersion (map string_bytes words.now) → result ≡ Ok Request.Version }
     // Words are refused in their parser's words, by the word that is wrong, or for want of memory, and for nothing

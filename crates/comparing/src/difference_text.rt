@@ -111,7 +111,7 @@ fn write_excess<W: Out>(out: &mut W, words: &[u8], taken: u64, limit: u64) -> Re
 /// `a[4] is 7, and 0`, `ended, and fault overflow all line 9`, or `time 43 above 40`. Of two values, or of how two runs come out, that of
 /// the first program stands first. The layouts are the shared declarations of the two programs, by which cells are named. The error is
 /// that the writer failed (E17).
-pub fn write_difference<W: Out>(
+pub(crate) fn write_difference<W: Out>(
     out: &mut W,
     first_layout: &Layout,
     second_layout: &Layout,

@@ -9,7 +9,7 @@ const MOST_VALUES: usize = 1_000_000;
 
 /// How many of the inputs on which two programs differ are told, where each has so many values: at most 1,000, and no more than have
 /// 1,000,000 values together, but one in any case.
-pub fn most_told(values: usize) -> usize
+pub(crate) fn most_told(values: usize) -> usize
     ensures { result ≡ spec.most_told values }
 {
     let fitting = MOST_VALUES / values.max(1);

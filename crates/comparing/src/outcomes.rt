@@ -120,7 +120,7 @@ fn excess(limits: Limits, time: u64, work: u64) -> Option<Difference>
 /// What differs first between a run of a first program, and one of a second that takes `time` statements and so much work: that they
 /// come out otherwise; where both end the first output item, and then the first cell of the ranges in their order; and then that the
 /// second, where it ends, takes more than its limit of time or of work. None where they come to the same within the limits.
-pub fn first_difference(
+pub(crate) fn first_difference(
     compared: &Compared,
     first: &Outcome,
     second: &Outcome,

@@ -31,9 +31,8 @@ pub use halted::Halted;
 pub use laws::{
     a_meant_name_may_stand_there, a_name_is_meant_where_one_is_near, what_may_stand_is_not_refused,
 };
-pub use numbers::{stop_number, write_gnu_about};
+pub use numbers::write_gnu_about;
 pub use reason::{Reason, run_reason};
-pub use remark::{Remark, expected_at, remark_of};
 pub use source::{Kind, Source};
-pub use standing::{as_it_stands, refusal_as_it_stands, write_refused_line};
-pub use stops::{bytes_in, message_of, name_in, write_message_about, write_stop_diagnosis};
+pub use standing::{refusal_as_it_stands, write_refused_line};
+pub use stops::{bytes_in, message_of, name_in, write_stop_diagnosis};

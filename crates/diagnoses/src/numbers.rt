@@ -53,7 +53,7 @@ fn refusal_number(refusal: Refusal) -> &'static [u8]
 }
 
 /// The number of a refusal, as `E6`.
-pub fn stop_number(stop: &Stop<'_>) -> &'static [u8]
+pub(crate) fn stop_number(stop: &Stop<'_>) -> &'static [u8]
     ensures { result.now ≡ spec.stop_number stop.now }
 {
     match stop {

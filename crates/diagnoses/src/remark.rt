@@ -22,7 +22,7 @@ use std::alloc::{AllocError, Global};
 
 /// What there is to say of a name that is wrong, or of a token with which no program goes on.
 #[derive(Drop)]
-pub enum Remark {
+pub(crate) enum Remark {
     /// Nothing: no name is near, or the text says nothing of it.
     Nothing,
     /// This name in scope was meant.
@@ -132,7 +132,7 @@ fn remark_in(alloc: Global, text: &[u8], tree: &Tree, breach: Breach) -> Result<
 }
 
 /// What there is to say of the first thing that is wrong with a program, by its text. The error is that memory was refused.
-pub fn remark_of(alloc: Global, text: &[u8], breach: Breach) -> Result<Remark, AllocError>
+pub(crate) fn remark_of(alloc: Global, text: &[u8], breach: Breach) -> Result<Remark, AllocError>
     ensures { IfOk result (λ r. spec.IsRemark text.now breach (spec.remark_is r)) }
 {
     match parse(alloc, text) {
@@ -170,7 +170,7 @@ fn expected_in(alloc: Global, text: &[u8], at: u32) -> Result<Remark, AllocError
 
 /// Which kinds of tokens could stand at a place, behind what stands before it, and what else there is to say of it. The error is that
 /// memory was refused.
-pub fn expected_at(alloc: Global, text: &[u8], at: u32) -> Result<Remark, AllocError>
+pub(crate) fn expected_at(alloc: Global, text: &[u8], at: u32) -> Result<Remark, AllocError>
     ensures { IfOk result (λ r. spec.IsExpectation text.now at (spec.remark_is r)) }
 {
     if LONGEST < text.len() {

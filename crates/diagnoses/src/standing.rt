@@ -37,7 +37,7 @@ pub(crate) fn spot_as_it_stands(source: &Source<'_>, spot: Spot) -> Spot
 }
 
 /// A refusal of the text that is judged, with its offset in the file.
-pub fn as_it_stands(source: &Source<'_>, refusal: Refusal) -> Refusal
+pub(crate) fn as_it_stands(source: &Source<'_>, refusal: Refusal) -> Refusal
     ensures { result ≡ sources.as_it_stands source.now refusal }
 {
     match refusal {

@@ -324,7 +324,7 @@ pub fn bytes_in<'a>(about: &'a About<'_>) -> &'a [u8]
 }
 
 /// Writes a message on what a refusal is about, as text. The error is that the writer failed (E17).
-pub fn write_message_about<W: Out>(
+pub(crate) fn write_message_about<W: Out>(
     out: &mut W,
     about: &About<'_>,
     message: &Message,

@@ -5,14 +5,18 @@ ghost use Rattle.journal.specs.Entries.{entry_is};
 ghost use Rattle.flow_pictures.specs.Asides as spec;
 
 use crate::entries::location_in;
-use crate::subscript_reads;
+use crate::outside::subscript_reads;
 use journal::Entry;
 use pram_check::Program;
 use std::alloc::{AllocError, Global};
 
 /// Which shared reads of the statement of this entry stand in a subscript, read by read, in the order in which a processor makes them; for
 /// `Flow`. `AllocError`: memory was refused.
-pub fn asides_of(alloc: Global, program: &Program, entry: &Entry) -> Result<Vec<bool>, AllocError>
+pub(crate) fn asides_of(
+    alloc: Global,
+    program: &Program,
+    entry: &Entry,
+) -> Result<Vec<bool>, AllocError>
     // It tells which of the shared reads of the entry's statement stand in a subscript, read by read in order of
     // evaluation.
     ensures { IfOk result (λ aside. aside.items ≡ spec.asides_in program.now.body (entry_is entry.now)) }

@@ -29,14 +29,12 @@ mod subscripts;
 mod taker;
 mod values;
 
-pub use asides::asides_of;
 pub use column::Column;
 pub use drawing::Drawing;
 pub use flow::Flow;
 pub use flow_laws::{
     each_write_is_a_node, lines_come_from_reads, the_picture_is_its_shapes, what_has_room_is_drawn,
 };
-pub use outside::subscript_reads;
 pub use picture::write_flow;
 pub use spans::CellSpan;
 pub use streaming::stream_flow;

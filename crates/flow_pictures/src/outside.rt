@@ -125,7 +125,7 @@ fn add_body(all: &mut Vec<bool>, offset: u32, body: &[Statement]) -> Result<(), 
 
 /// Which shared reads of the statement at an offset of the text stand in a subscript, read by read, in the order in which a processor makes
 /// them: one for each read in the statement, and none where no statement begins there.
-pub fn subscript_reads(
+pub(crate) fn subscript_reads(
     alloc: Global,
     program: &Program,
     offset: u32,

@@ -8,7 +8,8 @@ ghost use Rattle.flow_pictures.specs.Taken.{is_kept};
 ghost use Rattle.flow_pictures.specs.Takes.{Takes};
 ghost use Rattle.flow_pictures.specs.TakesLaws.{takes_nothing, takes_on};
 
-use crate::{Flow, asides_of};
+use crate::Flow;
+use crate::asides::asides_of;
 use journal::{Entry, Teller};
 use pram_check::Program;
 use std::alloc::{AllocError, Global};

@@ -93,7 +93,7 @@ fn fixed_token(fixed: Fixed) -> Token
 }
 
 /// A token of that kind. The error is that memory was refused.
-pub fn sample(alloc: Global, choice: Choice) -> Result<Token, AllocError>
+pub(crate) fn sample(alloc: Global, choice: Choice) -> Result<Token, AllocError>
     ensures { IfOk result (λ t. t ≡ spec.sample choice) }
 {
     match choice {

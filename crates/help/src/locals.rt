@@ -59,7 +59,7 @@ fn find_in_block<'a>(at: u32, body: &'a [Stmt], found: &'a [Name]) -> &'a [Name]
 
 /// The locals of the pardo in which a statement stands that begins at this offset of a program's text, in the order of their declaration:
 /// those of the last pardo that begins there or before.
-pub fn locals_at<'a>(tree: &'a Tree, at: u32) -> &'a [Name]
+pub(crate) fn locals_at<'a>(tree: &'a Tree, at: u32) -> &'a [Name]
     // They are the locals of the pardo in which the statement at this offset stands.
     ensures { result.now ≡ spec.locals_at tree.now at }
 {

@@ -5,7 +5,8 @@ ghost use Rattle.pram_tokens.specs.Tokens.{AreReal};
 ghost use Rattle.help.specs.Kinds.{sample as sample_of};
 ghost use Rattle.help.specs.Missing as spec;
 
-use crate::{Choice, sample};
+use crate::Choice;
+use crate::choice::sample;
 use pram_parser::parse_tokens;
 use pram_tokens::Token;
 use pram_trees::ParseError;

@@ -165,7 +165,12 @@ pub fn cause_in(view: &View, action: &StepAction) -> Option<Cause>
 }
 
 /// Why a statement outside pardo faults, by the run as it stands before it; none where it doesn't. It takes no memory.
-pub fn cause_alone(alloc: Global, program: &Program, run: &Run, action: &Action) -> Option<Cause>
+pub(crate) fn cause_alone(
+    alloc: Global,
+    program: &Program,
+    run: &Run,
+    action: &Action,
+) -> Option<Cause>
     // It is the defined cause of the statement outside pardo in this state, and none where that doesn't fault.
     ensures { known_cause result ≡ spec.cause_alone program.now.procs (seen program.now (state_of run.now)) (action_is action.now) }
 {

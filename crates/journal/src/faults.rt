@@ -9,10 +9,12 @@ ghost use Rattle.pram_meaning.specs.Sets.{state_in};
 ghost use Rattle.journal.specs.Entries.{entry_is};
 ghost use Rattle.journal.specs.RunEntries.{by_one, by_set};
 
+use crate::Entry;
 use crate::acts::{acts_before, alone_acts, front};
+use crate::alone::cause_alone;
 use crate::fault_locals::locals_at;
 use crate::meetings::meeting;
-use crate::{Entry, cause_alone, cause_on};
+use crate::together::cause_on;
 use pram_check::Program;
 use pram_meaning::Key;
 use pram_meaning::action::{Action, StepAction};

@@ -37,7 +37,6 @@ mod value;
 mod window;
 
 pub use act::Act;
-pub use alone::cause_alone;
 pub use cause::Cause;
 pub use change::Change;
 pub use entry::Entry;
@@ -49,4 +48,3 @@ pub use reading::Reading;
 pub use teller::Teller;
 pub use telling::tell_run;
 pub use timing::{bound_in_time, steps_bound_in_time};
-pub use together::cause_on;

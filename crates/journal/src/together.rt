@@ -106,7 +106,7 @@ fn own_cause(
 
 /// Why a statement of a set has this fault, by its parts and by the run as it stands before it: at a processor why its attempt fails, at a
 /// cell the accesses that conflict there. None where the parts have no such fault. The error is that memory was refused.
-pub fn cause_on(
+pub(crate) fn cause_on(
     alloc: Global,
     program: &Program,
     run: &Run,

@@ -8,4 +8,4 @@ mod values;
 pub use line::{line_of, push_line};
 pub use object::Object;
 pub use serde_json::Value;
-pub use values::{counts_of, value_of, values_of};
+pub use values::{counts_of, value_of};

@@ -47,7 +47,7 @@ pub(crate) fn large_of(alloc: Global, count: u128) -> Result<Value, AllocError>
 }
 
 /// Values of a program, in order.
-pub fn values_of(alloc: Global, values: &[i64]) -> Result<Value, AllocError>
+pub(crate) fn values_of(alloc: Global, values: &[i64]) -> Result<Value, AllocError>
     ensures { IfOk result (λ v. view v ≡ facts.values values.now) }
 {
     let mut list = Vec::new(alloc);

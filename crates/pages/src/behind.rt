@@ -6,7 +6,7 @@ ghost use Rattle.pages.specs.Gathered.{IsBehind};
 ghost use Rattle.pages.specs.Pages.{IsStateBehind};
 
 use crate::replayer::Replayer;
-use crate::{RunState, state_line};
+use crate::state::{RunState, state_line};
 use journal::tell_run;
 use observing::Watch;
 use pram_check::Program;

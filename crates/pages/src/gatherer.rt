@@ -9,7 +9,8 @@ ghost use Rattle.pages.specs.GatheredLaws.{gathers_nothing, gathers_on};
 ghost use Rattle.pages.specs.Gathered.{Gathers};
 
 use crate::asked::Asked;
-use crate::{KeptLines, RunState};
+use crate::lines::KeptLines;
+use crate::state::RunState;
 use journal::{Entry, Teller};
 use json_texts::json_step;
 use std::alloc::{AllocError, Global};

@@ -8,7 +8,8 @@ ghost use Rattle.pages.specs.Gathered.{IsGathered};
 
 use crate::asked::Asked;
 use crate::gatherer::Gatherer;
-use crate::{KeptLines, RunState};
+use crate::lines::KeptLines;
+use crate::state::RunState;
 use journal::tell_run;
 use observing::Watch;
 use pram_check::Program;

@@ -24,8 +24,4 @@ mod stepping;
 mod streaming;
 mod telling;
 
-pub use lines::{Kept, KeptLines};
-pub use opening::opening_line;
-pub use page::write_page;
-pub use state::{RunState, state_line};
 pub use streaming::stream_page;

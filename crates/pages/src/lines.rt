@@ -15,7 +15,7 @@ const MOST: usize = 3_584_000;
 /// The first and the last bytes of some lines, as many as could stand in a page whatever comes behind: of a text of any length it takes
 /// a few MiB.
 #[derive(Drop)]
-pub struct KeptLines {
+pub(crate) struct KeptLines {
     /// The first ones, as many as a page has room for.
     pub(crate) first: Vec<u8>,
     /// The last ones, more than a page has room for, or all.
@@ -28,11 +28,11 @@ pub struct KeptLines {
 
 /// Which of the bytes that are kept stand in a page.
 #[derive(Clone, Copy)]
-pub struct Kept {
+pub(crate) struct Kept {
     /// How many of the first ones.
-    pub front: usize,
+    pub(crate) front: usize,
     /// Where they begin in the last ones.
-    pub back: usize,
+    pub(crate) back: usize,
 }
 
 // Puts bytes behind the first ones, as far as there is room.
@@ -55,7 +55,7 @@ fn told_before(lines: &[u8], last: usize) -> usize
 
 impl KeptLines {
     /// No lines.
-    pub fn new(alloc: Global) -> KeptLines
+    pub(crate) fn new(alloc: Global) -> KeptLines
         ensures { Holds result [] }
     {
         KeptLines {
@@ -100,7 +100,7 @@ impl KeptLines {
 
     /// Puts lines behind the others. `AllocError`: memory was refused, or there are more bytes than can be counted; what is kept is of no
     /// use then.
-    pub fn push(&mut self, alloc: Global, bytes: &[u8]) -> Result<(), AllocError>
+    pub(crate) fn push(&mut self, alloc: Global, bytes: &[u8]) -> Result<(), AllocError>
         ensures { OnOk result ((text : List ℕ) → Holds self.old text → Holds self.new (text ++ bytes.now)) }
     {
         self.put(bytes)?;
@@ -141,7 +141,7 @@ impl KeptLines {
     }
 
     /// These lines behind others. `AllocError`: memory was refused, or there are more bytes than can be counted.
-    pub fn behind(self, alloc: Global, head: &[u8]) -> Result<KeptLines, AllocError>
+    pub(crate) fn behind(self, alloc: Global, head: &[u8]) -> Result<KeptLines, AllocError>
         ensures { IfOk result (λ lines. (text : List ℕ) → Holds self text → Holds lines (head.now ++ text)) }
     {
         if self.before == 0 {
@@ -166,7 +166,7 @@ impl KeptLines {
 
     /// Which lines stand in their page: all, if they have room, and else the last ones, that of the outcome among them, and as many of
     /// the first.
-    pub fn kept(&self) -> Kept
+    pub(crate) fn kept(&self) -> Kept
         // All lines are kept where they have room, else the longest end within half the room, or the last line alone,
         // and the longest front beside it.
         ensures cut { (text : List ℕ) → Holds self.now text → IsCut text result.front (self.now.before + result.back) }
@@ -195,7 +195,7 @@ impl KeptLines {
 
     /// The number of the last statement that is left out, if some are; `last` is that of the last one of which facts tell, whose line
     /// stands before that of the outcome.
-    pub fn gap_end(&self, kept: Kept, last: usize) -> Option<usize>
+    pub(crate) fn gap_end(&self, kept: Kept, last: usize) -> Option<usize>
         requires back_within { kept.back ≤ length self.now.last.items }
         ensures { (text : List ℕ) → Holds self.now text →
             result ≡ end_of_gap text kept.front (self.now.before + kept.back) last }

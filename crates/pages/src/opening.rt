@@ -145,7 +145,7 @@ fn opening_value(
 /// What a page says before the first statement, on a line: what the program's file is called, its text and its rule, the input, how many
 /// statements the run has, the shared declarations with their bounds, the names of the uniform variables, and the pardos with the names of
 /// their locals. `AllocError`: memory was refused.
-pub fn opening_line(
+pub(crate) fn opening_line(
     alloc: Global,
     file: &[u8],
     text: &[u8],

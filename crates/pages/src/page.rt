@@ -55,7 +55,7 @@ fn write_of<W: Out>(
 /// outcome. Of them those stand in the page that are kept; `kept` says which have room. Where some are left out, the state behind them
 /// stands there too if it has room, which is the line of `state_line`, or nothing where it isn't known; and which are left out. The error
 /// is that the writer failed (E17).
-pub fn write_page<W: Out>(
+pub(crate) fn write_page<W: Out>(
     out: &mut W,
     lines: &KeptLines,
     kept: Kept,

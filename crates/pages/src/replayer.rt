@@ -5,7 +5,7 @@ ghost use Rattle.std.specs.Prelude.{⊤, ◌≡◌, refl};
 ghost use Rattle.pages.specs.GatheredLaws.{replays_nothing, replays_as};
 ghost use Rattle.pages.specs.Gathered.{Replays};
 
-use crate::RunState;
+use crate::state::RunState;
 use journal::{Entry, Teller};
 use std::alloc::AllocError;
 

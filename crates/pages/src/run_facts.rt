@@ -8,7 +8,9 @@ ghost use Rattle.pages.specs.Paged.{KeepsFacts};
 
 use crate::asked::Asked;
 use crate::gathering::Gathered;
-use crate::{KeptLines, RunState, opening_line, state_line};
+use crate::lines::KeptLines;
+use crate::opening::opening_line;
+use crate::state::{RunState, state_line};
 use json_texts::json_outcome;
 use memory_texts::Choice;
 use pram_check::Program;

@@ -81,15 +81,15 @@ fn count_printed(count: &mut usize, entry: &Entry) -> Result<(), AllocError>
 /// What cells and uniform variables hold at a moment of a run: the values of the first ones, of which all others are 0; and how many
 /// numbers the run has printed.
 #[derive(Drop)]
-pub struct RunState {
-    pub cells: Vec<i64>,
-    pub variables: Vec<i64>,
-    pub printed: usize,
+pub(crate) struct RunState {
+    pub(crate) cells: Vec<i64>,
+    pub(crate) variables: Vec<i64>,
+    pub(crate) printed: usize,
 }
 
 impl RunState {
     /// Before the first statement, on this input. `AllocError`: memory was refused.
-    pub fn before_all(alloc: Global, input: &[i64]) -> Result<RunState, AllocError>
+    pub(crate) fn before_all(alloc: Global, input: &[i64]) -> Result<RunState, AllocError>
         ensures cells { IfOk result (λ state. state.cells.items ≡ input.now) }
         ensures variables { IfOk result (λ state. state.variables.items ≡ []) }
         ensures printed { IfOk result (λ state. state.printed ≡ 0) }
@@ -105,7 +105,7 @@ impl RunState {
 
     /// Behind one statement more. `AllocError`: memory was refused, and part of its changes may have been made; or more numbers were
     /// printed than can be counted, which no memory holds.
-    pub fn go_on(&mut self, entry: &Entry) -> Result<(), AllocError>
+    pub(crate) fn go_on(&mut self, entry: &Entry) -> Result<(), AllocError>
         ensures cells { OnOk result (self.new.cells.items ≡ replay.with_cells self.old.cells.items (entry_is entry.now)) }
         ensures variables { OnOk result (self.new.variables.items ≡ replay.with_variables self.old.variables.items (entry_is entry.now)) }
         ensures printed { OnOk result (self.new.printed ≡ replay.with_printed self.old.printed (entry_is entry.now)) }
@@ -130,7 +130,11 @@ fn state_value(alloc: Global, state: &RunState, behind: usize) -> Result<Value, 
 /// What cells and uniform variables hold behind the statement of this number, on a line: the values of the first cells and variables, of
 /// which all others are 0, and how many numbers were printed up to there. A page takes it where statements up to that one are left out.
 /// `AllocError`: memory was refused.
-pub fn state_line(alloc: Global, state: &RunState, behind: usize) -> Result<String, AllocError>
+pub(crate) fn state_line(
+    alloc: Global,
+    state: &RunState,
+    behind: usize,
+) -> Result<String, AllocError>
     // The line is exactly the facts of cells, uniform variables and number of printed items behind a statement, and
     // read as JSON it is them again.
     ensures json { IfOk result

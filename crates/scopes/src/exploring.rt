@@ -6,7 +6,8 @@ ghost use Rattle.scopes.specs.Scopes.{inputs_left, inputs_of};
 ghost use Rattle.scopes.specs.Found.{found, found_is};
 
 use crate::findings::Findings;
-use crate::{Inputs, Scope, first_input, input_at, input_count};
+use crate::inputs::input_at;
+use crate::{Inputs, Scope, first_input, input_count};
 use costs::time_and_work;
 use observing::{Nobody, Watch};
 use pram_check::Program;
@@ -92,7 +93,7 @@ fn try_all<W: Watch>(
 /// Runs a program on a block of the inputs of a scope, as [`explore`] does on all of them: on `count` inputs from that of a place on, which
 /// is counted from 0, or on all from there on. E11 where an input has more values than the program has cells; E16 only where memory was
 /// refused.
-pub fn explore_block(
+pub(crate) fn explore_block(
     alloc: Global,
     program: &Program,
     scope: Scope,

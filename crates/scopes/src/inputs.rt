@@ -37,7 +37,7 @@ pub fn first_input(alloc: Global, scope: Scope) -> Result<Inputs, AllocError>
 /// Before the input of this place, counted from 0: those from it on are left, and none where there are no more than `place`. It steps past
 /// those before.
 #[tactic(auto, using(crate::proofs::Placed::nothing_behind))]
-pub fn input_at(alloc: Global, scope: Scope, place: u64) -> Result<Inputs, AllocError>
+pub(crate) fn input_at(alloc: Global, scope: Scope, place: u64) -> Result<Inputs, AllocError>
     ensures scope { IfOk result (λ r. r.scope ≡ scope) }
     ensures left { IfOk result (λ r. inputs_left r.scope r.over r.input.items ≡ drop place (inputs_of scope)) }
 {

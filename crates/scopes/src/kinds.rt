@@ -21,7 +21,7 @@ fn kind_number(kind: Kind) -> u8
 }
 
 /// Whether two faults are of one kind, at one line.
-pub fn is_alike(fault: Fault, other: Fault) -> bool
+pub(crate) fn is_alike(fault: Fault, other: Fault) -> bool
     ensures { result ≡ spec.are_alike fault other }
 {
     kind_number(fault.kind) == kind_number(other.kind) && fault.line == other.line

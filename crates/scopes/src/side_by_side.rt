@@ -5,7 +5,9 @@ ghost use Rattle.pram_model.specs.Layout.{total_size};
 ghost use Rattle.scopes.specs.Scopes.{inputs_of};
 ghost use Rattle.scopes.specs.Found.{found, found_is};
 
-use crate::{Findings, Scope, explore, explore_block, input_at, input_count};
+use crate::exploring::explore_block;
+use crate::inputs::input_at;
+use crate::{Findings, Scope, explore, input_count};
 use observing::Watch;
 use pram_check::Program;
 use pram_meaning::MeaningRefusal;

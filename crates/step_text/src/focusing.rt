@@ -100,7 +100,7 @@ fn tells(entry: &Entry) -> bool
 /// What is left of an entry where some of a program is looked at: where names are given, of a statement that ran the cells, the uniform
 /// variables and the locals alone that bear one of them, and nothing that it printed; none, where it changed none of these. A fault is left
 /// as it is, but for the locals if these are not looked at. No memory is taken.
-pub fn focused(focus: &Focus<'_>, entry: Entry) -> Option<Entry>
+pub(crate) fn focused(focus: &Focus<'_>, entry: Entry) -> Option<Entry>
     // Where names are given, just a statement's changes that bear one of them are left, and nothing where there are
     // none. A fault is always left.
     ensures { option_map entry_is result ≡ spec.focused focus.now (entry_is entry) }

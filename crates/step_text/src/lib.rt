@@ -20,9 +20,7 @@ mod values;
 
 pub use failure::StreamFailure;
 pub use focus::Focus;
-pub use focusing::focused;
 pub use manner::Manner;
 pub use names::undeclared_name;
-pub use step_text::{write_entry, write_line};
 pub use streaming::stream_steps;
 pub use telling::{Detail, Telling};

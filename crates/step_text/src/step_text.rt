@@ -178,7 +178,7 @@ pub(crate) fn write_number<W: Out>(out: &mut W, number: usize) -> Result<(), Wri
 /// `6 fault read-conflict a[1] line 4 processors 1 3`, where at a cell the indices of the processors follow that met there, and with
 /// locals what these held, ` 1: x 3 y 7 3: x 0 y 2`. With columns it is `line 9:5` in place of `line 9`. The error is that the writer
 /// failed (E17).
-pub fn write_entry<W: Out>(
+pub(crate) fn write_entry<W: Out>(
     out: &mut W,
     layout: &Layout,
     detail: &Detail<'_>,
@@ -197,7 +197,7 @@ pub fn write_entry<W: Out>(
 
 /// Writes the line of an entry behind its number, in the manner and with the detail of a telling. The error is that the writer failed
 /// (E17).
-pub fn write_line<W: Out>(
+pub(crate) fn write_line<W: Out>(
     out: &mut W,
     layout: &Layout,
     telling: &Telling<'_>,

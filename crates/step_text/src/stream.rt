@@ -11,7 +11,8 @@ ghost use Rattle.step_text.specs.StreamLaws.{streams_nothing, streams_on};
 ghost use Rattle.step_text.specs.Streams.{Streams, line_behind, line_of};
 
 use crate::asked::Asked;
-use crate::{focused, write_line};
+use crate::focusing::focused;
+use crate::step_text::write_line;
 use journal::{Entry, Teller};
 use std::alloc::AllocError;
 use text_out::Out;

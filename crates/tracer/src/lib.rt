@@ -13,6 +13,5 @@ mod trace;
 pub mod trace_laws;
 
 pub use cost::{Rates, bsp_cost, write_bsp_cost};
-pub use exchange_counts::{Count, Counts, Purpose};
 pub use picture::write_picture;
 pub use trace::write_trace;
