@@ -1,6 +1,5 @@
 pub mod CauseLemmas
 pub mod DeclarationFacts
-pub mod EntryFacts
 pub mod HeldLocals
 pub mod ExchangeFacts
 pub mod Readable

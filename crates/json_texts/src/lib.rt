@@ -30,7 +30,7 @@ pub use outcome::{json_opening, json_outcome};
 pub use pair::json_pair;
 pub use refusal::out_of_memory_line;
 pub use rules::json_comparison;
-pub use steps::{json_step, json_steps};
+pub use steps::json_step;
 pub use streaming::stream_json;
 pub use sweep::json_sweep;
 pub use trace::json_trace;

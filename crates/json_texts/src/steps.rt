@@ -1,30 +1,26 @@
 //! A run that is told statement by statement.
 
-ghost use Rattle.std.specs.Prelude.{◌≡◌, ◌<◌, ◌+◌, ◌-◌, ◌^◌, ◌∷◌, [], IfOk, OnOk, map, string_bytes};
+ghost use Rattle.std.specs.Prelude.{◌≡◌, ◌∷◌, [], IfOk, OnOk, map, string_bytes};
 ghost use Rattle.serde_json.specs.View.{view};
 ghost use Rattle.json_lines.specs.Facts.{with_fields};
-ghost use Rattle.json_lines.specs.Lines.{Adds, IsJson};
+ghost use Rattle.json_lines.specs.Lines.{IsJson};
 ghost use Rattle.json_lines.specs.Shown.{shown};
 ghost use Rattle.journal.specs.Causes.{known_cause};
 ghost use Rattle.journal.specs.Entries.{act_is, entry_is};
 ghost use Rattle.journal.specs.Entries as entry;
-ghost use Rattle.write_rules.specs.Verdict.{verdict_of};
-ghost use Rattle.json_texts.specs.OutcomeFacts.{outcome_facts};
 ghost use Rattle.json_texts.specs.StepFacts as spec;
 
 use crate::acts::acts_facts;
 use crate::cause::put_known;
 use crate::fault::{cell_text, put_fault};
-use crate::outcome::outcome_value;
 use crate::own_locals::own_facts;
 use help::{local_name, variable_name};
 use journal::{Act, Cause, Change, Entry, LocalChange};
-use json_lines::{Object, Value, line_of, push_line};
-use memory_texts::Choice;
+use json_lines::{Object, Value, line_of};
 use pram_trees::{Layout, Location, Tree};
 use std::alloc::{AllocError, Global};
 use text_places::place_of;
-use write_rules::{Fault, Outcome};
+use write_rules::Fault;
 
 // A cell's value before and behind.
 fn change_facts(alloc: Global, layout: &Layout, change: &Change) -> Result<Value, AllocError>
@@ -235,7 +231,15 @@ fn step_facts(
     Ok(object.into_value())
 }
 
-/// An entry of this number, counted from 1, on a line, as [`json_steps`] makes it.
+/// An entry of this number, counted from 1, on a line:
+/// `{"acts":[{"processor":"3","reads":["a[3]"],"write":"a[3]"}],"changes":[{"after":"7","before":"4","cell":"a[3]"}],"column":5,`
+/// `"line":9,"locals":[],"printed":[],"processors":1,"step":5,"variables":[]}`, where `processor` is null of the one outside pardo and
+/// `write` where it writes no cell; or at a fault
+/// `{"acts":[..],"column":3,"kind":"read-conflict","line":4,"locals":[..],"met":["1","3"],"place":"a[1]","step":6}`, with what there is to
+/// say of why: `array`, `subscript`, `low` and `high`; `operator` and `operands`; `low`, `high` and `procs`; or `writers`. A variable is
+/// told as `{"after":"4","before":"8","name":"m","variable":0}`, by its name in the tree and its number in the order of declarations, and a
+/// local as `{"after":"7","before":"3","local":"x","processor":"1"}`; at a fault what each local holds of those that met, or of the one
+/// that faulted, as `{"local":"x","processor":"1","value":"3"}`.
 pub fn json_step(
     alloc: Global,
     layout: &Layout,
@@ -249,97 +253,4 @@ pub fn json_step(
 {
     let facts = step_facts(alloc, layout, tree, source, number, entry)?;
     line_of(alloc, &facts)
-}
-
-// The line of an entry behind so many others, if its number is asked for.
-fn push_within(
-    alloc: Global,
-    text: &mut String,
-    layout: &Layout,
-    tree: &Tree,
-    source: &[u8],
-    first: usize,
-    last: usize,
-    before: usize,
-    entry: &Entry,
-) -> Result<(), AllocError>
-    requires few { before < 2 ^ 64 - 1 }
-    ensures json { OnOk result (Adds (spec.step_within layout.now tree.now source.now first last (before + 1) (entry_is entry.now))
-        (string_bytes text.old) (string_bytes text.new)) }
-{
-    let number = before + 1;
-    if first <= number && number <= last {
-        let facts = step_facts(alloc, layout, tree, source, number, entry)?;
-        push_line(alloc, text, &facts)
-    } else {
-        Ok(())
-    }
-}
-
-// The lines of entries.
-fn steps_text(
-    alloc: Global,
-    layout: &Layout,
-    tree: &Tree,
-    source: &[u8],
-    entries: &[Entry],
-    first: usize,
-    last: usize,
-) -> Result<String, AllocError>
-    ensures json { IfOk result (λ text. IsJson (spec.steps_from layout.now tree.now source.now first last 1 (map entry_is entries.now))
-        (string_bytes text)) }
-{
-    let mut text = String::new(alloc);
-    let mut before = 0;
-    for entry in entries {
-        push_within(
-            alloc, &mut text, layout, tree, source, first, last, before, entry,
-        )?;
-        before += 1;
-    }
-    Ok(text)
-}
-
-// The line behind them.
-fn push_outcome(
-    alloc: Global,
-    text: &mut String,
-    layout: &Layout,
-    outcome: &Outcome,
-) -> Result<(), AllocError>
-    ensures json { OnOk result (Adds (outcome_facts layout.now (verdict_of outcome.now) ∷ [])
-        (string_bytes text.old) (string_bytes text.new)) }
-{
-    let facts = outcome_value(alloc, layout, outcome, Choice::All)?;
-    push_line(alloc, text, &facts)
-}
-
-/// The entries whose numbers, counted from 1, go from `first` to `last`, each on a line, and the outcome on the last line:
-/// `{"acts":[{"processor":"3","reads":["a[3]"],"write":"a[3]"}],"changes":[{"after":"7","before":"4","cell":"a[3]"}],"column":5,`
-/// `"line":9,"locals":[],"printed":[],"processors":1,"step":5,"variables":[]}`, where `processor` is null of the one outside pardo and
-/// `write` where it writes no cell; or at a fault
-/// `{"acts":[..],"column":3,"kind":"read-conflict","line":4,"locals":[..],"met":["1","3"],"place":"a[1]","step":6}`, with what there is to
-/// say of why: `array`, `subscript`, `low` and `high`; `operator` and `operands`; `low`, `high` and `procs`; or `writers`. A variable is
-/// told as `{"after":"4","before":"8","name":"m","variable":0}`, by its name in the tree and its number in the order of declarations, and a
-/// local as `{"after":"7","before":"3","local":"x","processor":"1"}`; at a fault what each local holds of those that met, or of the one
-/// that faulted, as `{"local":"x","processor":"1","value":"3"}`.
-pub fn json_steps(
-    alloc: Global,
-    layout: &Layout,
-    tree: &Tree,
-    source: &[u8],
-    outcome: &Outcome,
-    entries: &[Entry],
-    first: usize,
-    last: usize,
-) -> Result<String, AllocError>
-    // The lines are exactly the facts of these entries and of the outcome, and read as JSON each line is these facts
-    // again.
-    ensures json { IfOk result (λ text. IsJson
-        (spec.steps_facts layout.now tree.now source.now (verdict_of outcome.now) (map entry_is entries.now) first last)
-        (string_bytes text)) }
-{
-    let mut text = steps_text(alloc, layout, tree, source, entries, first, last)?;
-    push_outcome(alloc, &mut text, layout, outcome)?;
-    Ok(text)
 }

@@ -50,7 +50,7 @@ fn run_into<'a, W: Out, V: Watch>(
 }
 
 /// Runs a program on an input, for at most `bound` statements, and writes each entry whose number, counted from 1, goes from `first` to
-/// `last` as soon as its statement has run, as a line of JSON, as [`json_texts::json_steps`] makes them of entries that are kept. No entry
+/// `last` as soon as its statement has run, as a line of JSON, as [`json_step`](crate::json_step) makes it. No entry
 /// is kept, and a line no longer than it takes to write it: beside the run it takes the memory of one statement. Behind `last` no more
 /// entries are made, and the run goes on to its outcome; the watch is told how far it is. `source` is the text that was read as the
 /// program, in which statements have their columns.

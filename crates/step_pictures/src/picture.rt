@@ -1,6 +1,6 @@
 //! All of a picture.
 
-ghost use Rattle.std.specs.Prelude.{◌≡◌, ◌≤◌, drop, map, take};
+ghost use Rattle.std.specs.Prelude.{◌≡◌, ◌≤◌, map};
 ghost use Rattle.text_out.specs.Out.{Writes};
 ghost use Rattle.journal.specs.Entries.{entry_is};
 ghost use Rattle.step_pictures.specs.Measures.{frame_is};
@@ -84,36 +84,6 @@ fn write_part<W: Out>(
     write_framed(out, &frame, entries)
 }
 
-// Those behind so many.
-fn behind(entries: &[Entry], count: usize) -> &[Entry]
-    ensures { result.now ≡ drop count entries.now }
-{
-    if count < entries.len() {
-        entries.split_at(count).1
-    } else {
-        &[]
-    }
-}
-
-// The first of them.
-fn front(entries: &[Entry], count: usize) -> &[Entry]
-    ensures { result.now ≡ take count entries.now }
-{
-    if count < entries.len() {
-        entries.split_at(count).0
-    } else {
-        entries
-    }
-}
-
-// Those from one number to another.
-fn chosen(entries: &[Entry], from: usize, to: usize) -> &[Entry]
-    ensures { result.now ≡ spec.chosen from to entries.now }
-{
-    let skipped = from.saturating_sub(1);
-    front(behind(entries, skipped), to.saturating_sub(skipped))
-}
-
 fn part_of(from: usize, whole: usize) -> Part
     ensures { result ≡ spec.part_of from whole }
 {
@@ -123,8 +93,14 @@ fn part_of(from: usize, whole: usize) -> Part
     }
 }
 
-/// Draws a part of a run of so many statements: its entries from this number on, counted from 1, one behind the other, as
-/// [`write_picture`] draws them of all. The error is that the writer failed (E17).
+/// Writes a picture of a part of a run of so many statements, its entries from this number on, counted from 1, one behind the other, as SVG
+/// 1.1, by the program's text: a column for each statement, in bands of 16, with its line of the program, its number in the run and the
+/// line's, and a row for each index that acts, below one for the processor outside pardo. A processor that acts has a box, with a mark where
+/// it reads shared cells and one where it writes one, and says which where it is pointed at; those that met at a fault are outlined, and the
+/// fault and who met stands below the bands. Where statements stand before or behind those that are asked for, the picture says which of how
+/// many it is of. Of more than 112 statements the first 96 and the last 16 are drawn, and of more than 64 indices those that met and the
+/// first others have rows; the picture says how many statements are left out, and below each column how many more act. `WriteFault` (E17)
+/// says that the writer failed; what it took is a beginning of the picture.
 pub fn write_excerpt<W: Out>(
     out: &mut W,
     layout: &Layout,
@@ -140,35 +116,4 @@ pub fn write_excerpt<W: Out>(
 {
     let part = part_of(from, whole);
     write_part(out, layout, text, part, entries)
-}
-
-/// Writes a picture of a run's entries from one number to another, as SVG 1.1, by the program's text: a column for each statement, in bands
-/// of 16, with its line of the program, its number in the run, counted from 1, and the line's, and a row for each index that acts, below
-/// one for the processor outside pardo. A processor that acts has a box, with a mark where it reads shared cells and one where it writes
-/// one, and says which where it is pointed at; those that met at a fault are outlined, and the fault and who met stands below the bands.
-/// Where statements stand before or behind those that are asked for, the picture says which of how many it is of. Of more than 112
-/// statements the first 96 and the last 16 are drawn, and of more than 64 indices those that met and the first others have rows; the
-/// picture says how many statements are left out, and below each column how many more act. `WriteFault` (E17) says that the writer failed;
-/// what it took is a beginning of the picture.
-pub fn write_picture<W: Out>(
-    out: &mut W,
-    layout: &Layout,
-    text: &[u8],
-    entries: &[Entry],
-    from: usize,
-    to: usize,
-) -> Result<(), WriteFault>
-    // Exactly the defined picture of these entries is written, by the program's text, or a beginning of it and then a
-    // failure.
-    ensures written { Writes (W.Out.state out.old) (W.Out.state out.new)
-        (spec.picture_from layout.now text.now (map entry_is entries.now) from to) result }
-{
-    write_excerpt(
-        out,
-        layout,
-        text,
-        chosen(entries, from, to),
-        from,
-        entries.len(),
-    )
 }

@@ -1,7 +1,0 @@
-use Rattle.std.proofs.Common.{subst, sym}
-use Rattle.json_lines.specs.Small.{IsReadable}
-use Rattle.json_texts.proofs.Readable.{readable_outcome}
-use Rattle.json_texts.proofs.steps.push_outcome.Goals as goal
-
-pub push_line-requires : goal.push_line-requires
-push_line-requires c = record { readable = subst IsReadable (sym c.in_ok-facts.ensures) (readable_outcome _ _) }
