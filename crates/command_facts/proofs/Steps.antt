@@ -1,7 +1,10 @@
 -- Runs that are to be told as they go.
-use Rattle.std.proofs.Common.{◌≡◌, ◌≤◌, ◌<◌, ℕ, List, arith, refl, subst}
+use Rattle.std.proofs.Common.{◌≡◌, ◌≤◌, ◌<◌, ℕ, ℤ, List, arith, refl, subst}
 use Rattle.std.specs.Prelude.{Option, length}
 use Rattle.pram_model.specs.Layout.{total_size}
+use Rattle.pram_meaning.specs.Outcome.{IsOutcome}
+use Rattle.write_rules.specs.Verdict.{verdict_of}
+use Rattle.write_rules.specs.declared.outcome.Outcome.{Outcome}
 use Rattle.command_requests.specs.declared.request.ProgramFile.{ProgramFile}
 use Rattle.command_requests.specs.declared.request.Request.{Request}
 use Rattle.command_requests.specs.declared.request.Request.TheVariants as request
@@ -12,6 +15,7 @@ use Rattle.command_facts.specs.declared.found.Found.{Found}
 use Rattle.command_facts.specs.declared.found.Found.TheVariants as found
 use Rattle.command_facts.specs.declared.found.FoundSteps.{FoundSteps}
 use Rattle.command_facts.specs.Calls.{Finds, FindsOf, FitsIn}
+use Rattle.command_facts.specs.Found.{IsOutcomeOf}
 
 -- ---- what fits
 
@@ -54,3 +58,14 @@ fits_by values cells n m v c few = subst (λ n. n ≤ m) v (subst (λ m. values 
 
 pub too_long_by : (values cells n m : ℕ) → values ≡ n → cells ≡ m → cells < values → m < n
 too_long_by values cells n m v c long = subst (λ n. m < n) v (subst (λ m. m < values) c long)
+
+-- ---- what they come to
+
+-- where the run was of the values that were handed over
+pub outcome_by : (s : FoundSteps) (o : Outcome) (given : List ℤ) → given ≡ s.input.items →
+    length s.input.items ≤ total_size s.loaded.program.layout →
+    IsOutcome s.loaded.program given s.words.options.bound (verdict_of o) → IsOutcomeOf s o
+outcome_by s o given same fits is = record {
+  fits = fits;
+  outcome = subst (λ (i : List ℤ). IsOutcome s.loaded.program i s.words.options.bound (verdict_of o)) same is;
+}

@@ -1,7 +1,7 @@
 -- What tells a run statement by statement as JSON, or a beginning of it.
-use Rattle.std.proofs.Common.{◌≡◌, ◌∙◌, ◌++◌, ◌∷◌, ◌≤◌, [], ℕ, ℤ, List, append-nil, refl, subst, sym}
-use Rattle.std.specs.Prelude.{Result, Ok, Err, IsErrAnd, length}
-use Rattle.pram_model.specs.Layout.{SharedEntry, total_size}
+use Rattle.std.proofs.Common.{◌≡◌, ◌∙◌, ◌++◌, ◌∷◌, [], ℕ, ℤ, List, append-nil, refl, subst, sym}
+use Rattle.std.specs.Prelude.{Result, Ok, Err, IsErrAnd}
+use Rattle.pram_model.specs.Layout.{SharedEntry}
 use Rattle.text_out.specs.Out.{OutState, StopsIn, with_bytes}
 use Rattle.text_out.proofs.Writing.{stops_behind, writes_then}
 use Rattle.json_lines.specs.Lines.{IsJson}
@@ -11,7 +11,6 @@ use Rattle.json_texts.specs.Streamed.{HasStreamedJson, StopsInFirst, WroteFirstJ
 use Rattle.step_text.specs.declared.failure.StreamFailure.{StreamFailure}
 use Rattle.write_rules.specs.Verdict.{verdict_of}
 use Rattle.write_rules.specs.declared.outcome.Outcome.{Outcome}
-use Rattle.pram_meaning.specs.Outcome.{IsOutcome}
 use Rattle.journal.specs.RunEntries.{run_entries}
 use Rattle.program_texts.specs.declared.from_text.Refusal.TheVariants as refusal
 use Rattle.program_texts.specs.declared.status.Status.{Status}
@@ -40,14 +39,6 @@ streamed_by s old new text given r q source same is h =
     subst (λ (i : List ℤ). HasStreamedJson old new (first_behind s []) (run_entries s.loaded.program i s.words.options.bound) q) same
     (subst (λ (t : List ℕ). HasStreamedJson old new (facts t) (run_entries s.loaded.program given s.words.options.bound) q) source
     (subst (HasStreamedJson old new (facts text) (run_entries s.loaded.program given s.words.options.bound)) is h))
-
-pub outcome_by : (s : FoundSteps) (o : Outcome) (given : List ℤ) → given ≡ s.input.items →
-    length s.input.items ≤ total_size s.loaded.program.layout →
-    IsOutcome s.loaded.program given s.words.options.bound (verdict_of o) → IsOutcomeOf s o
-outcome_by s o given same fits is = record {
-  fits = fits;
-  outcome = subst (λ (i : List ℤ). IsOutcome s.loaded.program i s.words.options.bound (verdict_of o)) same is;
-}
 
 module _ (s : FoundSteps) (old : OutState) where
   pub stopped_in_lines : (new : OutState) → StopsInFirst old new (first_behind s []) (entries_of s) → IsCutBehind s [] old new

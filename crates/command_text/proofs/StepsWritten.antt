@@ -6,7 +6,6 @@ use Rattle.text_out.specs.Out.{OutState, StopsIn, with_bytes}
 use Rattle.text_out.proofs.Writing.{stops_behind, writes_then}
 use Rattle.write_rules.specs.Verdict.{verdict_of}
 use Rattle.write_rules.specs.declared.outcome.Outcome.{Outcome}
-use Rattle.pram_meaning.specs.Outcome.{IsOutcome}
 use Rattle.journal.specs.Entries.{Entry}
 use Rattle.journal.specs.Between.{between}
 use Rattle.journal.specs.RunEntries.{run_entries}
@@ -118,14 +117,6 @@ pub streamed_by : (s : FoundSteps) (telling : Telling) (old new : OutState) (giv
 streamed_by s telling old new given r q same is h =
     subst (λ (i : List ℤ). HasStreamed old new (lines_of s telling) (run_entries s.loaded.program i s.words.options.bound) q) same
     (subst (HasStreamed old new (lines_of s telling) (run_entries s.loaded.program given s.words.options.bound)) is h)
-
-pub outcome_by : (s : FoundSteps) (o : Outcome) (given : List ℤ) → given ≡ s.input.items →
-    length s.input.items ≤ total_size s.loaded.program.layout →
-    IsOutcome s.loaded.program given s.words.options.bound (verdict_of o) → IsOutcomeOf s o
-outcome_by s o given same fits is = record {
-  fits = fits;
-  outcome = subst (λ (i : List ℤ). IsOutcome s.loaded.program i s.words.options.bound (verdict_of o)) same is;
-}
 
 -- a page that was streamed by the values that were handed over
 pub page_by : (s : FoundSteps) (old new : OutState) (file text : List ℕ) (given : List ℤ) (r q : Result Outcome StreamFailure) →

@@ -1,5 +1,5 @@
 -- How far a comparison has come.
-use Rattle.std.proofs.Common.{◌≡◌, ℕ, ◌<◌, ℤ, List, [], ◌∷◌, ◌++◌, length, ap, sym, ◌∙◌, arith}
+use Rattle.std.proofs.Common.{◌≡◌, ℕ, ℤ, List, [], ◌∷◌, ◌++◌, ap, sym, ◌∙◌}
 use Rattle.std.proofs.lemmas.List.{append_assoc}
 use Rattle.pram_check.specs.Checked.{Checked}
 use Rattle.comparing.specs.declared.compared.Compared.{Compared}
@@ -20,7 +20,3 @@ further p q c n most all left rest here f g e is adds = record {
   whole = e.whole ∙ ap (λ (ys : List (List ℤ)). e.before ++ ys) is ∙ sym (append_assoc e.before (here ∷ []) rest);
   are_found = adds e.before e.are_found;
 }
-
-pub fewer : (left rest : List (List ℤ)) (here : List ℤ) → left ≡ here ∷ rest → length rest < length left
-fewer left rest here is =
-    let whole = ap (λ (ys : List (List ℤ)). length ys) is in omega arith

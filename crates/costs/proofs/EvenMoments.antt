@@ -4,6 +4,7 @@ use Rattle.std.proofs.Common.{sym}
 use Rattle.std.proofs.Common.{◌∙◌, subst, arith}
 use Rattle.std.specs.List.{AllByRecursion, flat_map, sum_by}
 use Rattle.std.proofs.lemmas.List.Sums.{sum_by-cons}
+use Rattle.pram_check.proofs.BoundedExpressions.{front_none}
 use Rattle.pram_tokens.specs.declared.token.Location.{Location}
 use Rattle.pram_check.specs.Checked.{Checked}
 use Rattle.pram_model.specs.declared.rule.Rule.{Rule}
@@ -56,10 +57,6 @@ sums f n (x ∷ xs) h =
     let c = h.0 in
     omega (arith, a, b, c)
 
-nil_first : {A : Type 0} (xs ys : List A) → xs ++ ys ≡ [] → xs ≡ []
-nil_first [] ys e = refl
-nil_first (x ∷ xs) ys e = cc
-
 -- where no part faults each makes its reads and its write
 record IsMade (r w : ℕ) (x : Part) : Type 0 where
   reads : part_reads x ≡ r
@@ -98,7 +95,7 @@ made_writes r w (x ∷ xs) h = let a = h.0 in (a.writes, made_writes r w xs h.1)
 no_faults : (rule : Rule) (xs : List Part) → least (keys rule xs) ≡ None → flat_map (λ (x : Part). fault_of x.processor x.attempt) xs ≡ []
 no_faults rule xs e =
     let none : keys rule xs ≡ [] = subst (IsLeast (keys rule xs)) e (least_is_least (keys rule xs)) in
-    nil_first (flat_map (λ (x : Part). fault_of x.processor x.attempt) xs) _ (nil_first _ _ none)
+    front_none (flat_map (λ (x : Part). fault_of x.processor x.attempt) xs) _ (front_none _ _ none)
 
 all_parts : (p : Checked) (m : State) (a : View → Attempt Effect) (r w : ℕ) → ((s : View) → Makes r w (a s)) → (vs : List ℕ) →
     AllByRecursion (λ (x : Part). Makes r w x.attempt) (parts p m a vs)

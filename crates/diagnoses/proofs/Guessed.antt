@@ -3,6 +3,7 @@ use Rattle.std.proofs.Common.{◌≡◌, ◌∷◌, [], true, false, Bool, List,
 use Rattle.std.specs.Prelude.{◌⊎◌, ◌++◌, ◌&&◌, filter, nat_lt}
 use Rattle.std.proofs.lemmas.List.Elements.{All-from_recursion}
 use Rattle.std.specs.List.{AllByRecursion, fold}
+use Rattle.pram_model.proofs.Truths.{both}
 use Rattle.pram_names.specs.declared.fault.Breach.{Breach}
 use Rattle.pram_names.specs.declared.fault.Cause.{Cause}
 use Rattle.pram_names.specs.declared.fault.Cause.TheVariants as cause
@@ -40,16 +41,12 @@ taken_if : (c : Bool) (k x : Known) (acc : Option Known) → cond c (Some x) acc
 taken_if true k x acc e = inr (cc e, refl)
 taken_if false k x acc e = inl e
 
-first_true : (a b : Bool) → (a && b) ≡ true → a ≡ true
-first_true true b h = refl
-first_true false b h = absurd (cc h)
-
 taken : (word : List ℕ) (acc : Option Known) (x k : Known) → nearer word acc x ≡ Some k →
     (acc ≡ Some k) ⊎ ((x ≡ k) × (is_near word x ≡ true))
 taken word None x k e = taken_if (is_near word x) k x None e
 taken word (Some best) x k e =
     let closer = nat_lt (edits word x.name) (edits word best.name) in
-    ⊎_elim (λ old. inl old) (λ new. inr (new.0, first_true (is_near word x) closer new.1))
+    ⊎_elim (λ old. inl old) (λ new. inr (new.0, (both (is_near word x) closer new.1).0))
     (taken_if (is_near word x && closer) k x (Some best) e)
 
 module _ (word : List ℕ) (test : Known → Bool) where

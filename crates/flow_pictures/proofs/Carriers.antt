@@ -1,27 +1,26 @@
 -- What a box and a line of a column say of processors.
-use Rattle.std.proofs.Common.{◌≡◌, ◌∙◌, ℕ, ℤ, Bool, true, false, not, ◌&&◌, List, Option, None, Some, ap, arith, get_or, nat_eq, refl}
+use Rattle.std.proofs.Common.{◌≡◌, ◌∙◌, ℕ, ℤ, Bool, true, not, ◌&&◌, List, Option, None, Some, ap, arith, get_or, nat_eq, refl}
 use Rattle.std.proofs.Common.{subst}
 use Rattle.std.proofs.lemmas.Bool.Decides.{nat_tests}
 use Rattle.std.proofs.lemmas.List.Folds.{Any-from_list_any, list_any_at}
 use Rattle.std.specs.List.{Contains, filter}
+use Rattle.pram_model.proofs.Truths.{both}
+use Rattle.pram_meaning.proofs.Groups.{same_number}
 use Rattle.journal.specs.Entries.{Act}
 use Rattle.flow_pictures.specs.Marks.{Arrow, arrow_by, arrows, arrows_to, carries, carries_one, has_read, is_written, node}
 use Rattle.flow_pictures.specs.Marks.{nodes, values, writes}
 use Rattle.flow_pictures.proofs.Members.{kept, mapped, of_mapped, of_spread, passes_test, spread}
-
-same_cell : (c : ℕ) → nat_eq c c ≡ true
-same_cell c = grind (arith, nat_tests)
 
 pub written_is : (write : Option ℕ) (c : ℕ) → is_written write (Some c) ≡ true → write ≡ Some c
 written_is None c is = grind (arith, is)
 written_is (Some d) c is = ap Some (grind (arith, nat_tests, is))
 
 one_writes : (a : Act) (c : ℕ) → a.write ≡ Some c → is_written a.write (Some c) ≡ true
-one_writes a c is = ap (λ w. is_written w (Some c)) is ∙ same_cell c
+one_writes a c is = ap (λ w. is_written w (Some c)) is ∙ same_number c
 
 has_read_is : (reads : List ℕ) (c : ℕ) → Contains reads c → has_read reads c ≡ true
 has_read_is reads c one =
-    list_any_at (λ r. nat_eq r c) reads one.0 c one.1 (ap (λ r. nat_eq r c) one.2 ∙ same_cell c)
+    list_any_at (λ r. nat_eq r c) reads one.0 c one.1 (ap (λ r. nat_eq r c) one.2 ∙ same_number c)
 
 -- ---- a box
 
@@ -62,10 +61,6 @@ pub record IsOf (aside : List Bool) (acts : List Act) (column : ℕ) (l : Arrow)
   pub writes : act.write ≡ Some l.to
   pub same : l.column ≡ column
   pub dashed : l.dashed ≡ not (values aside acts l.from (Some l.to))
-
-pub both : (a b : Bool) → (a && b) ≡ true → (a ≡ true) × (b ≡ true)
-both true b h = (refl, h)
-both false b h = grind (arith, h)
 
 pub read_is : (reads : List ℕ) (c : ℕ) → has_read reads c ≡ true → Contains reads c
 read_is reads c h =

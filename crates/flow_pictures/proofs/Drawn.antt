@@ -4,6 +4,7 @@ use Rattle.std.proofs.Common.{ap, append-nil, arith, cond, length, map, refl, sy
 use Rattle.std.proofs.lemmas.List.{length-append, length-take, take-append-drop, take-append-le}
 use Rattle.std.proofs.lemmas.List.Elements.{Contains-append_cases, Contains-append_left, Contains-append_right, filter-append}
 use Rattle.std.specs.List.{Contains, enumerate_from, filter, list_any}
+use Rattle.pram_model.proofs.Truths.{both}
 use Rattle.journal.specs.Entries.{Entry}
 use Rattle.flow_pictures.specs.Choice.{acts_in, drawn, faulted, is_access, is_asked, is_fault, is_faulted, is_ran, is_touching}
 use Rattle.flow_pictures.specs.Choice.{number_before}
@@ -135,10 +136,6 @@ module _ (from to : ℕ) where
   both_hold true b ha hb = hb
   both_hold false b ha hb = ha
 
-  first_holds : (a b : Bool) → (a && b) ≡ true → a ≡ true
-  first_holds true b h = refl
-  first_holds false b h = h
-
   pub touching_is_either : (es : List Entry) (p : ℕ × Entry) → Contains (touching from to es) p →
       Contains (ran from to es ++ faulted from to es) p
   touching_is_either es p one = by (is_fault p.1) refl
@@ -174,6 +171,6 @@ module _ (from to : ℕ) where
       by : Contains (take (64 - length (faulted from to es)) (ran from to es)) p ⊎ Contains (faulted from to es) p →
           Contains (touching from to es) p
       by (inl here) = so (is_ran from to)
-          (λ p h. first_holds (is_touching from to p) (not (is_fault p.1)) (sym (ran_is p) ∙ h))
+          (λ p h. (both (is_touching from to p) (not (is_fault p.1)) (sym (ran_is p) ∙ h)).0)
           (whole (64 - length (faulted from to es)) here)
-      by (inr there) = so (is_faulted from to) (λ p h. first_holds (is_touching from to p) (is_fault p.1) (sym (faulted_is p) ∙ h)) there
+      by (inr there) = so (is_faulted from to) (λ p h. (both (is_touching from to p) (is_fault p.1) (sym (faulted_is p) ∙ h)).0) there

@@ -15,6 +15,7 @@ use Rattle.pram_names.specs.declared.body.Statement.{items_hidden-the_row-Statem
 use Rattle.pram_names.specs.declared.body.Statement.TheBlock.{hidden-the_row-Statement-0}
 use Rattle.flow_pictures.specs.Subscripts.{asides, bounds_asides, here_or_none, row_at, statement_at, statements_at, step_at, step_row_at}
 use Rattle.flow_pictures.specs.Subscripts.{steps_at}
+use Rattle.flow_pictures.proofs.Chains.{behind}
 
 -- one part, a second, and a third behind them
 three : (all mid more most first second third : List Bool) → mid ≡ all ++ first → more ≡ mid ++ second → most ≡ more ++ third →
@@ -22,9 +23,6 @@ three : (all mid more most first second third : List Bool) → mid ≡ all ++ fi
 three all mid more most first second third a b c =
     c ∙ ap (λ l. l ++ third) (b ∙ ap (λ l. l ++ second) a ∙ append_assoc all first second)
     ∙ append_assoc all (first ++ second) third ∙ ap (λ l. all ++ l) (append_assoc first second third)
-
-two : (all mid more first second : List Bool) → mid ≡ all ++ first → more ≡ mid ++ second → more ≡ all ++ (first ++ second)
-two all mid more first second a b = b ∙ ap (λ l. l ++ second) a ∙ append_assoc all first second
 
 -- ---- inside pardo
 
@@ -47,7 +45,7 @@ pub step_while : (o : ℕ) (here : Location) (s : Step) (e : Expression) (a : Ve
     s ≡ step.While here e a → mid ≡ all ++ here_or_none here o (asides false e) → more ≡ mid ++ steps_at o a.items →
     more ≡ all ++ step_at o s
 step_while o here s e a all mid more is h1 h2 =
-    two all mid more (here_or_none here o (asides false e)) (steps_at o a.items) h1 h2
+    behind all mid more (here_or_none here o (asides false e)) (steps_at o a.items) h1 h2
     ∙ (λ i. all ++ (here_or_none here o (asides false e) ++ sym (steps_of o a) i))
     ∙ ap (λ x. all ++ step_at o x) (sym is)
 
@@ -84,7 +82,7 @@ pub statement_while : (o : ℕ) (here : Location) (s : Statement) (e : Expressio
     s ≡ statement.While here e a → mid ≡ all ++ here_or_none here o (asides false e) → more ≡ mid ++ statements_at o a.items →
     more ≡ all ++ statement_at o s
 statement_while o here s e a all mid more is h1 h2 =
-    two all mid more (here_or_none here o (asides false e)) (statements_at o a.items) h1 h2
+    behind all mid more (here_or_none here o (asides false e)) (statements_at o a.items) h1 h2
     ∙ (λ i. all ++ (here_or_none here o (asides false e) ++ sym (statements_of o a) i))
     ∙ ap (λ x. all ++ statement_at o x) (sym is)
 
@@ -92,7 +90,7 @@ pub statement_for : (o : ℕ) (here : Location) (s : Statement) (x : ℕ) (e f :
     (all mid more : List Bool) → s ≡ statement.For here x e f a → mid ≡ all ++ here_or_none here o (bounds_asides e f) →
     more ≡ mid ++ statements_at o a.items → more ≡ all ++ statement_at o s
 statement_for o here s x e f a all mid more is h1 h2 =
-    two all mid more (here_or_none here o (bounds_asides e f)) (statements_at o a.items) h1 h2
+    behind all mid more (here_or_none here o (bounds_asides e f)) (statements_at o a.items) h1 h2
     ∙ (λ i. all ++ (here_or_none here o (bounds_asides e f) ++ sym (statements_of o a) i))
     ∙ ap (λ y. all ++ statement_at o y) (sym is)
 
@@ -100,7 +98,7 @@ pub statement_pardo : (o : ℕ) (here : Location) (s : Statement) (e f : Express
     (all mid more : List Bool) → s ≡ statement.Pardo here e f n a → mid ≡ all ++ here_or_none here o (bounds_asides e f) →
     more ≡ mid ++ steps_at o a.items → more ≡ all ++ statement_at o s
 statement_pardo o here s e f n a all mid more is h1 h2 =
-    two all mid more (here_or_none here o (bounds_asides e f)) (steps_at o a.items) h1 h2
+    behind all mid more (here_or_none here o (bounds_asides e f)) (steps_at o a.items) h1 h2
     ∙ ap (λ y. all ++ statement_at o y) (sym is)
 
 pub statements_more : (o : ℕ) (items : List Statement) (i : ℕ) (s : Statement) (mid more whole : List Bool) →

@@ -8,6 +8,7 @@ use Rattle.std.proofs.lemmas.List.Elements.{Contains-append_cases}
 use Rattle.std.proofs.lemmas.List.Folds.{Any-from_list_any, flat_map-map}
 use Rattle.std.proofs.lemmas.Simd.{map-map}
 use Rattle.std.specs.List.{Contains, filter, flat_map}
+use Rattle.pram_model.proofs.Truths.{both}
 use Rattle.pram_model.specs.Layout.{SharedEntry}
 use Rattle.journal.specs.Entries.{Act, Entry, Ran, Faulting}
 use Rattle.flow_pictures.specs.declared.spans.CellSpan.{CellSpan}
@@ -26,7 +27,7 @@ use Rattle.flow_pictures.specs.Shapes.{Row, Stop, column_shapes, columns_shapes,
 use Rattle.flow_pictures.specs.Shapes.{values_before}
 use Rattle.flow_pictures.specs.Texts.{arrow_text, node_text, reading_text}
 use Rattle.flow_pictures.specs.Values.{value_behind}
-use Rattle.flow_pictures.proofs.Carriers.{both, read_is}
+use Rattle.flow_pictures.proofs.Carriers.{read_is}
 use Rattle.flow_pictures.proofs.ChosenRows.{row_was_touched}
 use Rattle.flow_pictures.proofs.Members.{MadeOf, of_kept, of_mapped, of_spread, passes_test}
 use Rattle.flow_pictures.proofs.Standing.{arrow_among, boxes, node_among}

@@ -8,10 +8,10 @@ use Rattle.pram_meaning.specs.Attempt as trying
 use Rattle.pram_meaning.specs.Attempt.{Attempt, Effect, Fails, Trail}
 use Rattle.pram_meaning.specs.Conflict.{Part, trail_of}
 use Rattle.pram_meaning.specs.Moments.{Alone, Closed, Moment, Together, run_moments}
-use Rattle.journal.specs.Entries.{Act, Entry}
+use Rattle.journal.specs.Entries.{Act}
 use Rattle.journal.specs.Acts.{act_along, act_before, act_of, held, reads_in, write_of}
 use Rattle.journal.specs.Costs.{EntriesAreTimeSteps, act_reads, act_writes, step_of}
-use Rattle.journal.specs.RunEntries.{entries_of, run_entries}
+use Rattle.journal.specs.RunEntries.{entries_of}
 use Rattle.costs.specs.Steps as cost
 use Rattle.costs.specs.Steps.{acting, attempt_writes, part_reads, part_writes, reads_on, writes_to}
 

@@ -2,10 +2,9 @@
 use Rattle.std.proofs.Common.{◌≡◌, ℕ, ℤ, List, ◌++◌, ap, sym, ◌∙◌, subst}
 use Rattle.std.specs.List.{fold}
 use Rattle.pram_check.specs.Checked.{Checked}
-use Rattle.write_rules.specs.Verdict.{Verdict}
 use Rattle.pram_meaning.specs.Bounded.{Done, Goes, Reaches, Stops}
 use Rattle.pram_meaning.specs.Computed.{body_done, verdict_at}
-use Rattle.pram_meaning.specs.Outcome.{IsOutcome, opening}
+use Rattle.pram_meaning.specs.Outcome.{opening}
 use Rattle.pram_meaning.specs.Store.{State}
 use Rattle.pram_meaning.proofs.OneOutcome.{outcome_is_computed}
 use Rattle.journal.specs.Entries.{Entry}

@@ -34,6 +34,7 @@ use Rattle.pram_meaning.specs.Moments.{setting_moment, test_moment, turns_moment
 use Rattle.pram_meaning.specs.Store.{State, View, numbers, printed, seen, with_team, with_uniform, without_team}
 use Rattle.pram_meaning.specs.Together.{after_write, alone, assigned, assigned_by, on_key, parts, together, those}
 use Rattle.pram_meaning.proofs.Overwrites.{length_over}
+use Rattle.moment_laws.proofs.Statements.{same_goes}
 use Rattle.journal.specs.FoundCauses.{cause_in, cause_on}
 use Rattle.journal.specs.Faults.{Explains, IsExplained}
 use Rattle.journal.proofs.Explained as Explained
@@ -45,7 +46,7 @@ use Rattle.journal.specs.Locals.{locals_changed}
 use Rattle.journal.specs.FaultLocals.{locals_at}
 use Rattle.journal.specs.Meeting.{meeting}
 use Rattle.journal.proofs.Sound.{Extends, IsTold, closing_told, counted_told, done, extends, fell_told, none_told, ran_told}
-use Rattle.journal.proofs.Sound.{then_assoc, then_goes, told, told_from, told_map, told_then, wait_told}
+use Rattle.journal.proofs.Sound.{then_assoc, told, told_from, told_map, told_then, wait_told}
 
 -- ---- a statement of one processor
 
@@ -78,7 +79,7 @@ evaluated_told : {A : Type 0} (p : Checked) (n : ℕ) (here : Location) (act : A
     ((m : State) → Explains p (a m) (why_alone p m act)) → (m : State) →
     IsTold p m (told p (alone_moment n here act nowhere unchanged a m)) (evaluated n here.line a m)
 evaluated_told p n here act a why m =
-    subst (IsTold p m (told p (alone_moment n here act nowhere unchanged a m))) (then_goes (evaluated n here.line a m))
+    subst (IsTold p m (told p (alone_moment n here act nowhere unchanged a m))) (same_goes (evaluated n here.line a m))
     (alone_told p here act nowhere unchanged (λ v. v) as_it_is n a why m)
 
 tested_told : (p : Checked) (n : ℕ) (here : Location) (act : Action) (e : Expression) →
@@ -149,7 +150,7 @@ tested_on_told : (p : Checked) (n : ℕ) (here : Location) (act : StepAction) (e
     ((s : View) → s.layout ≡ p.layout → Explains p (attempt_value s e) (cause_in s act)) → (vs : List ℕ) (m : State) →
     IsTold p m (told p (set_test_moment p n here act e vs m)) (tested_on p n here.line e vs m)
 tested_on_told p n here act e why vs m =
-    subst (IsTold p m (told p (set_test_moment p n here act e vs m))) (then_goes (tested_on p n here.line e vs m))
+    subst (IsTold p m (told p (set_test_moment p n here act e vs m))) (same_goes (tested_on p n here.line e vs m))
     (set_told p n here act unchanged (λ xs. xs) as_it_is (λ s. attempt_value s e) why vs m)
 
 assigned_by_extends : (p : Checked) (x : StepTarget) (xs : List Part) (m : State) → Extends m (assigned_by p x xs m)

@@ -191,8 +191,3 @@ pub then_assoc : {A B C : Type 0} (b : Behaviour A) (f : A → State → Behavio
 then_assoc (Goes a m) f g = refl
 then_assoc (Stops k out) f g = refl
 then_assoc (Reaches out) f g = refl
-
-pub then_goes : {A : Type 0} (b : Behaviour A) → then_do b (λ a m. Goes a m) ≡ b
-then_goes (Goes a m) = refl
-then_goes (Stops k out) = refl
-then_goes (Reaches out) = refl

@@ -6,7 +6,7 @@ use Rattle.std.proofs.lemmas.List.Elements.{All-append, All-nil}
 use Rattle.serde_json.specs.Data.{Data}
 use Rattle.json_lines.specs.Lines.{Adds, IsJson, ReadsBack, json_line, json_lines}
 
-json_lines-append : (ds es : List Data) → json_lines (ds ++ es) ≡ json_lines ds ++ json_lines es
+pub json_lines-append : (ds es : List Data) → json_lines (ds ++ es) ≡ json_lines ds ++ json_lines es
 json_lines-append [] es = refl
 json_lines-append (d ∷ ds) es =
     ap (λ l. json_line d ++ l) (json_lines-append ds es) ∙ sym (append_assoc (json_line d) (json_lines ds) (json_lines es))

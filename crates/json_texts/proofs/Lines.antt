@@ -2,9 +2,10 @@
 use Rattle.std.proofs.Common.{◌≡◌, ◌∙◌, ℕ, Bool, true, false, List, [], ◌∷◌, ◌++◌, ap, append-nil, if◌then◌else◌, inl, inr, sym, subst}
 use Rattle.json_lines.specs.Lines.{IsJson}
 use Rattle.text_out.specs.Out.{OutState}
-use Rattle.text_out.specs.Printing.{Printing, Prints, PrintsBy, printing}
+use Rattle.text_out.specs.Printing.{Printing, Prints, printing}
 use Rattle.journal.specs.Entries.{Entry}
 use Rattle.step_text.specs.Passing.{is_told, one_more}
+use Rattle.step_text.proofs.Lines.{kept_by}
 use Rattle.json_texts.specs.declared.asked.Asked.{Asked}
 use Rattle.json_texts.specs.StreamLaws.{facts_are, json_as, json_nothing}
 use Rattle.json_texts.specs.Streams.{Breaks, PrintsJson, Streams, facts_behind, facts_if, facts_of}
@@ -25,11 +26,6 @@ passes_by a c late s t e h l same = record {
       (subst (λ t. PrintsJson s t []) (sym same) (json_nothing s));
   kept = ap (λ (t : Printing). t.failed) same;
 }
-
--- a writer that has not failed had not before
-kept_by : (s u : OutState) (f g : Bool) (x : List ℕ) → PrintsBy s f u g x → g ≡ false → g ≡ f
-kept_by s u true g x p h = p.1
-kept_by s u false g x p h = h
 
 -- its line was not made
 pub unmade : (a : Asked) (c : ℕ) (s t : Printing) (e : Entry) → t ≡ s → Breaks a c s t e

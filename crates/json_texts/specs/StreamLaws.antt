@@ -1,7 +1,7 @@
 -- The laws of what is written of entries: it is nothing of no entries, and entries come behind entries.
 use Rattle.std.proofs.Common.{◌≡◌, ◌∙◌, ◌+◌, ◌≤◌, ◌&&◌, ℕ, Bool, true, false, List, [], ◌∷◌, ◌++◌, ap, append_assoc, arith, if◌then◌else◌}
 use Rattle.std.proofs.Common.{nat_le, nat_lt, refl, subst, sym}
-use Rattle.std.proofs.lemmas.Bool.{le-leb, le-ltb, lt-leb, ltb-false, ltb-true}
+use Rattle.std.proofs.lemmas.Bool.{le-ltb, ltb-false}
 use Rattle.serde_json.specs.Data.{Data}
 use Rattle.json_lines.specs.Lines.{IsJson}
 use Rattle.json_lines.proofs.Json.{adds_nothing, adds_then}
@@ -12,26 +12,11 @@ use Rattle.text_out.specs.Printing.{Printing}
 use Rattle.text_out.proofs.Printed.{prints_nothing, prints_then}
 use Rattle.journal.specs.Entries.{Entry}
 use Rattle.step_text.specs.Passing.{is_told, one_more, passed}
-use Rattle.step_text.proofs.Rows.{passed_both}
+use Rattle.step_text.proofs.Rows.{none_passes, passed_both, swapped, within_is}
 use Rattle.json_texts.specs.declared.asked.Asked.{Asked}
 use Rattle.json_texts.specs.Streams.{PrintsJson, Streams, facts_behind}
 
 -- ---- the facts of entries behind others
-
-within_is : (last c : ℕ) (b : Bool) → nat_lt c last ≡ b → b ≡ nat_le (c + 1) last
-within_is last c true h = let l = ltb-true c last h in sym (le-leb (c + 1) last (omega (arith, l)))
-within_is last c false h = let l = ltb-false c last h in sym (lt-leb (c + 1) last (omega (arith, l)))
-
-swapped : (a b : Bool) → (a && b) ≡ (b && a)
-swapped true true = refl
-swapped true false = refl
-swapped false true = refl
-swapped false false = refl
-
-none_passes : (last c : ℕ) (es : List Entry) → nat_lt c last ≡ false → passed last c es ≡ c
-none_passes last c [] h = refl
-none_passes last c (e ∷ es) h = ap (λ b. passed last (if b then c + 1 else c) es) h ∙ none_passes last c es h
-
 module _ (layout : List SharedEntry) (tree : ProgramTree) (source : List ℕ) (first last : ℕ) where
   -- the entry behind c others
   pub facts_are : (c : ℕ) (e : Entry) → step_within layout tree source first last (c + 1) e

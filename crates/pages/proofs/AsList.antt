@@ -31,7 +31,7 @@ use Rattle.pages.specs.Stand.{AreTold, CutFactsAreRead, FactsAreRead, IsReadAs, 
 use Rattle.pages.proofs.Integers.{AreRead, EachOfItems, EachOfMembers, HasIntegers, IsInteger, those_read}
 use Rattle.pages.proofs.Embedding.{embedded-append}
 use Rattle.pages.proofs.LineEnds.{IsCutAt, all_at, cut_at, first_told, last_alone, last_at, last_begins, last_length, last_line}
-use Rattle.pages.proofs.LineEnds.{lines-append}
+use Rattle.json_lines.proofs.Json.{json_lines-append}
 use Rattle.pages.proofs.LineEnds.{lines_end, ordered, whole_begins}
 use Rattle.pages.proofs.Lexed.{AreKept, decimal_kept, kept-append, tokens_embedded}
 
@@ -230,7 +230,7 @@ both_is : (a b : List Data) (n m : ℕ) → embedded (json_lines a) ++ (embedded
     (json_lines (a ++ b)) ++ gap_text n m
 both_is a b n m =
     sym (append_assoc (embedded (json_lines a)) (embedded (json_lines b)) (gap_text n m))
-    ∙ ap (λ l. l ++ gap_text n m) (sym (embedded-append (json_lines a) (json_lines b)) ∙ ap embedded (sym (lines-append a b)))
+    ∙ ap (λ l. l ++ gap_text n m) (sym (embedded-append (json_lines a) (json_lines b)) ∙ ap embedded (sym (json_lines-append a b)))
 
 -- what stands there of the state is the text of facts, or of none
 chosen_lines : (b : Bool) (states : List Data) → (if b then json_lines states else []) ≡ json_lines (if b then states else [])

@@ -14,6 +14,7 @@ use Rattle.serde_json.specs.Data.{unsigned, negative, float, Data, null, boolean
 use Rattle.serde_json.specs.Data.{Members}
 use Rattle.serde_json.specs.Data.{no_members, member}
 use Rattle.serde_json.specs.Written.{comma_if, compact_text, items_text, members_text}
+use Rattle.json_lines.proofs.Json.{json_lines-append}
 use Rattle.json_lines.specs.Lines.{json_line, json_lines}
 use Rattle.pages.specs.Cut.{IsLastLine}
 use Rattle.pages.specs.Facts.{BeginsLine, line_count, line_end}
@@ -315,14 +316,10 @@ all_at facts kept over = record {
   back = drop_all kept (json_lines facts) over ∙ ap json_lines (sym (drop_all (length facts) facts (omega arith)));
 }
 
-pub lines-append : (a b : List Data) → json_lines (a ++ b) ≡ json_lines a ++ json_lines b
-lines-append [] b = refl
-lines-append (d ∷ a) b = ap (λ l. json_line d ++ l) (lines-append a b) ∙ sym (append_assoc (json_line d) (json_lines a) (json_lines b))
-
 module _ (before : List Data) (last : Data) where
   pub last_at : IsCutAt (before ++ last ∷ []) (length (json_lines before)) (length before)
   last_at =
-      let whole = lines-append before (last ∷ []) in
+      let whole = json_lines-append before (last ∷ []) in
       let l = length-append before (last ∷ []) in
       record {
         within = omega (arith, l);
@@ -338,20 +335,20 @@ module _ (before : List Data) (last : Data) where
 
   pub last_begins : BeginsLine (json_lines (before ++ last ∷ [])) (length (json_lines before))
   last_begins =
-      subst (λ t. BeginsLine t (length (json_lines before))) (sym (lines-append before (last ∷ [])))
+      subst (λ t. BeginsLine t (length (json_lines before))) (sym (json_lines-append before (last ∷ [])))
       (begins_still (json_lines before) (json_lines (last ∷ [])) (length (json_lines before)) (omega arith) (whole_begins before))
 
   pub last_length : length (json_lines (before ++ last ∷ [])) ≡ length (json_lines before) + length (json_line last)
   last_length =
       let l = length-append (json_lines before) (json_lines (last ∷ [])) in
       let m = length-append (json_line last) [] in
-      let whole = ap length (lines-append before (last ∷ [])) in
+      let whole = ap length (json_lines-append before (last ∷ [])) in
       omega (arith, whole, l, m)
 
   -- behind it no line begins
   pub last_alone : HasIntegers last → IsLastLine (json_lines (before ++ last ∷ [])) (length (json_lines before))
   last_alone h n past below b =
-      by (n - length (json_lines before)) (omega (arith, past)) (subst (λ t. BeginsLine t n) (lines-append before (last ∷ [])) b)
+      by (n - length (json_lines before)) (omega (arith, past)) (subst (λ t. BeginsLine t n) (json_lines-append before (last ∷ [])) b)
     where
       by : (j : ℕ) → n ≡ length (json_lines before) + j → BeginsLine (json_lines before ++ json_lines (last ∷ [])) n → ⊥
       by zero e b = omega (arith, e, past)
@@ -361,7 +358,7 @@ module _ (before : List Data) (last : Data) where
 
   pub last_line : drop (length (json_lines before)) (json_lines (before ++ last ∷ [])) ≡ json_line last
   last_line =
-      ap (drop (length (json_lines before))) (lines-append before (last ∷ []))
+      ap (drop (length (json_lines before))) (json_lines-append before (last ∷ []))
       ∙ drop_at (json_lines before) (json_lines (last ∷ [])) (length (json_lines before)) refl ∙ append-nil (json_line last)
 
 -- a place before another has no more facts before it

@@ -7,18 +7,11 @@ use Rattle.std.specs.Int.Signed.{lt_z}
 use Rattle.std.specs.Option.{MatchOption}
 use Rattle.std.proofs.lemmas.Bool.Decides.{nat_tests}
 use Rattle.std.proofs.lemmas.Str.Pattern.{IsSplitOnceResult, split_after}
+use Rattle.pram_model.proofs.Truths.{both}
 use Rattle.pram_model.specs.Names.{is_digit}
 use Rattle.pram_tokens.specs.Lexemes.{largest, value_after}
 use Rattle.pram_tokens.specs.Input.{are_digits, is_value, number_of, with_minus, without_sign}
 use Rattle.scopes.specs.Intervals.{IsInterval, behind_dot}
-
-second_holds : (p q : Bool) → p && q ≡ true → q ≡ true
-second_holds true q h = h
-second_holds false q h = absurd (cc h)
-
-first_holds : (p q : Bool) → p && q ≡ true → p ≡ true
-first_holds true q h = refl
-first_holds false q h = absurd (cc h)
 
 chosen : (p : Bool) (v z : ℤ) → (if p then Some v else None) ≡ Some z → p ≡ true
 chosen true v z h = refl
@@ -26,13 +19,13 @@ chosen false v z h = absurd (cc h)
 
 value_digits : (most : ℕ) (word : List ℕ) → is_value most word ≡ true → are_digits word ≡ true
 value_digits most [] h = refl
-value_digits most (b ∷ word) h = first_holds (are_digits (b ∷ word)) (nat_le (value_after 0 (b ∷ word)) most) h
+value_digits most (b ∷ word) h = (both (are_digits (b ∷ word)) (nat_le (value_after 0 (b ∷ word)) most) h).0
 
 -- among digits there is no dot
 no_dot : (word : List ℕ) → are_digits word ≡ true → (i : ℕ) → i < length word → get_or word i 0 ≢ 46
 no_dot [] h i l e = omega (arith, l)
 no_dot (b ∷ word) h zero l e = absurd (cc (subst (λ x. is_digit x && are_digits word ≡ true) e h))
-no_dot (b ∷ word) h (suc i) l e = no_dot word (second_holds (is_digit b) (are_digits word) h) i (omega (arith, l)) e
+no_dot (b ∷ word) h (suc i) l e = no_dot word (both (is_digit b) (are_digits word) h).1 i (omega (arith, l)) e
 
 -- nor in a number
 pub dotless : (word : List ℕ) (z : ℤ) → number_of word ≡ Some z → (i : ℕ) → i < length word → get_or word i 0 ≢ 46

@@ -13,6 +13,7 @@ use Rattle.costs.specs.Cost.{time, work}
 use Rattle.costs.specs.Steps.{run_steps}
 use Rattle.write_rules.specs.declared.fault.Fault.{Fault}
 use Rattle.write_rules.specs.Verdict.{Verdict, Ended, Faulted, GoesOn}
+use Rattle.pram_model.proofs.Truths.{or_second}
 use Rattle.scopes.specs.declared.findings.Span.{Span}
 use Rattle.scopes.specs.Firsts.{Met, are_alike, noted}
 use Rattle.scopes.specs.Found.{Found, added, found, nothing, verdict_on, widened}
@@ -64,16 +65,12 @@ there_folded : (ms qs : List Met) (m : Met) → is_there ms m ≡ true → is_th
 there_folded ms [] m h = h
 there_folded ms (q ∷ qs) m h = there_folded (noted ms q) qs m (there_noted ms q m h (is_there ms q) refl)
 
-or_true : (b : Bool) → b || true ≡ true
-or_true true = refl
-or_true false = refl
-
 there_step : (e q m : Met) (ms : List Met) (b : Bool) → are_alike e.fault q.fault ≡ b → are_alike q.fault m.fault ≡ true →
     (is_there ms q ≡ true → is_there ms m ≡ true) → b || is_there ms q ≡ true → are_alike e.fault m.fault || is_there ms m ≡ true
 there_step e q m ms true is alike more h =
     ap (λ (b : Bool). b || is_there ms m) (sym (alike_same e.fault q.fault m.fault is) ∙ alike)
 there_step e q m ms false is alike more h =
-    ap (λ (b : Bool). are_alike e.fault m.fault || b) (more h) ∙ or_true (are_alike e.fault m.fault)
+    ap (λ (b : Bool). are_alike e.fault m.fault || b) (more h) ∙ or_second (are_alike e.fault m.fault) true refl
 
 -- where one like q is there, so is one like m that is like q
 there_alike : (ms : List Met) (q m : Met) → are_alike q.fault m.fault ≡ true → is_there ms q ≡ true → is_there ms m ≡ true
@@ -87,7 +84,7 @@ noted_there ms q m alike true e = ap (λ (b : Bool). is_there (if b then ms else
 noted_there ms q m alike false e =
     ap (λ (b : Bool). is_there (if b then ms else ms ++ q ∷ []) m) e
     ∙ list_any-append (λ (q : Met). are_alike q.fault m.fault) ms (q ∷ [])
-    ∙ ap (λ (b : Bool). is_there ms m || (b || false)) alike ∙ or_true (is_there ms m)
+    ∙ ap (λ (b : Bool). is_there ms m || (b || false)) alike ∙ or_second (is_there ms m) true refl
 
 folded_step : (ms qs : List Met) (q m : Met) (b : Bool) → are_alike q.fault m.fault ≡ b →
     (is_there qs m ≡ true → is_there (fold noted (noted ms q) qs) m ≡ true) → b || is_there qs m ≡ true →

@@ -4,6 +4,7 @@ use Rattle.std.proofs.Common.{◌∷◌, ℤ, pos, ◌+ℤ◌, length, get_or, r
 use Rattle.std.proofs.lemmas.List.Elements.{All-contains, All-contains_itself, All-filter, filter_passes}
 use Rattle.std.proofs.lemmas.List.Kept.{AllPairs-filter}
 use Rattle.std.specs.List.{AllPairs, Contains, filter, list_any}
+use Rattle.pram_model.proofs.Truths.{or_second}
 use Rattle.scopes.specs.Lists.{AreWithin, IsBefore, are_apart, lists_of, same_value, values}
 use Rattle.scopes.specs.Scopes.{inputs_of}
 use Rattle.scopes.specs.declared.scope.Scope.{Scope}
@@ -11,15 +12,10 @@ use Rattle.scopes.proofs.Clashes.{is_same, same_is}
 use Rattle.scopes.proofs.Listed.{ascending, counted, listed, not_itself}
 
 -- ---- no value stands twice
-
-or_true : (a : Bool) → a || true ≡ true
-or_true true = refl
-or_true false = refl
-
 pub any_at : (p : ℤ → Bool) (xs : List ℤ) (j : ℕ) (d : ℤ) → j < length xs → p (get_or xs j d) ≡ true → list_any p xs ≡ true
 any_at p [] j d lt h = absurd (omega arith)
 any_at p (x ∷ xs) zero d lt h = ap (λ (b : Bool). b || list_any p xs) h
-any_at p (x ∷ xs) (suc j) d lt h = ap (λ (b : Bool). p x || b) (any_at p xs j d (omega arith) h) ∙ or_true (p x)
+any_at p (x ∷ xs) (suc j) d lt h = ap (λ (b : Bool). p x || b) (any_at p xs j d (omega arith) h) ∙ or_second (p x) true refl
 
 pub both_left : (a b : Bool) → not a && b ≡ true → a ≡ false
 both_left true b h = sym h

@@ -27,7 +27,7 @@ passes_by a c late s t e h l same = record {
 }
 
 -- a writer that has not failed had not before
-kept_by : (s u : OutState) (f g : Bool) (x : List ℕ) → PrintsBy s f u g x → g ≡ false → g ≡ f
+pub kept_by : (s u : OutState) (f g : Bool) (x : List ℕ) → PrintsBy s f u g x → g ≡ false → g ≡ f
 kept_by s u true g x p h = p.1
 kept_by s u false g x p h = h
 

@@ -10,11 +10,11 @@ use Rattle.step_text.specs.Passing.{is_told, one_more, passed}
 
 -- ---- one entry
 
-within_is : (last c : ℕ) (b : Bool) → nat_lt c last ≡ b → b ≡ nat_le (c + 1) last
+pub within_is : (last c : ℕ) (b : Bool) → nat_lt c last ≡ b → b ≡ nat_le (c + 1) last
 within_is last c true h = let l = ltb-true c last h in sym (le-leb (c + 1) last (omega (arith, l)))
 within_is last c false h = let l = ltb-false c last h in sym (lt-leb (c + 1) last (omega (arith, l)))
 
-swapped : (a b : Bool) → (a && b) ≡ (b && a)
+pub swapped : (a b : Bool) → (a && b) ≡ (b && a)
 swapped true true = refl
 swapped true false = refl
 swapped false true = refl
@@ -51,7 +51,7 @@ no_lines_past layout telling first last c (e ∷ es) l =
     ap (λ line. line ++ lines_from layout telling first last ((c + 1) + 1) es) (nothing_past layout telling first last c e l)
     ∙ no_lines_past layout telling first last (c + 1) es (omega (arith, l))
 
-none_passes : (last c : ℕ) (es : List Entry) → nat_lt c last ≡ false → passed last c es ≡ c
+pub none_passes : (last c : ℕ) (es : List Entry) → nat_lt c last ≡ false → passed last c es ≡ c
 none_passes last c [] h = refl
 none_passes last c (e ∷ es) h = ap (λ b. passed last (if b then c + 1 else c) es) h ∙ none_passes last c es h
 

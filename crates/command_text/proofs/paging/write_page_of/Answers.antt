@@ -2,7 +2,8 @@ use Rattle.std.proofs.Common.{Err, Ok, ◌≤◌, ap, refl, subst, sym}
 use Rattle.std.specs.Prelude.{length}
 use Rattle.pram_model.specs.Layout.{total_size}
 use Rattle.command_facts.proofs.Steps.{not_too_long}
-use Rattle.command_text.proofs.StepsWritten.{outcome_by, page_by, page_cut, unwritten}
+use Rattle.command_facts.proofs.Steps.{outcome_by}
+use Rattle.command_text.proofs.StepsWritten.{page_by, page_cut, unwritten}
 use Rattle.command_text.proofs.paging.write_page_of.Goals as goal
 
 pub returns-in-Ok-clause-outcome : goal.returns-in-Ok-clause-outcome

@@ -1,7 +1,7 @@
 use Rattle.std.proofs.Common.{List, ℤ, ◌∙◌, ap, length}
 use Rattle.journal.specs.Between.{between}
 use Rattle.journal.specs.RunEntries.{run_entries}
-use Rattle.command_text.proofs.StepsWritten.{outcome_by}
+use Rattle.command_facts.proofs.Steps.{outcome_by}
 use Rattle.command_text.proofs.stepping.excerpt_of.Goals as goal
 
 pub returns-in-Ok-clause-outcome : goal.returns-in-Ok-clause-outcome

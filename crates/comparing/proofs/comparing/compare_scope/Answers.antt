@@ -2,7 +2,8 @@ use Rattle.std.proofs.Common.{◌≡◌, ◌∙◌, ◌∷◌, ◌<◌, ℤ, Lis
 use Rattle.scopes.specs.Scopes.{inputs_left, inputs_of}
 use Rattle.scopes.specs.declared.scope.Scope.{Scope}
 use Rattle.comparing.specs.Found.{found_is}
-use Rattle.comparing.proofs.Gone.{Gone, fewer, further}
+use Rattle.scopes.proofs.Explored.{fewer}
+use Rattle.comparing.proofs.Gone.{Gone, further}
 use Rattle.comparing.proofs.comparing.compare_scope.Goals as goal
 
 pub trying-preserved : goal.trying-preserved
