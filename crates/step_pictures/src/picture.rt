@@ -95,12 +95,12 @@ fn part_of(from: usize, whole: usize) -> Part
 
 /// Writes a picture of a part of a run of so many statements, its entries from this number on, counted from 1, one behind the other, as SVG
 /// 1.1, by the program's text: a column for each statement, in bands of 16, with its line of the program, its number in the run and the
-/// line's, and a row for each index that acts, below one for the processor outside pardo. A processor that acts has a box, with a mark where
-/// it reads shared cells and one where it writes one, and says which where it is pointed at; those that met at a fault are outlined, and the
-/// fault and who met stands below the bands. Where statements stand before or behind those that are asked for, the picture says which of how
-/// many it is of. Of more than 112 statements the first 96 and the last 16 are drawn, and of more than 64 indices those that met and the
-/// first others have rows; the picture says how many statements are left out, and below each column how many more act. `WriteFault` (E17)
-/// says that the writer failed; what it took is a beginning of the picture.
+/// line's, and a row for each index that acts, below one for the processor outside pardo. A processor that acts has a box, with a mark
+/// where it reads shared cells and one where it writes one, and says which where it is pointed at; those that met at a fault are outlined,
+/// and the fault and who met stands below the bands. Where statements stand before or behind those that are asked for, the picture says
+/// which of how many it is of. Of more than 112 statements the first 96 and the last 16 are drawn, and of more than 64 indices those that
+/// met and the first others have rows; the picture says how many statements are left out, and below each column how many more act.
+/// `WriteFault` (E17) says that the writer failed; what it took is a beginning of the picture.
 pub fn write_excerpt<W: Out>(
     out: &mut W,
     layout: &Layout,
