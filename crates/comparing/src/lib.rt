@@ -18,9 +18,9 @@ mod most;
 mod noting;
 mod outcomes;
 mod refusal;
-pub mod rule_laws;
 mod rules;
 mod show;
+pub mod under_rules_laws;
 mod unequal;
 
 pub use common::{common_ranges, front_cells, named_range};

@@ -18,7 +18,7 @@ mod stops;
 #[cfg(test)]
 mod sweep_drawings;
 #[cfg(test)]
-mod sweeps;
+mod swept;
 #[cfg(test)]
 mod trees;
 #[cfg(test)]
