@@ -2,35 +2,39 @@
 
 _pramc() {
     local word=${COMP_WORDS[COMP_CWORD]} before=${COMP_WORDS[COMP_CWORD - 1]} words= programs=
-    local cells="--input --memory --random --seed"
     COMPREPLY=()
     if [ "$COMP_CWORD" -eq 1 ]; then
-        words="check plan meaning cost steps rules explore compare run trace expand export exec explain help --help --version"
+        # made by gate/editors.py --write: commands
+        words="check plan meaning cost steps rules run trace explore compare expand export exec explain help --help --version"
+        # end
     else
         case $before in
+        # made by gate/editors.py --write: values
         --input | --memory | --listing) ;;
         --map) words="identity affine:" ;;
         --under) words="erew crew common priority sum" ;;
         --format) words="text json csv gnu" ;;
-        --bound | --seconds | --workers | --reserve | --schedule | --sweep | --from | --to | --size | --random | --seed | --show | --only | --bsp | --cells | --values | --permutations | --count | --time-at-most | --work-at-most) return ;;
+        --size | --bound | --seconds | --random | --seed | --show | --schedule | --workers | --sweep | --from | --to | --only | --reserve | --bsp | --cells | --values | --permutations | --count | --time-at-most | --work-at-most) return ;;
+        # end
         *)
             case ${COMP_WORDS[1]} in
+            # made by gate/editors.py --write: options
             check) words="--size --format --explain --help" ;;
-            plan | expand) words="--size --explain --help" ;;
-            meaning) words="--bound --seconds $cells --show --quiet --size --format --explain --help" ;;
-            rules) words="--bound $cells --size --format --explain --help" ;;
-            explore) words="--cells --values --permutations --under --workers --bound --size --format --explain --help" ;;
-            compare) words="--input --cells --values --permutations --random --count --seed --only --time-at-most --work-at-most --bound --size --format --explain --help" ;;
+            plan) words="--size --explain --help" ;;
+            meaning) words="--bound --seconds --input --memory --random --seed --show --quiet --size --format --explain --help" ;;
+            cost) words="--bound --seconds --input --memory --random --seed --schedule --workers --lines --sweep --svg --size --format --explain --help" ;;
+            steps) words="--bound --seconds --input --memory --random --seed --from --to --locals --columns --svg --flow --only --html --size --format --explain --help" ;;
+            rules) words="--bound --input --memory --random --seed --size --format --explain --help" ;;
+            run) words="--bound --input --memory --random --seed --workers --map --reserve --show --quiet --size --format --explain --help" ;;
+            trace) words="--bound --input --memory --random --seed --workers --map --reserve --svg --outcome --lines --bsp --size --format --explain --help" ;;
+            explore) words="--cells --values --permutations --bound --under --workers --size --format --explain --help" ;;
+            compare) words="--cells --values --permutations --bound --input --random --count --seed --only --time-at-most --work-at-most --size --format --explain --help" ;;
+            expand) words="--size --explain --help" ;;
             export) words="--listing --size --explain --help" ;;
-            cost) words="--bound --seconds $cells --workers --schedule --lines --sweep --svg --size --format --explain --help" ;;
-            steps) words="--bound --seconds $cells --from --to --locals --columns --svg --flow --only --html --size --format --explain --help" ;;
-            run) words="--bound $cells --workers --map --reserve --show --quiet --size --format --explain --help" ;;
-            exec) words="--bound $cells --workers --map --reserve --show --quiet --format --explain --help" ;;
-            trace) words="--bound $cells --workers --map --reserve --lines --bsp --outcome --svg --size --format --explain --help" ;;
-            explain)
-                words="$(echo E{1..19}) P1 P2 overflow divide-by-zero out-of-range too-wide read-conflict write-conflict check plan meaning cost steps rules explore compare run trace expand export exec explain language options --help"
-                ;;
-            help) words="check plan meaning cost steps rules explore compare run trace expand export exec explain" ;;
+            exec) words="--bound --input --memory --random --seed --workers --map --reserve --show --quiet --format --explain --help" ;;
+            explain) words="E1 E2 E3 E4 E5 E6 E7 E8 E9 E10 E11 E12 E13 E14 E15 E16 E17 E18 E19 P1 P2 overflow divide-by-zero out-of-range too-wide read-conflict write-conflict check plan meaning cost steps rules explore compare run trace expand export exec explain language options --help" ;;
+            help) words="check plan meaning cost steps rules run trace explore compare expand export exec explain" ;;
+            # end
             *) return ;;
             esac
             [[ $word == -* || ${COMP_WORDS[1]} == explain || ${COMP_WORDS[1]} == help ]] || words=

@@ -1,13 +1,24 @@
 #!/usr/bin/env python3
-"""Compares the files for editors and the shell with the keywords of the language and the command's own commands and options."""
+"""The files for editors and the shell, and the man page, beside the keywords, the program's commands and its options.
+
+editors.py           compares them; and with the table of options, crates/command_words/src/options.rt, the options of
+                     which the texts of explanations, command_requests and the rest of command_words speak
+editors.py --write   writes what is made of that table (gate/options.py): of man/pramc.1 the synopsis and the options,
+                     and of completions/pramc.bash the commands, their options and their values. Then it compares
+"""
 import json
 import re
 import subprocess
 import sys
+from itertools import zip_longest
 from pathlib import Path
 
+import options
+
 TOP = Path(__file__).resolve().parent.parent
-SHELL = 'compopt() { :; }; . "$1"; COMP_WORDS=("${@:2}"); COMP_CWORD=$(($# - 2)); _pramc; printf "%s\\n" "${COMPREPLY[@]}"'
+SHELL = """compopt() { :; }; . "$1"; COMP_WORDS=("${@:2}"); COMP_CWORD=$(($# - 2))
+_pramc; printf '%s\\n' "${COMPREPLY[@]}"
+"""
 
 
 def source(name):
@@ -26,27 +37,22 @@ def symbols():
 
 
 def rules():
-    return set(re.findall(r'b"([a-z]+)" => Some\(Rule::', source("pram_parser/src/parse_decl.rt")))
+    return set(re.findall(r'b"([a-z]+)" => Some\(Rule::', source("pram_model/src/rule.rt")))
 
 
 def commands():
-    """The options of each command, with the names of their values, and the name of what the command is over."""
-    text = source("command_words/src/options.rt")
-    words = dict(re.findall(r'const (\w+): &str =\s*"([^"]*)";', text))
-    groups = {}
-    for group, body in re.findall(r"const (\w+): &\[CommandOption\] = &\[(.*?)^\}?\];", text, re.M | re.S):
-        found = re.findall(r'name: (\w+),\s*follows: Follows::\w+(?:\(\s*"([^"]*)")?', body)
-        groups[group] = {words[option]: value for option, value in found}
-    table = source("command_words/src/subcommands.rt")
-    of = dict(re.findall(r"Group::(\w+) => (\w+),", text))
-    table = source("command_words/src/subcommands.rt")
-    found = re.findall(r'Subcommand \{\s*name: "(\w+)".*?groups: &\[(.*?)\],', table, re.S)
-    return {name: {word: it for group in re.findall(r"::(\w+)", used) for word, it in groups[of[group]].items()} for name, used in found}
+    """The options of each command, with the names of their values."""
+    return {command.word: {it.word: it.value for it in command.options} for command in options.commands()}
+
+
+def having():
+    """All options, each with the name of its value."""
+    return {it for several in commands().values() for it in several.items()}
 
 
 def subjects():
-    """The words that name what is explained."""
-    return set(re.findall(r'Subject::\w+ => "([^"]+)"', source("explanations/src/subject.rt")))
+    """The words that name what is explained, in their order."""
+    return re.findall(r'Subject::\w+ => "([^"]+)"', source("explanations/src/subject.rt"))
 
 
 def alternatives(text):
@@ -90,45 +96,93 @@ def textmate():
 
 
 def manual():
-    text = (TOP / "man/pramc.1").read_text().replace("\\-", "-")
-    found = re.findall(r'^\.SY "pramc (\w+)"\n(.*?)^\.YS$', text, re.M | re.S)
-    synopsis = {(name, *it) for name, body in found for it in [("", "")] + re.findall(r"^\.OP --(\S+) ?(\S*)$", body, re.M)}
-    yield "synopsis", synopsis, {(name, *it) for name, options in commands().items() for it in [("", ""), *options.items()]}
-    part = dict(re.findall(r"^\.SH (.+)\n((?:(?!\.SH).*\n)*)", text, re.M))
+    text = (TOP / "man/pramc.1").read_text()
+    yield "lines", *lines_apart(text, options.with_sections(text))
+    part = dict(re.findall(r"^\.SH (.+)\n((?:(?!\.SH).*\n)*)", text.replace("\\-", "-"), re.M))
     yield "commands", set(re.findall(r"^\.TP\n\.B (\w+)$", part["COMMANDS"], re.M)), set(commands())
-    options = {it for options in commands().values() for it in options.items()}
-    yield "options", set(re.findall(r'^\.TP\n\.BI? --([\w-]+)(?: " (\S+)")?$', part["OPTIONS"], re.M)), options
+    noted = set(re.findall(r'^\.TP\n\.BI? --([\w-]+)(?: " (\S+)")?$', part["NOTES ON OPTIONS"], re.M))
+    yield "notes on options", noted, noted & having()
+
+
+def lines_apart(there, wanted):
+    """The first line in which two texts differ, with its number, as it is there and as `--write` has it."""
+    pairs = enumerate(zip_longest(there.splitlines(), wanted.splitlines()), 1)
+    number, (old, new) = next(((number, pair) for number, pair in pairs if pair[0] != pair[1]), (0, ("", "")))
+    return {f"{number}: {old}"}, {f"{number}: {new} (run {sys.argv[0]} --write)"} if number else {f"{number}: {new}"}
+
+
+def requests():
+    """The options that have words in command_requests: those that take one, and those that don't go with others."""
+    named = re.findall(r'is_same\(word, b"([^"]*)"\)', source("command_requests/src/named.rt"))
+    given = re.findall(r'=> b"([^"]*)"', source("command_requests/src/given.rt"))
+    read = {f"--{word}" for word, value in having() if value not in ("", *options.FILES)}
+    yield "words of named", set(named), read | {"explain"}
+    yield "words of given", set(given), read | {"explain"}
+    said = set(re.findall(r'is_same\(word, b"([^"]*)"\)', source("command_requests/src/sentence.rt")))
+    yield "words of sentence", said, said & {f"--{word}" for word, _ in having()}
+
+
+def refusing():
+    """The options that command_words refuses beside others: each is one of the table, and has a sentence."""
+    folder = TOP / "crates/command_words/src"
+    refused = {it for file in folder.glob("*.rt") for it in re.findall(r'"(--[\w-]+)"', file.read_text())}
+    said = set(re.findall(r'is_same\(word, b"(--[^"]*)"\)', source("command_requests/src/sentence.rt")))
+    yield "options that are refused", refused, refused & said & {f"--{word}" for word, _ in having()}
 
 
 def explained():
     """The options that the text of each command names, and that of all options."""
     text = "".join(source(f"explanations/src/{it}.rt") for it in ("commands", "scopes", "workers", "overviews"))
     texts = dict(re.findall(r'const (\w+): .*?\*b"(.*?)";', text, re.S))
-    for name, options in commands().items():
-        if options:
-            yield f"options of {name}", set(re.findall(r"--(\w[\w-]*)", texts[name.upper()])), set(options)
-    everywhere = {it for options in commands().values() for it in options} | {"help", "version"}
+    for name, several in commands().items():
+        if several:
+            yield f"options of {name}", set(re.findall(r"--(\w[\w-]*)", texts[name.upper()])), set(several)
+    everywhere = {it for several in commands().values() for it in several} | {"help", "version"}
     yield "options", set(re.findall(r"--(\w[\w-]*)", texts["OPTIONS"])), everywhere
 
 
 def completed(*words):
     """What bash completes the last of the words to."""
-    done = subprocess.run(["bash", "-c", SHELL, "", TOP / "completions/pramc.bash", *words], capture_output=True, text=True)
+    call = ["bash", "-c", SHELL, "", TOP / "completions/pramc.bash", *words]
+    done = subprocess.run(call, capture_output=True, text=True, cwd=TOP, check=False)
     return set(done.stdout.split()) if not done.stderr else {done.stderr}
 
 
 def completions():
+    text = (TOP / "completions/pramc.bash").read_text()
+    yield "lines", *lines_apart(text, options.with_regions(text, subjects()))
     yield "commands", completed("pramc", ""), set(commands()) | {"help", "--help", "--version"}
-    for name, options in commands().items():
-        yield f"options of {name}", completed("pramc", name, "-"), {f"--{it}" for it in options} | {"--help"}
-    yield "subjects", completed("pramc", "explain", "") - {"--help"}, subjects()
+    for name, several in commands().items():
+        yield f"options of {name}", completed("pramc", name, "-"), {f"--{it}" for it in several} | {"--help"}
+    for word, value in having():
+        if value in options.FILES:
+            yield f"files behind {word}", completed("pramc", "run", f"--{word}", "gate/edi"), {"gate/editors.py"}
+    yield "subjects", completed("pramc", "explain", "") - {"--help"}, set(subjects())
     yield "maps", completed("pramc", "run", "--map", ""), {"identity", "affine:"}
-    yield "formats", completed("pramc", "run", "--format", ""), set(re.findall(r'Some\("(\w+)"\)', source("command_words/src/reading.rt")))
+    yield "rules", completed("pramc", "explore", "--under", ""), rules()
+    formats = re.findall(r'Some\("(\w+)"\)', source("command_words/src/reading.rt"))
+    yield "formats", completed("pramc", "run", "--format", ""), set(formats)
+
+
+def write():
+    """Writes what is made of the table of options."""
+    man, shell = TOP / "man/pramc.1", TOP / "completions/pramc.bash"
+    man.write_text(options.with_sections(man.read_text()))
+    shell.write_text(options.with_regions(shell.read_text(), subjects()))
 
 
 def main():
-    parts = {"editors/vim": vim, "editors/textmate": textmate, "man/pramc.1": manual, "completions/pramc.bash": completions,
-        "explanations": explained}
+    if sys.argv[1:] == ["--write"]:
+        write()
+    parts = {
+        "editors/vim": vim,
+        "editors/textmate": textmate,
+        "man/pramc.1": manual,
+        "completions/pramc.bash": completions,
+        "explanations": explained,
+        "command_requests": requests,
+        "command_words": refusing,
+    }
     wrong = 0
     for file, part in parts.items():
         for what, found, wanted in part():
