@@ -86,7 +86,7 @@ WALKS = {
         (
             Enum("Verb", "command_requests", "request"),
             Enum("Request", "command_requests", "request"),
-            Enum("Found", "command_facts", "found"),
+            Enum("Settled", "command_facts", "found"),
             SUBJECT,
         ),
         r"\b(?:Plan|Planned|PLAN|\w+_plan|plan_\w+)\b|\"plan\"|\bplan {2,}\w",
