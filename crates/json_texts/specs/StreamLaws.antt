@@ -12,7 +12,7 @@ use Rattle.text_out.specs.Printing.{Printing}
 use Rattle.text_out.proofs.Printed.{prints_nothing, prints_then}
 use Rattle.journal.specs.Entries.{Entry}
 use Rattle.step_text.specs.Passing.{is_told, one_more, passed}
-use Rattle.step_text.proofs.Rows.{none_passes, passed_both, swapped, within_is}
+use Rattle.step_text.specs.RowLaws.{none_passes, passed_both, swapped, within_is}
 use Rattle.json_texts.specs.declared.asked.Asked.{Asked}
 use Rattle.json_texts.specs.Streams.{PrintsJson, Streams, facts_behind}
 

@@ -5,7 +5,7 @@ use Rattle.text_out.specs.Printing.{Printing, Prints, PrintsBy, printing}
 use Rattle.text_out.proofs.Printed.{printed_as, prints_nothing}
 use Rattle.journal.specs.Entries.{Entry}
 use Rattle.step_text.specs.Passing.{is_told, one_more}
-use Rattle.step_text.proofs.Rows.{line_is}
+use Rattle.step_text.specs.RowLaws.{line_is}
 use Rattle.step_text.specs.declared.asked.Asked.{Asked}
 use Rattle.step_text.specs.Streams.{Streams, line_behind, line_of}
 

@@ -10,7 +10,7 @@ use Rattle.journal.specs.Entries.{Entry}
 use Rattle.journal.specs.Telling.{BrokeOff, HasToldPart, ToldFirst}
 use Rattle.step_text.specs.Passing.{passed}
 use Rattle.step_text.specs.StepText.{steps_text}
-use Rattle.step_text.proofs.Rows as rows
+use Rattle.step_text.specs.RowLaws as rows
 use Rattle.step_text.specs.declared.asked.Asked.{Asked}
 use Rattle.step_text.specs.Streamed.{WroteFirst}
 use Rattle.step_text.specs.Streams.{PrintsFirst, Streams, line_behind, lines_behind}

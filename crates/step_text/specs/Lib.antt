@@ -8,5 +8,6 @@ pub mod StepText
 pub mod ValueTexts
 pub mod Passing
 pub mod Streams
+pub mod RowLaws
 pub mod StreamLaws
 pub mod Streamed

@@ -4,7 +4,7 @@ use Rattle.text_out.specs.Printing.{Printing, Prints}
 use Rattle.text_out.proofs.Printed.{printed_as, prints_nothing, prints_then}
 use Rattle.journal.specs.Entries.{Entry}
 use Rattle.step_text.specs.Passing.{passed}
-use Rattle.step_text.proofs.Rows as rows
+use Rattle.step_text.specs.RowLaws as rows
 use Rattle.step_text.specs.declared.asked.Asked.{Asked}
 use Rattle.step_text.specs.Streams.{Streams, lines_behind}
 
