@@ -208,6 +208,14 @@ def new(asked):
                     yield f"{word}: {crate}/src/{name}.rt has a match over {enum.name}: run {sys.argv[0]} --write"
 
 
+def namesakes():
+    """The enums of tables that have the name of another one, whose matches can't be told from theirs."""
+    declared = "".join(file.read_text() for crate in asked_crates() for file in (CRATES / crate / "src").rglob("*.rt"))
+    for it in all_enums():
+        if len(re.findall(rf"^(?:pub(?:\(crate\))? )?enum {it.name}\b", declared, re.M)) != 1:
+            yield f"the enum {it.name} of {it.crate} isn't the one enum of its name"
+
+
 def compared(text, wanted):
     """What to do where the page isn't as it has to be."""
     if text != wanted:
@@ -227,7 +235,7 @@ def main():
         PAGE.write_text(wanted)
         text = wanted
     wrong += [it for word in WALKS for it in gone(word, asked[word])]
-    wrong += [*new(asked), *compared(text, wanted)]
+    wrong += [*namesakes(), *new(asked), *compared(text, wanted)]
     sys.exit("\n".join(f"docs/WORKING.md: {it}" for it in wrong) or 0)
 
 
