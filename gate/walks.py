@@ -4,7 +4,7 @@
 walks.py           compares the tables with the files, in seconds, and compiles nothing
 walks.py --write   writes them: the compiler says which matches lack an arm where an enum has one more (gate/arms.py),
                    without a proof. It is called once for each match that isn't plain (one, today) and once more, for
-                   half a minute of a processor each: 6.5 minutes for two calls beside a proof on all processors
+                   half a minute of a processor each: 6 and 10 minutes for two calls beside a full proof
 walks.py --rest    writes all but what the compiler says, in seconds
 
 What the compiler said stands in the column Matches, in which the page keeps it. All else is found by patterns: the
