@@ -1,5 +1,5 @@
 pub mod Chains
-pub mod Rows
+pub mod ReadRows
 pub mod Counted
 pub mod Carriers
 pub mod CellValues

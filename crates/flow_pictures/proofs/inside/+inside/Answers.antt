@@ -1,5 +1,5 @@
 use Rattle.flow_pictures.proofs.Chains.{on_ok}
-use Rattle.flow_pictures.proofs.Rows.{step_if, step_while}
+use Rattle.flow_pictures.proofs.ReadRows.{step_if, step_while}
 use Rattle.flow_pictures.proofs.inside.+inside.Goals as goal
 
 pub add_step-returns-in_ok-add_steps-in-If : goal.add_step-returns-in_ok-add_steps-in-If

@@ -1,5 +1,5 @@
 use Rattle.flow_pictures.proofs.Chains.{on_ok}
-use Rattle.flow_pictures.proofs.Rows.{statement_for, statement_if, statement_while}
+use Rattle.flow_pictures.proofs.ReadRows.{statement_for, statement_if, statement_while}
 use Rattle.flow_pictures.proofs.outside.+outside.Goals as goal
 
 pub add_statement-returns-in_ok-add_here-in-While : goal.add_statement-returns-in_ok-add_here-in-While
