@@ -1,6 +1,6 @@
 use Rattle.std.proofs.Common.{◌≡◌, ◌++◌, drop}
 use Rattle.flow_pictures.specs.Subscripts.{asides, link_asides}
-use Rattle.flow_pictures.proofs.asides.+add_asides.Given as goal
+use Rattle.flow_pictures.proofs.subscripts.+add_asides.Given as goal
 
 -- with those of the operands that are left
 abbrev pub invariant-loop-link : goal.invariant-loop-link
