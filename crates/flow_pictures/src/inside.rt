@@ -46,7 +46,7 @@ fn add_assign_here(
 
 /// Adds the reads of the statement at an offset, if it is this one or stands in it.
 #[cycle(inside)]
-#[tactic(auto, using(crate::proofs::Rows::step_if, crate::proofs::Rows::step_while))]
+#[tactic(auto, using(crate::proofs::ReadRows::step_if, crate::proofs::ReadRows::step_while))]
 fn add_step(all: &mut Vec<bool>, offset: u32, s: &Step) -> Result<(), AllocError>
     ensures { OnOk result (all.new.items ≡ all.old.items ++ spec.step_at offset s.now) }
 {
@@ -79,7 +79,7 @@ fn add_step(all: &mut Vec<bool>, offset: u32, s: &Step) -> Result<(), AllocError
 
 /// The same of statements in order.
 #[cycle(inside)]
-#[tactic(auto, using(crate::proofs::Rows::steps_more, crate::proofs::Rows::steps_end))]
+#[tactic(auto, using(crate::proofs::ReadRows::steps_more, crate::proofs::ReadRows::steps_end))]
 pub(crate) fn add_steps(
     all: &mut Vec<bool>,
     offset: u32,

@@ -48,7 +48,7 @@ fn add_bounds_here(
 
 /// Adds the reads of the statement at an offset, if it is this one or stands in it.
 #[cycle(outside)]
-#[tactic(auto, using(crate::proofs::Rows::statement_if, crate::proofs::Rows::statement_while, crate::proofs::Rows::statement_for, crate::proofs::Rows::statement_pardo))]
+#[tactic(auto, using(crate::proofs::ReadRows::statement_if, crate::proofs::ReadRows::statement_while, crate::proofs::ReadRows::statement_for, crate::proofs::ReadRows::statement_pardo))]
 fn add_statement(all: &mut Vec<bool>, offset: u32, s: &Statement) -> Result<(), AllocError>
     ensures { OnOk result (all.new.items ≡ all.old.items ++ spec.statement_at offset s.now) }
 {
@@ -102,7 +102,7 @@ fn add_statement(all: &mut Vec<bool>, offset: u32, s: &Statement) -> Result<(), 
 
 // The same of statements in order.
 #[cycle(outside)]
-#[tactic(auto, using(crate::proofs::Rows::statements_more, crate::proofs::Rows::statements_end))]
+#[tactic(auto, using(crate::proofs::ReadRows::statements_more, crate::proofs::ReadRows::statements_end))]
 fn add_statements(all: &mut Vec<bool>, offset: u32, body: &Vec<Statement>) -> Result<(), AllocError>
     ensures { OnOk result (all.new.items ≡ all.old.items ++ spec.statements_at offset body.now.items) }
 {
@@ -113,7 +113,7 @@ fn add_statements(all: &mut Vec<bool>, offset: u32, body: &Vec<Statement>) -> Re
 }
 
 // Those of a program's statements.
-#[tactic(auto, using(crate::proofs::Rows::statements_more, crate::proofs::Rows::statements_end))]
+#[tactic(auto, using(crate::proofs::ReadRows::statements_more, crate::proofs::ReadRows::statements_end))]
 fn add_body(all: &mut Vec<bool>, offset: u32, body: &[Statement]) -> Result<(), AllocError>
     ensures { OnOk result (all.new.items ≡ all.old.items ++ spec.statements_at offset body.now) }
 {
