@@ -5,9 +5,10 @@ promises.py           compares docs/PROMISES.md with the comments that stand at 
 promises.py --write   writes there what is made of them
 
 A promise is a `//` comment directly above a clause of what others can call: an `ensures` of a function that
-`lib.rt` or a public module of it exports, or of a method of such a type or trait, or a law of such a trait. What
-is `pub` and not exported is refused. A promise is a row: its sentence, its call, and definitions that its clause names. What stands before the first section of
-crates.txt and from REST on is written by hand.
+`lib.rt` or a public module of it exports, or of a method of such a type or trait, or a law of such a trait; or
+a sentence above what an exported type gives for a trait's relation. What is `pub` and not exported is refused. A
+promise is a row: its sentence, its call, and definitions that its clause names. What stands before the first
+section of crates.txt and from REST on is written by hand.
 """
 import re
 import sys
@@ -30,7 +31,7 @@ OWNER = re.compile(
 )
 FUNCTION = re.compile(r" *(?P<shown>pub(?:\(\w+\))? )?(?:final |unsafe )*fn (?P<name>\w+)")
 CLAUSE = re.compile(r" *ensures (?:(?P<name>\w+) )?\{")
-LAW = re.compile(r" +(?:ghost|law) (?P<name>\w+): ")
+LAW = re.compile(r" +(?:ghost|law) (?P<name>\w+)(?:: | = )")
 COMMENT = re.compile(r" *//(?!/) ?(.*)")
 
 
@@ -142,12 +143,15 @@ def promises_of(source):
             owner = function = None
         elif begin := FUNCTION.match(line):
             function = begin
-        is_law = owner and owner["head"].endswith("trait") and LAW.match(line)
+        is_law = owner and (owner["of_trait"] or owner["head"].endswith("trait")) and LAW.match(line)
+        given = is_law and owner["of_trait"]
         clause, sentence = is_law or CLAUSE.match(line), comment_above(source.lines, at)
         if clause and sentence and (is_law or not is_own(owner, function)):
             call, shown = call_of(source, owner, None if is_law else function)
             place = f"crates/{source.crate}/src/{source.module.replace('::', '/')}.rt:{at + 1}"
             names = cited(source, clause_text(source.lines, at))
+            if given and not (shown and sentence.endswith(".")):
+                continue
             yield Promise(place, sentence, call, clause["name"], bool(is_law), shown, names)
 
 

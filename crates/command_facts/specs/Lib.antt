@@ -10,3 +10,4 @@ pub mod Sweeps
 pub mod Calls
 pub mod Written
 pub mod CostLaws
+pub mod Left

@@ -1,6 +1,7 @@
-//! What a call of the program finds in its files, and of their programs' runs, before anything is written of it.
+//! What a call of the program finds in its files, and of their programs' runs; and that it is said by a voice.
 #![tactic(auto)]
 
+mod answering;
 pub mod cost_laws;
 mod ends;
 mod exploring;
@@ -19,6 +20,7 @@ mod sweeping;
 mod timed;
 mod tracing;
 
+pub use answering::{Voice, answer};
 pub use finding::find;
 pub use found::{
     Facts, Found, FoundCode, FoundPair, FoundRun, FoundScope, FoundSteps, FoundSweep, FoundTrace,

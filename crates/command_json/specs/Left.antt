@@ -20,9 +20,9 @@ use Rattle.command_facts.specs.declared.found.Found.TheVariants as found
 use Rattle.command_facts.specs.declared.found.FoundSteps.{FoundSteps}
 use Rattle.command_facts.specs.declared.found.Settled.{Settled}
 use Rattle.command_facts.specs.declared.found.Settled.TheVariants as settled
-use Rattle.diagnoses.specs.declared.halted.Halted.{Halted}
-use Rattle.command_facts.specs.Calls.{Finds, IsStop, status_of_found}
+use Rattle.command_facts.specs.Calls.{status_of_found}
 use Rattle.command_facts.specs.Found.{IsOutcomeOf}
+use Rattle.command_facts.specs.Left.{Leaves}
 use Rattle.command_facts.specs.Written.{IsReported}
 use Rattle.json_texts.specs.MessageFacts.{refusal_facts}
 use Rattle.json_texts.specs.RefusalFacts.{stop_facts}
@@ -87,12 +87,8 @@ pub data LeavesFound (words : List (List ℕ)) (f : Found) (out out_new err err_
   BrokenOff : (s : FoundSteps) (why : Stop) → f ≡ found.Stepped s → IsCutOff s out out_new why
       → IsRefusalSaid words why about.Nothing err err_new → LeavesFound words f out out_new err err_new status.Refused
 
--- After a call. What was found is of all that the files hold which the request names. What is refused is told on standard error, once, and
--- nothing is on standard output then.
-pub data LeavesJson (holds : List ℕ → Option (List ℕ) → Type 0) (words : List (List ℕ)) (asked : Result Request Stop)
-    (out out_new err err_new : OutState)
-    : Status → Type 0 where
-  Answered : (request : Request) (found : Found) (ends : Status) → asked ≡ Ok request → Finds holds request found
-      → LeavesFound words found out out_new err err_new ends → LeavesJson holds words asked out out_new err err_new ends
-  Stopped : (h : Halted) → IsStop holds asked h → out_new ≡ out → IsRefusalSaid words h.stop h.about err err_new
-      → LeavesJson holds words asked out out_new err err_new status.Refused
+-- both streams after a call of these words
+abbrev pub LeavesJson : (List ℕ → Option (List ℕ) → Type 0) → List (List ℕ) → Result Request Stop → (out out_new err err_new : OutState) →
+    Status → Type 0
+LeavesJson holds words asked out out_new err err_new ends =
+    Leaves LeavesFound IsRefusalSaid holds words asked out out_new err err_new ends

@@ -7,4 +7,4 @@ mod stepping;
 mod telling;
 mod writing;
 
-pub use answering::answer_in_json;
+pub use answering::Json;

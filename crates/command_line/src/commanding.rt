@@ -4,9 +4,10 @@ ghost use Rattle.std.specs.Prelude.{◌≡◌, map};
 ghost use Rattle.std.specs.String.{string_bytes};
 ghost use Rattle.command_line.specs.Command as spec;
 
-use command_json::answer_in_json;
+use command_facts::answer;
+use command_json::Json;
 use command_requests::{Reader, asks_for_gnu, asks_for_json, asks_to_explain};
-use command_text::{Terminal, answer};
+use command_text::Terminal;
 use observing::Watch;
 use program_texts::Status;
 use std::alloc::Global;
@@ -32,8 +33,8 @@ fn explaining(terminal: Terminal, words: &[String]) -> Terminal
 /// Does what the words behind the program's name ask for, in words or as JSON, and answers the exit status.
 ///
 /// What the words ask for is said by their reader, and whether in JSON by
-/// [`asks_for_json`](command_requests::asks_for_json); what is done then by [`answer`](command_text::answer) and
-/// [`answer_in_json`](command_json::answer_in_json). In words a refusal and a fault are explained where standard error is a terminal or one
+/// [`asks_for_json`](command_requests::asks_for_json); what is done then by [`answer`], in words or by
+/// [`Json`]. In words a refusal and a fault are explained where standard error is a terminal or one
 /// of the words is `--explain`; and a refusal is told in the lines that editors read where
 /// [`asks_for_gnu`](command_requests::asks_for_gnu) says so. While many runs are made, or a
 /// long one, the watch is told how far they are, but where a run is told on a terminal as it goes.
@@ -62,10 +63,12 @@ pub fn command<
 {
     let asked = reader.read(alloc, words);
     if asks_for_json(words) {
-        let on = terminal.output;
-        answer_in_json(rt, alloc, asked, words, on, sources, watch, out, err)
+        let json = Json {
+            on_terminal: terminal.output,
+        };
+        answer(rt, alloc, &json, asked, words, sources, watch, out, err)
     } else {
         let on = explaining(terminal, words);
-        answer(rt, alloc, asked, words, on, sources, watch, out, err)
+        answer(rt, alloc, &on, asked, words, sources, watch, out, err)
     }
 }

@@ -1,5 +1,5 @@
 -- What a call leaves on its streams.
-use Rattle.std.specs.Prelude.{◌≡◌, ℕ, List, Option, Result, Ok, Err}
+use Rattle.std.specs.Prelude.{◌≡◌, ℕ, List, Option, Result, Err}
 use Rattle.text_out.specs.Out.{OutState, with_bytes}
 use Rattle.write_rules.specs.declared.outcome.Outcome.{Outcome}
 use Rattle.program_texts.specs.Status.{status_of}
@@ -12,9 +12,9 @@ use Rattle.command_facts.specs.declared.found.Found.{Found}
 use Rattle.command_facts.specs.declared.found.Found.TheVariants as found
 use Rattle.command_facts.specs.declared.found.FoundSteps.{FoundSteps}
 use Rattle.command_facts.specs.declared.found.Settled.{Settled}
-use Rattle.diagnoses.specs.declared.halted.Halted.{Halted}
-use Rattle.command_facts.specs.Calls.{Finds, IsStop, status_of_found}
+use Rattle.command_facts.specs.Calls.{status_of_found}
 use Rattle.command_facts.specs.Found.{IsOutcomeOf, with_outcome}
+use Rattle.command_facts.specs.Left as calls
 use Rattle.command_text.specs.declared.terminal.Terminal.{Terminal}
 use Rattle.command_text.specs.Explained.{IsExplained, IsRefusalReported, IsRunExplained}
 use Rattle.command_facts.specs.Written.{WroteSome}
@@ -35,11 +35,8 @@ pub data LeavesFound (on : Terminal) (words : List (List ℕ)) (f : Found) (out 
   BrokenOff : (s : FoundSteps) (why : Stop) → f ≡ found.Stepped s → IsCutOff on s out out_new why
       → IsRefusalReported on words why about.Nothing err err_new → LeavesFound on words f out out_new err err_new status.Refused
 
--- Both streams after a call of these words. What was found is of all that the files hold which the request names. A refusal's line goes to
--- standard error, and behind it what is said of it, if that is asked for; nothing is on standard output then.
-pub data Leaves (holds : List ℕ → Option (List ℕ) → Type 0) (on : Terminal) (words : List (List ℕ)) (asked : Result Request Stop)
-    (out out_new err err_new : OutState) : Status → Type 0 where
-  Answered : (request : Request) (found : Found) (ends : Status) → asked ≡ Ok request → Finds holds request found
-      → LeavesFound on words found out out_new err err_new ends → Leaves holds on words asked out out_new err err_new ends
-  Stopped : (h : Halted) → IsStop holds asked h → out_new ≡ out → IsRefusalReported on words h.stop h.about err err_new
-      → Leaves holds on words asked out out_new err err_new status.Refused
+-- both streams after a call of these words
+abbrev pub Leaves : (List ℕ → Option (List ℕ) → Type 0) → Terminal → List (List ℕ) → Result Request Stop → (out out_new err err_new : OutState) →
+    Status → Type 0
+Leaves holds on words asked out out_new err err_new ends =
+    calls.Leaves (LeavesFound on) (IsRefusalReported on) holds words asked out out_new err err_new ends

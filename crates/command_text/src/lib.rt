@@ -13,5 +13,4 @@ mod terminal;
 mod tracing;
 mod writing;
 
-pub use answering::answer;
 pub use terminal::Terminal;

@@ -12,7 +12,7 @@ rm -rf "$work"/crates/*/{must-fail,wrong-bodies,out}
 mkdir "$work/.git"
 echo "wrong 0" > "$program/stdout"
 cd "$work"
-if ! rt ci bench_memory > "$work/log" 2>&1; then
+if ! rt ci > "$work/log" 2>&1; then
     tail -n 20 "$work/log"
     exit 1
 fi

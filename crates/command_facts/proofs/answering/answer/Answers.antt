@@ -2,13 +2,13 @@ use Rattle.std.proofs.Common.{refl, subst, sym, Result}
 use Rattle.program_texts.specs.declared.stop.Stop.{Stop}
 use Rattle.command_requests.specs.declared.request.Request.{Request}
 use Rattle.command_facts.specs.Calls.{IsStop}
-use Rattle.command_text.specs.Left.{Stopped}
-use Rattle.command_text.proofs.answering.answer.Goals as goal
+use Rattle.command_facts.specs.Left.{Stopped}
+use Rattle.command_facts.proofs.answering.answer.Goals as goal
 
 pub returns-in-Err : goal.returns-in-Err
 returns-in-Err g c = record {
-  leaves = Stopped c.from.result
+  left = Stopped c.from.result
       (subst (λ (a : Result Request Stop). IsStop (g.S.Sources.holds c.args.sources.now) a c.from.result) (sym c.in-Err.is)
       c.from.ensures) refl
-      c.report.ensures.written;
+      c.refuse.ensures.said;
 }
