@@ -4,8 +4,8 @@ use Rattle.std.specs.Prelude.{◌↔◌, Option, length, Result, Err}
 use Rattle.pram_model.specs.Layout.{total_size}
 use Rattle.pram_check.specs.Checked.{Checked}
 use Rattle.superstep_instructions.specs.Code.{SuperstepCode}
-use Rattle.pram_meaning.specs.declared.reference.MeaningRefusal.{MeaningRefusal}
-use Rattle.pram_meaning.specs.declared.reference.MeaningRefusal.TheVariants as no_meaning
+use Rattle.pram_meaning.specs.declared.observation.MeaningRefusal.{MeaningRefusal}
+use Rattle.pram_meaning.specs.declared.observation.MeaningRefusal.TheVariants as no_meaning
 use Rattle.program_texts.specs.Report.{IsMeaningRefused, refusal_of_meaning}
 use Rattle.program_texts.specs.declared.from_text.Refusal.{Refusal}
 use Rattle.program_texts.specs.declared.stop.Stop.TheVariants.{Refused}

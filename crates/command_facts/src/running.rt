@@ -12,8 +12,9 @@ use crate::tracing::trace_of;
 use command_requests::{CostWords, RunWords, Verb};
 use costs::cost_of;
 use exchange_counts::Counts;
-use observing::{Watch, watched_run};
+use observing::{Watch, observe_watched};
 use pram_check::Program;
+use pram_meaning::silent::Silent;
 use program_runs::{outcome_of_program, run_program};
 use program_texts::Refusal;
 use std::alloc::Global;
@@ -34,7 +35,9 @@ fn mean<V: Watch>(
     ensures facts { IfOk result (λ f. f.1 ≡ Facts.Nothing) }
     ensures stopped { IfErr result (refused.IsRunRefusedBy Verb.Meaning program.now input.now words.entry) }
 {
-    let outcome = watched_run(alloc, program, input, words.options.bound, watch)?;
+    let bound = words.options.bound;
+    let (_, done) = observe_watched(alloc, program, input, bound, Silent {}, watch);
+    let outcome = done?;
     Ok((outcome, Facts::Nothing))
 }
 

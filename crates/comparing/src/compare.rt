@@ -14,73 +14,84 @@ use crate::finding::Finding;
 use crate::first_end::FirstEnd;
 use crate::input::have_64_bits;
 use crate::rules::UnderRules;
-use observing::{Watch, watched_run};
+use observing::{Watch, observe_watched};
 use pram_check::Program;
 use pram_meaning::MeaningRefusal;
+use pram_meaning::silent::Silent;
 use pram_trees::Rule;
 use std::alloc::Global;
 use write_rules::Outcome;
 
+// What is the same under each rule.
+#[derive(Clone, Copy)]
+struct Given<'g> {
+    alloc: Global,
+    input: &'g [i64],
+    bound: u32,
+}
+
 // The outcome under that rule, and the program under it.
 fn run_under<V: Watch>(
-    alloc: Global,
+    given: Given<'_>,
     program: Program,
     rule: Rule,
-    input: &[i64],
-    bound: u32,
     watch: &mut V,
 ) -> Result<(Program, Outcome), MeaningRefusal>
     ensures program { IfOk result (λ found. found.0 ≡ under rule program) }
-    ensures outcome { IfOk result (λ found. IsOutcome (under rule program) input.now bound (verdict_of found.1)) }
-    ensures fits { IfOk result (λ found. length input.now ≤ total_size program.layout) }
-    ensures too_long { (result ≡ Err MeaningRefusal.InputTooLong) ↔ (total_size program.layout < length input.now) }
+    ensures outcome { IfOk result (λ found. IsOutcome (under rule program) given.entry.input.now given.entry.bound (verdict_of found.1)) }
+    ensures fits { IfOk result (λ found. length given.entry.input.now ≤ total_size program.layout) }
+    ensures too_long { (result ≡ Err MeaningRefusal.InputTooLong) ↔ (total_size program.layout < length given.entry.input.now) }
 {
     let program = program.under(rule);
-    let outcome = watched_run(alloc, &program, input, bound, watch)?;
+    let (_, done) = observe_watched(
+        given.alloc,
+        &program,
+        given.input,
+        given.bound,
+        Silent {},
+        watch,
+    );
+    let outcome = done?;
     Ok((program, outcome))
 }
 
 // What is found under that rule, and the program under it.
 fn find_under<V: Watch>(
-    alloc: Global,
+    given: Given<'_>,
     program: Program,
     rule: Rule,
     first: &mut FirstEnd,
-    input: &[i64],
-    bound: u32,
     watch: &mut V,
 ) -> Result<(Program, Finding), MeaningRefusal>
     ensures program { IfOk result (λ found. found.0 ≡ under rule program) }
-    ensures found { IfOk result (λ found. IsFoundUnder rule program input.now bound first.old found.1 first.new) }
-    ensures fits { IfOk result (λ found. length input.now ≤ total_size program.layout) }
-    ensures too_long { (result ≡ Err MeaningRefusal.InputTooLong) ↔ (total_size program.layout < length input.now) }
+    ensures found { IfOk result (λ found. IsFoundUnder rule program given.entry.input.now given.entry.bound first.old found.1 first.new) }
+    ensures fits { IfOk result (λ found. length given.entry.input.now ≤ total_size program.layout) }
+    ensures too_long { (result ≡ Err MeaningRefusal.InputTooLong) ↔ (total_size program.layout < length given.entry.input.now) }
 {
-    let (program, outcome) = run_under(alloc, program, rule, input, bound, watch)?;
+    let (program, outcome) = run_under(given, program, rule, watch)?;
     let finding = first.judge(outcome);
     Ok((program, finding))
 }
 
 // What is found under that rule, by a run only where what is known is a conflict.
 fn find<V: Watch>(
-    alloc: Global,
+    given: Given<'_>,
     program: Program,
     rule: Rule,
     known: Finding,
     first: &mut FirstEnd,
-    input: &[i64],
-    bound: u32,
     watch: &mut V,
 ) -> Result<(Program, Finding), MeaningRefusal>
-    requires fits { length input.now ≤ total_size program.layout }
-    requires values { AreValues input.now }
-    requires known { IsKnown rule program input.now bound first.old known }
+    requires fits { length given.input.now ≤ total_size program.layout }
+    requires values { AreValues given.input.now }
+    requires known { IsKnown rule program given.input.now given.bound first.old known }
     ensures program { IfOk result (λ found. found.0 ≡ under rule program) }
-    ensures found { IfOk result (λ found. IsFoundUnder rule program input.now bound first.old found.1 first.new) }
+    ensures found { IfOk result (λ found. IsFoundUnder rule program given.entry.input.now given.entry.bound first.old found.1 first.new) }
     ensures fitting { result ≡ Err MeaningRefusal.InputTooLong → ⊥ }
 {
     program.bounded();
     if known.is_conflict() {
-        find_under(alloc, program, rule, first, input, bound, watch)
+        find_under(given, program, rule, first, watch)
     } else {
         Ok((program.under(rule), known))
     }
@@ -89,27 +100,26 @@ fn find<V: Watch>(
 // Where the program declares sum, its end has to come before that under common, which may be another. What is known of sum from there
 // on: what is found under it, and else what is found under crew.
 fn find_ahead<V: Watch>(
-    alloc: Global,
+    given: Given<'_>,
     program: Program,
     declared: Rule,
     crew: Finding,
     first: &mut FirstEnd,
-    input: &[i64],
-    bound: u32,
     watch: &mut V,
 ) -> Result<(Program, Finding), MeaningRefusal>
-    requires fits { length input.now ≤ total_size program.layout }
-    requires values { AreValues input.now }
-    requires crew { IsFoundUnder Rule.Crew program input.now bound first.old crew first.old }
+    requires fits { length given.input.now ≤ total_size program.layout }
+    requires values { AreValues given.input.now }
+    requires crew { IsFoundUnder Rule.Crew program given.input.now given.bound first.old crew first.old }
     ensures program { IfOk result (λ found. found.0 ≡ under (ahead declared) program) }
-    ensures found { IfOk result (λ found. IsFoundUnder (ahead declared) program input.now bound first.old found.1 first.new) }
+    ensures found { IfOk result (λ found.
+        IsFoundUnder (ahead declared) program given.entry.input.now given.entry.bound first.old found.1 first.new) }
     ensures fitting { result ≡ Err MeaningRefusal.InputTooLong → ⊥ }
 {
     match declared {
         Rule::Erew | Rule::Crew | Rule::Common | Rule::Priority => {
             Ok((program.under(Rule::Crew), crew))
         }
-        Rule::Sum => find(alloc, program, Rule::Sum, crew, first, input, bound, watch),
+        Rule::Sum => find(given, program, Rule::Sum, crew, first, watch),
     }
 }
 
@@ -138,49 +148,18 @@ pub fn compare_rules<V: Watch>(
     let rule = program.rule();
     program.bounded();
     have_64_bits(input);
+    let given = Given {
+        alloc,
+        input,
+        bound,
+    };
     let mut first = FirstEnd::none();
-    let (program, erew) = find_under(alloc, program, Rule::Erew, &mut first, input, bound, watch)?;
-    let (program, crew) = find(
-        alloc,
-        program,
-        Rule::Crew,
-        erew,
-        &mut first,
-        input,
-        bound,
-        watch,
-    )?;
-    let (program, ahead) = find_ahead(alloc, program, rule, crew, &mut first, input, bound, watch)?;
-    let (program, common) = find(
-        alloc,
-        program,
-        Rule::Common,
-        crew,
-        &mut first,
-        input,
-        bound,
-        watch,
-    )?;
-    let (program, priority) = find(
-        alloc,
-        program,
-        Rule::Priority,
-        common,
-        &mut first,
-        input,
-        bound,
-        watch,
-    )?;
-    let (program, sum) = find(
-        alloc,
-        program,
-        Rule::Sum,
-        ahead,
-        &mut first,
-        input,
-        bound,
-        watch,
-    )?;
+    let (program, erew) = find_under(given, program, Rule::Erew, &mut first, watch)?;
+    let (program, crew) = find(given, program, Rule::Crew, erew, &mut first, watch)?;
+    let (program, ahead) = find_ahead(given, program, rule, crew, &mut first, watch)?;
+    let (program, common) = find(given, program, Rule::Common, crew, &mut first, watch)?;
+    let (program, priority) = find(given, program, Rule::Priority, common, &mut first, watch)?;
+    let (program, sum) = find(given, program, Rule::Sum, ahead, &mut first, watch)?;
     Ok(UnderRules {
         layout: program.into_layout(),
         declared: rule,

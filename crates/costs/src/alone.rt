@@ -9,9 +9,7 @@ ghost use Rattle.costs.specs.Steps.{run_steps};
 
 use crate::taken::TimeAndWork;
 use pram_check::Program;
-use pram_meaning::interpreter::Interpreter;
-use pram_meaning::run::Halt;
-use pram_meaning::{MeaningRefusal, open};
+use pram_meaning::{MeaningRefusal, observe};
 use std::alloc::Global;
 use write_rules::Outcome;
 
@@ -30,32 +28,7 @@ pub fn time_and_work(
     ensures time { IfOk result (λ r. r.1.time ≡ spec.time (run_steps program.now input.now bound)) }
     ensures work { IfOk result (λ r. r.1.work ≡ spec.work (run_steps program.now input.now bound)) }
 {
-    if input.len() > program.layout().cells() as usize {
-        return Err(MeaningRefusal::InputTooLong);
-    }
-    let mut run = match open(alloc, program, input) {
-        Ok(run) => run,
-        Err(_) => return Err(MeaningRefusal::OutOfMemory),
-    };
     let mut counted = TimeAndWork::new();
-    let interpreter = Interpreter {
-        alloc,
-        program,
-        bound,
-    };
-    match interpreter.run_body(&mut run, &mut counted) {
-        Ok(()) => {
-            let (output, memory) = (run.output, run.cells);
-            Ok((Outcome::Ended { output, memory }, counted))
-        }
-        Err(Halt::Fault(fault)) => {
-            let output = run.output;
-            Ok((Outcome::Faulted { fault, output }, counted))
-        }
-        Err(Halt::Bound) => {
-            let output = run.output;
-            Ok((Outcome::GoesOn { output }, counted))
-        }
-        Err(Halt::OutOfMemory) => Err(MeaningRefusal::OutOfMemory),
-    }
+    let outcome = observe(alloc, program, input, bound, &mut counted)?;
+    Ok((outcome, counted))
 }

@@ -11,11 +11,9 @@ ghost use Rattle.costs.specs.Ledgers.{ledger_is};
 
 use crate::ledger::Ledger;
 use crate::meter::Meter;
-use observing::{Watch, run_watched};
+use observing::{Watch, observe_watched};
 use pram_check::Program;
-use pram_meaning::interpreter::Interpreter;
-use pram_meaning::run::Halt;
-use pram_meaning::{MeaningRefusal, open};
+use pram_meaning::MeaningRefusal;
 use std::alloc::Global;
 use write_rules::Outcome;
 
@@ -36,42 +34,12 @@ pub fn run_whole<V: Watch>(
     ensures totals { IfOk result (λ r. ledger_is r.1 ≡ counted program.now input.now bound schedule) }
     ensures outer_reads { IfOk result (λ r. r.2 ≡ reads (outside program.now input.now bound)) }
 {
-    if input.len() > program.layout().cells() as usize {
-        return Err(MeaningRefusal::InputTooLong);
-    }
-    let mut run = match open(alloc, program, input) {
-        Ok(run) => run,
-        Err(_) => return Err(MeaningRefusal::OutOfMemory),
-    };
     let meter = Meter {
         schedule,
         ledger: Ledger::new(alloc),
         outer_reads: 0,
     };
-    let interpreter = Interpreter {
-        alloc,
-        program,
-        bound,
-    };
-    let (meter, done) = run_watched(&interpreter, &mut run, meter, watch);
-    let Meter {
-        ledger,
-        outer_reads,
-        ..
-    } = meter;
-    match done {
-        Ok(()) => {
-            let (output, memory) = (run.output, run.cells);
-            Ok((Outcome::Ended { output, memory }, ledger, outer_reads))
-        }
-        Err(Halt::Fault(fault)) => {
-            let output = run.output;
-            Ok((Outcome::Faulted { fault, output }, ledger, outer_reads))
-        }
-        Err(Halt::Bound) => {
-            let output = run.output;
-            Ok((Outcome::GoesOn { output }, ledger, outer_reads))
-        }
-        Err(Halt::OutOfMemory) => Err(MeaningRefusal::OutOfMemory),
-    }
+    let (meter, done) = observe_watched(alloc, program, input, bound, meter, watch);
+    let outcome = done?;
+    Ok((outcome, meter.ledger, meter.outer_reads))
 }

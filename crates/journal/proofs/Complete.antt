@@ -1,34 +1,16 @@
--- What was told of a whole run from its opening state, or of a beginning of it.
-use Rattle.std.proofs.Common.{◌≡◌, ◌∙◌, ℕ, ◌-◌, ◌++◌, ◌∷◌, List, [], Result, Err, ℤ, pos, replicate, length, ap, refl, subst, sym}
+-- What was told of moments of which a beginning was heard.
+use Rattle.std.proofs.Common.{◌≡◌, ◌∙◌, ◌++◌, ◌∷◌, List, [], ap, refl, subst, sym}
 use Rattle.std.proofs.lemmas.Grind.{flat_map-append}
 use Rattle.std.proofs.lemmas.List.{append-nil}
 use Rattle.std.specs.List.{flat_map}
-use Rattle.pram_model.specs.Layout.{total_size}
 use Rattle.pram_check.specs.Checked.{Checked}
-use Rattle.pram_meaning.specs.declared.run.Run.{Run}
-use Rattle.pram_meaning.specs.declared.run.Halt.{Halt}
-use Rattle.pram_meaning.specs.declared.run.Halt.TheVariants as halt
-use Rattle.pram_meaning.specs.Listening.{GaveUp, HasHeard, HasHeardPart, HeardFirst}
-use Rattle.pram_meaning.specs.Moments.{Moment, list_moments}
-use Rattle.pram_meaning.specs.Runs.{state_of}
+use Rattle.pram_meaning.specs.Listening.{GaveUp, HasHeardPart, HeardFirst}
+use Rattle.pram_meaning.specs.Moments.{Moment}
 use Rattle.journal.specs.Entries.{Entry}
-use Rattle.journal.specs.RunEntries.{entries_of, run_entries}
+use Rattle.journal.specs.RunEntries.{entries_of}
 use Rattle.journal.specs.HeardLaws.{Broken, Heard, Left, Unmade}
 use Rattle.journal.specs.Telling.{BrokeOff, HasToldPart, ToldFirst}
 use Rattle.journal.proofs.Told.{TellsOn}
-use Rattle.pram_meaning.proofs.References.{opens}
-
--- the entries are those of the run
-told_of : (p : Checked) (input : List ℤ) (n : ℕ) (run : Run) → run.count ≡ 0 → run.output.items ≡ [] →
-    run.uniforms.items ≡ replicate p.uniforms (pos 0) → run.cells.items ≡ input ++ replicate (total_size p.layout - length input) (pos 0) →
-    flat_map (entries_of p) (list_moments p n p.body (state_of run)) ≡ run_entries p input n
-told_of p input n run a b c d = ap (λ m. flat_map (entries_of p) (list_moments p n p.body m)) (opens p input run a b c d)
-
-pub all_told : {T : Type 0} (Tells : T → List Entry → T → Type 0) (p q : Checked) (input : List ℤ) (n : ℕ) (run : Run) (old new : T) →
-    run.count ≡ 0 → run.output.items ≡ [] → run.uniforms.items ≡ replicate p.uniforms (pos 0) →
-    run.cells.items ≡ input ++ replicate (total_size p.layout - length input) (pos 0) →
-    Heard Tells p q old new (list_moments p n p.body (state_of run)) → Tells old (run_entries p input n) new
-all_told Tells p q input n run old new a b c d h = subst (λ es. Tells old es new) (told_of p input n run a b c d) h.1
 
 -- ---- a beginning
 
@@ -69,21 +51,6 @@ module _ {J T : Type 0} (Tells : T → List Entry → T → Type 0) (BreaksOff :
       let F = flat_map (entries_of (program old)) in
       ToldFirst (F first) (F rest) (ap F is ∙ flat_map-append (entries_of (program old)) first rest) h.1
   part_heard old new ms (GaveUp first next rest between is h g) = left_told old between new ms first rest next is h g
-
-  -- of a run at which memory was refused
-  pub part_told : {A : Type 0} (r : Result A Halt) (x : Halt) (input : List ℤ) (n : ℕ) (run : Run) (old new : J) → r ≡ Err x →
-      x ≡ halt.OutOfMemory → run.count ≡ 0 → run.output.items ≡ [] → run.uniforms.items ≡ replicate (program old).uniforms (pos 0) →
-      run.cells.items ≡ input ++ replicate (total_size (program old).layout - length input) (pos 0) →
-      HasHeard r (λ a ms b. Heard Tells (program a) (program b) (teller a) (teller b) ms)
-      (λ a m b. Left Tells BreaksOff (program a) (teller a) m (teller b)) old
-      (list_moments (program old) n (program old).body (state_of run)) new →
-      HasToldPart Tells BreaksOff (teller old) (run_entries (program old) input n) (teller new)
-  part_told {A} r x input n run old new is refused a b c d h =
-      let ms = list_moments (program old) n (program old).body (state_of run) in
-      let part = subst (λ (r : Result A Halt). HasHeard r (λ a ms b. Heard Tells (program a) (program b) (teller a) (teller b) ms)
-      (λ a m b. Left Tells BreaksOff (program a) (teller a) m (teller b)) old ms new) (is ∙ ap Err refused) h in
-      subst (λ es. HasToldPart Tells BreaksOff (teller old) es (teller new)) (told_of (program old) input n run a b c d)
-      (part_heard old new ms part)
 
 -- nothing was told
 pub none_told : {T : Type 0} (Tells : T → List Entry → T → Type 0) (BreaksOff : T → Entry → T → Type 0) → ((t : T) → Tells t [] t) →

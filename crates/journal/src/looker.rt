@@ -24,11 +24,14 @@ pub(crate) struct Looker<'w, V: Watch> {
     pub(crate) watch: &'w mut V,
     /// How many milliseconds the call may have been going.
     pub(crate) until: u64,
+    /// How many have begun.
+    pub(crate) statements: u32,
     pub(crate) is_over: bool,
 }
 
 impl<'w, V: Watch> Looker<'w, V> {
     fn look(&mut self, statements: u32) -> Result<(), AllocError> {
+        self.statements = statements;
         if statements % STRIDE != 0 {
             return Ok(());
         }

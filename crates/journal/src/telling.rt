@@ -9,64 +9,12 @@ ghost use Rattle.journal.specs.Telling.{HasToldPart};
 
 use crate::journal::Journal;
 use crate::teller::Teller;
-use observing::{Watch, run_watched};
+use observing::{Watch, observe_watched};
 use pram_check::Program;
-use pram_meaning::interpreter::Interpreter;
-use pram_meaning::run::Halt;
 use pram_meaning::slate::Slate;
-use pram_meaning::{MeaningRefusal, open};
-use std::alloc::{AllocError, Global};
+use pram_meaning::{MeaningRefusal, check_input};
+use std::alloc::Global;
 use write_rules::Outcome;
-
-// That of a run on an input that fits. The only error is that it was cut off.
-fn tell_fitting<T: Teller + Drop, V: Watch>(
-    alloc: Global,
-    program: &Program,
-    input: &[i64],
-    bound: u32,
-    teller: T,
-    watch: &mut V,
-) -> (T, Result<Outcome, AllocError>)
-    requires { length input.now ≤ total_size program.now.layout }
-    ensures outcome { IfOk result.1 (λ o. IsOutcome program.now input.now bound (verdict_of o)) }
-    ensures told { OnOk result.1 (T.tells teller (run_entries program.now input.now bound) result.0) }
-    ensures part { OnErr result.1 (HasToldPart T.tells T.breaks_off teller (run_entries program.now input.now bound) result.0) }
-{
-    let Ok(mut run) = open(alloc, program, input) else {
-        return (teller, Err(AllocError));
-    };
-    let Ok(slate) = Slate::new(alloc, program.layout().cells()) else {
-        return (teller, Err(AllocError));
-    };
-    let journal = Journal {
-        alloc,
-        program,
-        slate,
-        teller,
-    };
-    let interpreter = Interpreter {
-        alloc,
-        program,
-        bound,
-    };
-    let (journal, done) = run_watched(&interpreter, &mut run, journal, watch);
-    let teller = journal.teller;
-    match done {
-        Ok(()) => {
-            let (output, memory) = (run.output, run.cells);
-            (teller, Ok(Outcome::Ended { output, memory }))
-        }
-        Err(Halt::Fault(fault)) => {
-            let output = run.output;
-            (teller, Ok(Outcome::Faulted { fault, output }))
-        }
-        Err(Halt::Bound) => {
-            let output = run.output;
-            (teller, Ok(Outcome::GoesOn { output }))
-        }
-        Err(Halt::OutOfMemory) => (teller, Err(AllocError)),
-    }
-}
 
 /// Runs a program on an input, for at most `bound` statements, as [`pram_meaning::reference_run`] does, and tells each statement to the
 /// teller as the run goes; entry k, counted from 1, is the k-th statement that ran. The watch is told how far the run is, and the teller
@@ -94,12 +42,18 @@ pub fn tell_run<T: Teller + Drop, V: Watch>(
     // Of an input that is too long no entry was told.
     ensures untold { result.1 ≡ Err MeaningRefusal.InputTooLong → T.tells teller [] result.0 }
 {
-    if input.len() > program.layout().cells() as usize {
-        return (teller, Err(MeaningRefusal::InputTooLong));
+    if let Err(refusal) = check_input(program, input) {
+        return (teller, Err(refusal));
     }
-    let (teller, done) = tell_fitting(alloc, program, input, bound, teller, watch);
-    match done {
-        Ok(outcome) => (teller, Ok(outcome)),
-        Err(AllocError) => (teller, Err(MeaningRefusal::OutOfMemory)),
-    }
+    let Ok(slate) = Slate::new(alloc, program.layout().cells()) else {
+        return (teller, Err(MeaningRefusal::OutOfMemory));
+    };
+    let journal = Journal {
+        alloc,
+        program,
+        slate,
+        teller,
+    };
+    let (journal, done) = observe_watched(alloc, program, input, bound, journal, watch);
+    (journal.teller, done)
 }

@@ -7,8 +7,7 @@ use crate::tell_run;
 use crate::timed_teller::TimedTeller;
 use observing::{Nobody, Watch};
 use pram_check::Program;
-use pram_meaning::interpreter::Interpreter;
-use pram_meaning::open;
+use pram_meaning::observe;
 use std::alloc::Global;
 
 /// For how many statements of a program's run on an input, `bound` at most, there are so many milliseconds: the run is made for as long.
@@ -24,26 +23,16 @@ pub fn bound_in_time<V: Watch>(
     // The bound that is found for a run in time is at most the one that is asked for.
     ensures { result ≤ bound }
 {
-    if input.len() > program.layout().cells() as usize {
-        return bound;
-    }
-    let Ok(mut run) = open(alloc, program, input) else {
-        return bound;
-    };
     let until = watch.elapsed().saturating_add(milliseconds);
     let mut looker = Looker {
         watch,
         until,
+        statements: 0,
         is_over: false,
     };
-    let interpreter = Interpreter {
-        alloc,
-        program,
-        bound,
-    };
-    let _ = interpreter.run_body(&mut run, &mut looker);
+    let _ = observe(alloc, program, input, bound, &mut looker);
     if looker.is_over {
-        run.count.min(bound)
+        looker.statements.min(bound)
     } else {
         bound
     }

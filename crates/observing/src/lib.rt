@@ -1,11 +1,9 @@
 //! Runs of a program by its definition, during which somebody is told how far they are.
 #![tactic(auto)]
 
-mod hearing;
-mod running;
+mod observed;
 mod watch;
 mod watched;
 
-pub use hearing::run_watched;
-pub use running::watched_run;
+pub use observed::observe_watched;
 pub use watch::{Nobody, Watch};

@@ -15,6 +15,7 @@ mod key;
 pub mod listener;
 pub mod meaning_laws;
 pub mod numbers;
+mod observation;
 mod operation;
 mod outside;
 pub mod part;
@@ -30,6 +31,7 @@ pub mod view;
 
 // `Key` and `Read` are types of the definitions.
 pub use key::Key;
+pub use observation::{MeaningRefusal, check_input, observe, open};
 pub use operation::{apply, apply_before};
 pub use read::Read;
-pub use reference::{MeaningRefusal, open, reference_run};
+pub use reference::reference_run;

@@ -312,7 +312,7 @@ impl<'a> Interpreter<'a> {
     }
 
     /// The whole body of a program.
-    pub fn run_body<H: Listener>(&self, run: &mut Run, listener: &mut H) -> Result<(), Halt>
+    pub(crate) fn run_body<H: Listener>(&self, run: &mut Run, listener: &mut H) -> Result<(), Halt>
         ensures value { IsBehaviour result (state_of run.new) (perform_list self.now.program.now self.now.bound self.now.program.now.body
             (state_of run.old)) }
         ensures heard { HasHeard result H.hears H.gives_up listener.old (list_moments self.now.program.now self.now.bound

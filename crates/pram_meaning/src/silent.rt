@@ -15,7 +15,7 @@ use pram_values::Kind;
 use std::alloc::AllocError;
 
 /// Keeps nothing.
-#[derive(Clone, Copy)]
+#[derive(Clone, Copy, Drop)]
 pub struct Silent {}
 
 impl Listener for Silent {

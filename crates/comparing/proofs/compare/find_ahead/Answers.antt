@@ -17,6 +17,6 @@ returns-in-Erew g c =
     let same : ahead c.args.declared ≡ Crew = crew_ahead c.args.declared c.in-Erew.is in
     record {
       program = subst (λ r. c.under.result ≡ under r p) (sym same) c.under.ensures.value;
-      found = subst (λ r. IsFoundUnder r p c.args.input.now c.args.bound first c.args.crew first) (sym same) c.requires.crew;
+      found = subst (λ r. IsFoundUnder r p c.args.given.input.now c.args.given.bound first c.args.crew first) (sym same) c.requires.crew;
       fitting = λ e. absurd (cc e);
     }

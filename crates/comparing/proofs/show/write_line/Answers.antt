@@ -23,6 +23,7 @@ returns g c =
     let at = ap (λ f. line (rule_word c.args.rule ++ (codes " " ++ told (declares all c.args.rule) all.layout f)))
     (sym c.of.ensures.value)
     ∙ ap (λ d. line (rule_word c.args.rule ++ (codes " " ++ told d all.layout c.of.result))) (sym c.declares-declared.ensures.value)
-    ∙ line_split (rule_word c.args.rule) _ (told c.declares-declared.result all.layout c.of.result) (c.as_bytes.ensures.value ∙ c.word.ensures) in
+    ∙ line_split (rule_word c.args.rule) _ (told c.declares-declared.result all.layout c.of.result)
+    (c.as_bytes.ensures.value ∙ c.word.ensures) in
     let worded = goes_on _ _ _ _ _ _ _ (starts _ _) at c.in_ok-write_parts.ensures.written in
     record { written = closes _ _ _ _ _ c.write_told.result worded c.write_told.ensures.written }

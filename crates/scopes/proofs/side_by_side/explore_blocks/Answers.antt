@@ -6,7 +6,7 @@ use Rattle.std.proofs.alloc.Global.TheSendSync as global
 use Rattle.std.specs.Vec.Iter.{into_iter_items}
 use Rattle.scopes.proofs.scope.Scope.TheSendSync as scope
 use Rattle.scopes.specs.Scopes.{inputs_of}
-use Rattle.pram_meaning.specs.declared.reference.MeaningRefusal.{MeaningRefusal}
+use Rattle.pram_meaning.specs.declared.observation.MeaningRefusal.{MeaningRefusal}
 use Rattle.scopes.specs.declared.findings.Findings.{Findings}
 use Rattle.scopes.specs.Found.{found, found_is}
 use Rattle.std.proofs.lemmas.List.{length-drop}
