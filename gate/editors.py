@@ -51,8 +51,10 @@ def having():
 
 
 def subjects():
-    """The words that name what is explained, in their order."""
-    return re.findall(r'Subject::\w+ => "([^"]+)"', source("explanations/src/subject.rt"))
+    """The words that have an explanation: numbers of refusals, kinds of faults, commands and the rest."""
+    numbers = re.findall(r'Number::\w+ => "([EP]\d+)"', source("program_texts/src/number.rt"))
+    kinds = re.findall(r'Kind::\w+ => "([^"]+)"', source("program_texts/src/outcome_text.rt"))
+    return [*numbers, *kinds, *re.findall(r'Subject::\w+ => "([^"]+)"', source("explanations/src/subject.rt"))]
 
 
 def alternatives(text):

@@ -97,7 +97,7 @@ WALKS = {
         (
             Enum("Refusal", "program_texts", "from_text"),
             Enum("RunRefusal", "worker_exchange", "refusal"),
-            SUBJECT,
+            Enum("Number", "program_texts", "number"),
         ),
         r"\bOutOfReserve\b",
         {"shell, manual": r"\bE18\b", "documents": r"\bE18\b"},

@@ -13,7 +13,8 @@ size_sentence reason.BadLine = codes "a size line has the form \"# size NAME = V
 size_sentence reason.Keyword = codes "a size has a name of its own: no keyword, and none of log, root and pow"
 size_sentence reason.Repeated = codes "a size line above has this name already"
 size_sentence reason.UnknownName = codes "no size has this name"
-size_sentence reason.Unexpected = codes "this can't stand here: a size line has a number behind its \"=\", and an expression of sizes has numbers, names of sizes, + - * div mod, parentheses, log(..), root(..) and pow(.., ..)"
+size_sentence reason.Unexpected = (codes "this can't stand here: a size line has a number behind its \"=\", and an expression of "
+    ++ codes "sizes has numbers, names of sizes, + - * div mod, parentheses, log(..), root(..) and pow(.., ..)")
 size_sentence reason.NotClosed = codes "the line ends here, and its brace is not closed"
 size_sentence reason.OutOfRange = codes "this comes to a number below 0 or above 9223372036854775807"
 size_sentence reason.ZeroDivisor = codes "here a number is divided by 0"

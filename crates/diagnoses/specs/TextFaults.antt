@@ -30,9 +30,11 @@ abbrev pub no_token : List ℕ → ℕ → List ℕ
 no_token text at = stray_sentence (byte_before text at) (slice_index text at) (slice_index text (at + 1))
 
 abbrev pub bad_token : Kind → List ℕ → ℕ → List ℕ
-bad_token kind.Input text at = codes "an input has whole numbers from -9223372036854775808 to 9223372036854775807, with white space between them"
+bad_token kind.Input text at = (codes "an input has whole numbers from -9223372036854775808 to 9223372036854775807, with white "
+    ++ codes "space between them")
 bad_token kind.Memory text at =
-    codes "a line of a memory is a name, the bounds of some of its cells if they are not all meant, = and their values, as a[1..4] = 4 3 2 1"
+    (codes "a line of a memory is a name, the bounds of some of its cells if they are not all meant, = and their values, as "
+    ++ codes "a[1..4] = 4 3 2 1")
 bad_token kind.Program text at = no_token text at
 bad_token kind.Listing text at = no_token text at
 

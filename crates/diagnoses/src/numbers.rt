@@ -8,65 +8,8 @@ ghost use Rattle.diagnoses.specs.Numbers as spec;
 use crate::about::About;
 use crate::stops::bytes_in;
 use help::{Message, write_gnu};
-use pram_check::Cause;
-use pram_trees::TextFault;
-use program_texts::{Refusal, Stop};
+use program_texts::Stop;
 use text_out::{Out, WriteFault};
-
-fn text_number(fault: TextFault) -> &'static [u8]
-    ensures { result.now ≡ spec.text_number fault }
-{
-    match fault {
-        TextFault::NotAscii(_) => b"E1",
-        TextFault::TextTooLong => b"E2",
-        TextFault::BadToken(_) => b"E3",
-        TextFault::Syntax(_) => b"E4",
-        TextFault::TooDeep(_) => b"E5",
-        TextFault::OutOfMemory => b"E16",
-    }
-}
-
-fn cause_number(cause: Cause) -> &'static [u8]
-    ensures { result.now ≡ spec.cause_number cause }
-{
-    match cause {
-        Cause::UnknownName => b"E6",
-        Cause::DoubleName => b"E7",
-        Cause::WrongKind => b"E8",
-        Cause::AssignedLoopVariable => b"E9",
-        Cause::Limit(_) => b"E10",
-    }
-}
-
-fn refusal_number(refusal: Refusal) -> &'static [u8]
-    ensures { result.now ≡ spec.refusal_number refusal }
-{
-    match refusal {
-        Refusal::Text(fault) => text_number(fault),
-        Refusal::Program(breach) => cause_number(breach.cause),
-        Refusal::InputTooLong => b"E11",
-        Refusal::BadMap => b"E12",
-        Refusal::BadWorkers => b"E13",
-        Refusal::OutOfMemory => b"E16",
-        Refusal::OutOfReserve => b"E18",
-    }
-}
-
-/// The number of a refusal, as `E6`.
-pub(crate) fn stop_number(stop: &Stop<'_>) -> &'static [u8]
-    ensures { result.now ≡ spec.stop_number stop.now }
-{
-    match stop {
-        Stop::Words(_) => b"P1",
-        Stop::Number(_) => b"P1",
-        Stop::Unreadable(_) => b"P2",
-        Stop::Refused(refusal) => refusal_number(*refusal),
-        Stop::NotVerified(_, _) => b"E14",
-        Stop::BadListing(_) => b"E15",
-        Stop::WriteFailed => b"E17",
-        Stop::BadSize(_, _) => b"E19",
-    }
-}
 
 fn file_or_program<'a>(about: &'a About<'_>) -> &'a [u8]
     ensures { result.now ≡ spec.file_or_program about.now }
@@ -110,5 +53,6 @@ pub fn write_gnu_about<W: Out>(
         (spec.gnu_about stop.now about.now (message_is message.now)) result }
 {
     let file = file_in(stop, about);
-    write_gnu(out, file, bytes_in(about), message, stop_number(stop))
+    let code = stop.number().code().as_bytes();
+    write_gnu(out, file, bytes_in(about), message, code)
 }

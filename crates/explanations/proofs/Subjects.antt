@@ -1,45 +1,47 @@
 -- The subjects in order, and which of them a word doesn't name.
 use Rattle.std.proofs.Common.{ℕ, ◌<◌, List, arith, slice_index_or}
+use Rattle.pram_values.specs.declared.kind.Kind.TheVariants as kind
+use Rattle.program_texts.specs.declared.number.Number.TheVariants as number
 use Rattle.explanations.specs.declared.subject.Subject.{Subject}
 use Rattle.explanations.specs.declared.subject.Subject.TheVariants as subject
 use Rattle.explanations.specs.declared.subject.TheConstants.{SUBJECTS}
 use Rattle.explanations.specs.Explained.{Names, NamesNothing}
 
 abbrev pub subject_at : ℕ → Subject
-subject_at k = slice_index_or SUBJECTS k subject.NotAscii
+subject_at k = slice_index_or SUBJECTS k (subject.Refusal number.NotAscii)
 
 -- the word names none of the first n
 abbrev pub NoneBelow : List ℕ → ℕ → Type 0
 NoneBelow word n = (k : ℕ) → k < n → ¬ (Names word (subject_at k))
 
 pub none_of_all : (word : List ℕ) → NoneBelow word 44 → NamesNothing word
-none_of_all word none subject.NotAscii = none 0 (omega arith)
-none_of_all word none subject.TextTooLong = none 1 (omega arith)
-none_of_all word none subject.BadToken = none 2 (omega arith)
-none_of_all word none subject.Syntax = none 3 (omega arith)
-none_of_all word none subject.TooDeep = none 4 (omega arith)
-none_of_all word none subject.UnknownName = none 5 (omega arith)
-none_of_all word none subject.DoubleName = none 6 (omega arith)
-none_of_all word none subject.WrongKind = none 7 (omega arith)
-none_of_all word none subject.AssignedLoopVariable = none 8 (omega arith)
-none_of_all word none subject.Limit = none 9 (omega arith)
-none_of_all word none subject.InputTooLong = none 10 (omega arith)
-none_of_all word none subject.BadMap = none 11 (omega arith)
-none_of_all word none subject.BadWorkers = none 12 (omega arith)
-none_of_all word none subject.NotVerified = none 13 (omega arith)
-none_of_all word none subject.BadListing = none 14 (omega arith)
-none_of_all word none subject.OutOfMemory = none 15 (omega arith)
-none_of_all word none subject.WriteFailed = none 16 (omega arith)
-none_of_all word none subject.OutOfReserve = none 17 (omega arith)
-none_of_all word none subject.BadSize = none 18 (omega arith)
-none_of_all word none subject.CommandLine = none 19 (omega arith)
-none_of_all word none subject.UnreadableFile = none 20 (omega arith)
-none_of_all word none subject.Overflow = none 21 (omega arith)
-none_of_all word none subject.DivideByZero = none 22 (omega arith)
-none_of_all word none subject.OutOfRange = none 23 (omega arith)
-none_of_all word none subject.TooWide = none 24 (omega arith)
-none_of_all word none subject.ReadConflict = none 25 (omega arith)
-none_of_all word none subject.WriteConflict = none 26 (omega arith)
+none_of_all word none (subject.Refusal number.NotAscii) = none 0 (omega arith)
+none_of_all word none (subject.Refusal number.TextTooLong) = none 1 (omega arith)
+none_of_all word none (subject.Refusal number.BadToken) = none 2 (omega arith)
+none_of_all word none (subject.Refusal number.Syntax) = none 3 (omega arith)
+none_of_all word none (subject.Refusal number.TooDeep) = none 4 (omega arith)
+none_of_all word none (subject.Refusal number.UnknownName) = none 5 (omega arith)
+none_of_all word none (subject.Refusal number.DoubleName) = none 6 (omega arith)
+none_of_all word none (subject.Refusal number.WrongKind) = none 7 (omega arith)
+none_of_all word none (subject.Refusal number.AssignedLoopVariable) = none 8 (omega arith)
+none_of_all word none (subject.Refusal number.Limit) = none 9 (omega arith)
+none_of_all word none (subject.Refusal number.InputTooLong) = none 10 (omega arith)
+none_of_all word none (subject.Refusal number.BadMap) = none 11 (omega arith)
+none_of_all word none (subject.Refusal number.BadWorkers) = none 12 (omega arith)
+none_of_all word none (subject.Refusal number.NotVerified) = none 13 (omega arith)
+none_of_all word none (subject.Refusal number.BadListing) = none 14 (omega arith)
+none_of_all word none (subject.Refusal number.OutOfMemory) = none 15 (omega arith)
+none_of_all word none (subject.Refusal number.WriteFailed) = none 16 (omega arith)
+none_of_all word none (subject.Refusal number.OutOfReserve) = none 17 (omega arith)
+none_of_all word none (subject.Refusal number.BadSize) = none 18 (omega arith)
+none_of_all word none (subject.Refusal number.CommandLine) = none 19 (omega arith)
+none_of_all word none (subject.Refusal number.UnreadableFile) = none 20 (omega arith)
+none_of_all word none (subject.Fault kind.Overflow) = none 21 (omega arith)
+none_of_all word none (subject.Fault kind.DivideByZero) = none 22 (omega arith)
+none_of_all word none (subject.Fault kind.OutOfRange) = none 23 (omega arith)
+none_of_all word none (subject.Fault kind.TooWide) = none 24 (omega arith)
+none_of_all word none (subject.Fault kind.ReadConflict) = none 25 (omega arith)
+none_of_all word none (subject.Fault kind.WriteConflict) = none 26 (omega arith)
 none_of_all word none subject.Check = none 27 (omega arith)
 none_of_all word none subject.Plan = none 28 (omega arith)
 none_of_all word none subject.Meaning = none 29 (omega arith)

@@ -1,6 +1,12 @@
 -- What is explained, by which word, and what is said of it.
 use Rattle.std.specs.Prelude.{◌≡◌, ℕ, List, codes}
 use Rattle.std.specs.Str.{str_to_ascii_lowercase}
+use Rattle.pram_values.specs.declared.kind.Kind.{Kind}
+use Rattle.pram_values.specs.declared.kind.Kind.TheVariants as kind
+use Rattle.program_texts.specs.declared.number.Number.{Number}
+use Rattle.program_texts.specs.declared.number.Number.TheVariants as number
+use Rattle.program_texts.specs.Numbers.{code}
+use Rattle.program_texts.specs.Shown.{kind_text}
 use Rattle.explanations.specs.declared.subject.Subject.{Subject}
 use Rattle.explanations.specs.declared.subject.Subject.TheVariants as subject
 use Rattle.explanations.specs.declared.texts.TheConstants.{NOT_ASCII, TEXT_TOO_LONG, BAD_TOKEN, SYNTAX, TOO_DEEP, BAD_SIZE}
@@ -15,33 +21,8 @@ use Rattle.explanations.specs.declared.overviews.TheConstants.{LANGUAGE, OPTIONS
 
 -- the number of a refusal, the name of a fault, a command, or a word of its own; everything has none
 abbrev pub subject_word : Subject → List ℕ
-subject_word subject.NotAscii = codes "E1"
-subject_word subject.TextTooLong = codes "E2"
-subject_word subject.BadToken = codes "E3"
-subject_word subject.Syntax = codes "E4"
-subject_word subject.TooDeep = codes "E5"
-subject_word subject.UnknownName = codes "E6"
-subject_word subject.DoubleName = codes "E7"
-subject_word subject.WrongKind = codes "E8"
-subject_word subject.AssignedLoopVariable = codes "E9"
-subject_word subject.Limit = codes "E10"
-subject_word subject.InputTooLong = codes "E11"
-subject_word subject.BadMap = codes "E12"
-subject_word subject.BadWorkers = codes "E13"
-subject_word subject.NotVerified = codes "E14"
-subject_word subject.BadListing = codes "E15"
-subject_word subject.OutOfMemory = codes "E16"
-subject_word subject.WriteFailed = codes "E17"
-subject_word subject.OutOfReserve = codes "E18"
-subject_word subject.BadSize = codes "E19"
-subject_word subject.CommandLine = codes "P1"
-subject_word subject.UnreadableFile = codes "P2"
-subject_word subject.Overflow = codes "overflow"
-subject_word subject.DivideByZero = codes "divide-by-zero"
-subject_word subject.OutOfRange = codes "out-of-range"
-subject_word subject.TooWide = codes "too-wide"
-subject_word subject.ReadConflict = codes "read-conflict"
-subject_word subject.WriteConflict = codes "write-conflict"
+subject_word (subject.Refusal n) = code n
+subject_word (subject.Fault k) = kind_text k
 subject_word subject.Check = codes "check"
 subject_word subject.Plan = codes "plan"
 subject_word subject.Meaning = codes "meaning"
@@ -68,35 +49,42 @@ Names word s = str_to_ascii_lowercase word ≡ str_to_ascii_lowercase (subject_w
 abbrev pub NamesNothing : List ℕ → Type 0
 NamesNothing word = (s : Subject) → ¬ (Names word s)
 
--- the text of each
+-- ---- the text of each
+
+abbrev pub refusal_explained : Number → List ℕ
+refusal_explained number.NotAscii = NOT_ASCII
+refusal_explained number.TextTooLong = TEXT_TOO_LONG
+refusal_explained number.BadToken = BAD_TOKEN
+refusal_explained number.Syntax = SYNTAX
+refusal_explained number.TooDeep = TOO_DEEP
+refusal_explained number.UnknownName = UNKNOWN_NAME
+refusal_explained number.DoubleName = DOUBLE_NAME
+refusal_explained number.WrongKind = WRONG_KIND
+refusal_explained number.AssignedLoopVariable = ASSIGNED_LOOP_VARIABLE
+refusal_explained number.Limit = LIMIT
+refusal_explained number.InputTooLong = INPUT_TOO_LONG
+refusal_explained number.BadMap = BAD_MAP
+refusal_explained number.BadWorkers = BAD_WORKERS
+refusal_explained number.NotVerified = NOT_VERIFIED
+refusal_explained number.BadListing = BAD_LISTING
+refusal_explained number.OutOfMemory = OUT_OF_MEMORY
+refusal_explained number.WriteFailed = WRITE_FAILED
+refusal_explained number.OutOfReserve = OUT_OF_RESERVE
+refusal_explained number.BadSize = BAD_SIZE
+refusal_explained number.CommandLine = COMMAND_LINE
+refusal_explained number.UnreadableFile = UNREADABLE_FILE
+
+abbrev pub fault_explained : Kind → List ℕ
+fault_explained kind.Overflow = OVERFLOW
+fault_explained kind.DivideByZero = DIVIDE_BY_ZERO
+fault_explained kind.OutOfRange = OUT_OF_RANGE
+fault_explained kind.TooWide = TOO_WIDE
+fault_explained kind.ReadConflict = READ_CONFLICT
+fault_explained kind.WriteConflict = WRITE_CONFLICT
+
 abbrev pub explanation : Subject → List ℕ
-explanation subject.NotAscii = NOT_ASCII
-explanation subject.TextTooLong = TEXT_TOO_LONG
-explanation subject.BadToken = BAD_TOKEN
-explanation subject.Syntax = SYNTAX
-explanation subject.TooDeep = TOO_DEEP
-explanation subject.UnknownName = UNKNOWN_NAME
-explanation subject.DoubleName = DOUBLE_NAME
-explanation subject.WrongKind = WRONG_KIND
-explanation subject.AssignedLoopVariable = ASSIGNED_LOOP_VARIABLE
-explanation subject.Limit = LIMIT
-explanation subject.InputTooLong = INPUT_TOO_LONG
-explanation subject.BadMap = BAD_MAP
-explanation subject.BadWorkers = BAD_WORKERS
-explanation subject.NotVerified = NOT_VERIFIED
-explanation subject.BadListing = BAD_LISTING
-explanation subject.OutOfMemory = OUT_OF_MEMORY
-explanation subject.WriteFailed = WRITE_FAILED
-explanation subject.OutOfReserve = OUT_OF_RESERVE
-explanation subject.BadSize = BAD_SIZE
-explanation subject.CommandLine = COMMAND_LINE
-explanation subject.UnreadableFile = UNREADABLE_FILE
-explanation subject.Overflow = OVERFLOW
-explanation subject.DivideByZero = DIVIDE_BY_ZERO
-explanation subject.OutOfRange = OUT_OF_RANGE
-explanation subject.TooWide = TOO_WIDE
-explanation subject.ReadConflict = READ_CONFLICT
-explanation subject.WriteConflict = WRITE_CONFLICT
+explanation (subject.Refusal n) = refusal_explained n
+explanation (subject.Fault k) = fault_explained k
 explanation subject.Check = CHECK
 explanation subject.Plan = PLAN
 explanation subject.Meaning = MEANING

@@ -2,6 +2,7 @@
 
 ghost use Rattle.std.specs.Prelude.{◌≡◌};
 ghost use Rattle.text_out.specs.Out.{Writes};
+ghost use Rattle.explanations.specs.Explained as spec;
 ghost use Rattle.explanations.specs.Explained.{explanation};
 
 use crate::commands::{CHECK, COST, EXPAND, EXPLAIN, MEANING, PLAN, RULES, STEPS};
@@ -18,39 +19,57 @@ use crate::scopes::{COMPARE, EXPLORE, EXPORT};
 use crate::subject::Subject;
 use crate::texts::{BAD_SIZE, BAD_TOKEN, NOT_ASCII, SYNTAX, TEXT_TOO_LONG, TOO_DEEP};
 use crate::workers::{EXEC, RUN, TRACE};
+use pram_values::Kind;
+use program_texts::Number;
 use text_out::{Out, WriteFault};
+
+fn refusal_explained(number: Number) -> &'static [u8]
+    ensures { result.now ≡ spec.refusal_explained number }
+{
+    match number {
+        Number::NotAscii => &NOT_ASCII,
+        Number::TextTooLong => &TEXT_TOO_LONG,
+        Number::BadToken => &BAD_TOKEN,
+        Number::Syntax => &SYNTAX,
+        Number::TooDeep => &TOO_DEEP,
+        Number::UnknownName => &UNKNOWN_NAME,
+        Number::DoubleName => &DOUBLE_NAME,
+        Number::WrongKind => &WRONG_KIND,
+        Number::AssignedLoopVariable => &ASSIGNED_LOOP_VARIABLE,
+        Number::Limit => &LIMIT,
+        Number::InputTooLong => &INPUT_TOO_LONG,
+        Number::BadMap => &BAD_MAP,
+        Number::BadWorkers => &BAD_WORKERS,
+        Number::NotVerified => &NOT_VERIFIED,
+        Number::BadListing => &BAD_LISTING,
+        Number::OutOfMemory => &OUT_OF_MEMORY,
+        Number::WriteFailed => &WRITE_FAILED,
+        Number::OutOfReserve => &OUT_OF_RESERVE,
+        Number::BadSize => &BAD_SIZE,
+        Number::CommandLine => &COMMAND_LINE,
+        Number::UnreadableFile => &UNREADABLE_FILE,
+    }
+}
+
+fn fault_explained(kind: Kind) -> &'static [u8]
+    ensures { result.now ≡ spec.fault_explained kind }
+{
+    match kind {
+        Kind::Overflow => &OVERFLOW,
+        Kind::DivideByZero => &DIVIDE_BY_ZERO,
+        Kind::OutOfRange => &OUT_OF_RANGE,
+        Kind::TooWide => &TOO_WIDE,
+        Kind::ReadConflict => &READ_CONFLICT,
+        Kind::WriteConflict => &WRITE_CONFLICT,
+    }
+}
 
 fn explanation_of(subject: Subject) -> &'static [u8]
     ensures { result.now ≡ explanation subject }
 {
     match subject {
-        Subject::NotAscii => &NOT_ASCII,
-        Subject::TextTooLong => &TEXT_TOO_LONG,
-        Subject::BadToken => &BAD_TOKEN,
-        Subject::Syntax => &SYNTAX,
-        Subject::TooDeep => &TOO_DEEP,
-        Subject::UnknownName => &UNKNOWN_NAME,
-        Subject::DoubleName => &DOUBLE_NAME,
-        Subject::WrongKind => &WRONG_KIND,
-        Subject::AssignedLoopVariable => &ASSIGNED_LOOP_VARIABLE,
-        Subject::Limit => &LIMIT,
-        Subject::InputTooLong => &INPUT_TOO_LONG,
-        Subject::BadMap => &BAD_MAP,
-        Subject::BadWorkers => &BAD_WORKERS,
-        Subject::NotVerified => &NOT_VERIFIED,
-        Subject::BadListing => &BAD_LISTING,
-        Subject::OutOfMemory => &OUT_OF_MEMORY,
-        Subject::WriteFailed => &WRITE_FAILED,
-        Subject::OutOfReserve => &OUT_OF_RESERVE,
-        Subject::BadSize => &BAD_SIZE,
-        Subject::CommandLine => &COMMAND_LINE,
-        Subject::UnreadableFile => &UNREADABLE_FILE,
-        Subject::Overflow => &OVERFLOW,
-        Subject::DivideByZero => &DIVIDE_BY_ZERO,
-        Subject::OutOfRange => &OUT_OF_RANGE,
-        Subject::TooWide => &TOO_WIDE,
-        Subject::ReadConflict => &READ_CONFLICT,
-        Subject::WriteConflict => &WRITE_CONFLICT,
+        Subject::Refusal(number) => refusal_explained(number),
+        Subject::Fault(kind) => fault_explained(kind),
         Subject::Check => &CHECK,
         Subject::Plan => &PLAN,
         Subject::Meaning => &MEANING,

@@ -3,63 +3,16 @@
 ghost use Rattle.std.specs.Prelude.{◌≡◌, IfSome, None};
 ghost use Rattle.explanations.specs.Explained.{Names, NamesNothing, subject_word};
 
+use pram_values::Kind;
+use program_texts::{Number, kind_word};
+
 /// What is explained: a refusal, a kind of fault, a command, the language, the options, or everything at once.
 #[derive(Clone, Copy, Debug, PartialEq, Eq)]
 pub enum Subject {
-    /// `E1`.
-    NotAscii,
-    /// `E2`.
-    TextTooLong,
-    /// `E3`.
-    BadToken,
-    /// `E4`.
-    Syntax,
-    /// `E5`.
-    TooDeep,
-    /// `E6`.
-    UnknownName,
-    /// `E7`.
-    DoubleName,
-    /// `E8`.
-    WrongKind,
-    /// `E9`.
-    AssignedLoopVariable,
-    /// `E10`.
-    Limit,
-    /// `E11`.
-    InputTooLong,
-    /// `E12`.
-    BadMap,
-    /// `E13`.
-    BadWorkers,
-    /// `E14`.
-    NotVerified,
-    /// `E15`.
-    BadListing,
-    /// `E16`.
-    OutOfMemory,
-    /// `E17`.
-    WriteFailed,
-    /// `E18`.
-    OutOfReserve,
-    /// `E19`.
-    BadSize,
-    /// `P1`.
-    CommandLine,
-    /// `P2`.
-    UnreadableFile,
-    /// `overflow`.
-    Overflow,
-    /// `divide-by-zero`.
-    DivideByZero,
-    /// `out-of-range`.
-    OutOfRange,
-    /// `too-wide`.
-    TooWide,
-    /// `read-conflict`.
-    ReadConflict,
-    /// `write-conflict`.
-    WriteConflict,
+    /// A refusal: its number, as `E6`.
+    Refusal(Number),
+    /// A kind of fault: its name, as `overflow`.
+    Fault(Kind),
     /// `check`.
     Check,
     /// `plan`.
@@ -97,33 +50,33 @@ pub enum Subject {
 }
 
 const SUBJECTS: [Subject; 44] = [
-    Subject::NotAscii,
-    Subject::TextTooLong,
-    Subject::BadToken,
-    Subject::Syntax,
-    Subject::TooDeep,
-    Subject::UnknownName,
-    Subject::DoubleName,
-    Subject::WrongKind,
-    Subject::AssignedLoopVariable,
-    Subject::Limit,
-    Subject::InputTooLong,
-    Subject::BadMap,
-    Subject::BadWorkers,
-    Subject::NotVerified,
-    Subject::BadListing,
-    Subject::OutOfMemory,
-    Subject::WriteFailed,
-    Subject::OutOfReserve,
-    Subject::BadSize,
-    Subject::CommandLine,
-    Subject::UnreadableFile,
-    Subject::Overflow,
-    Subject::DivideByZero,
-    Subject::OutOfRange,
-    Subject::TooWide,
-    Subject::ReadConflict,
-    Subject::WriteConflict,
+    Subject::Refusal(Number::NotAscii),
+    Subject::Refusal(Number::TextTooLong),
+    Subject::Refusal(Number::BadToken),
+    Subject::Refusal(Number::Syntax),
+    Subject::Refusal(Number::TooDeep),
+    Subject::Refusal(Number::UnknownName),
+    Subject::Refusal(Number::DoubleName),
+    Subject::Refusal(Number::WrongKind),
+    Subject::Refusal(Number::AssignedLoopVariable),
+    Subject::Refusal(Number::Limit),
+    Subject::Refusal(Number::InputTooLong),
+    Subject::Refusal(Number::BadMap),
+    Subject::Refusal(Number::BadWorkers),
+    Subject::Refusal(Number::NotVerified),
+    Subject::Refusal(Number::BadListing),
+    Subject::Refusal(Number::OutOfMemory),
+    Subject::Refusal(Number::WriteFailed),
+    Subject::Refusal(Number::OutOfReserve),
+    Subject::Refusal(Number::BadSize),
+    Subject::Refusal(Number::CommandLine),
+    Subject::Refusal(Number::UnreadableFile),
+    Subject::Fault(Kind::Overflow),
+    Subject::Fault(Kind::DivideByZero),
+    Subject::Fault(Kind::OutOfRange),
+    Subject::Fault(Kind::TooWide),
+    Subject::Fault(Kind::ReadConflict),
+    Subject::Fault(Kind::WriteConflict),
     Subject::Check,
     Subject::Plan,
     Subject::Meaning,
@@ -148,33 +101,8 @@ fn word_of(subject: Subject) -> &'static str
     ensures { result.now ≡ subject_word subject }
 {
     match subject {
-        Subject::NotAscii => "E1",
-        Subject::TextTooLong => "E2",
-        Subject::BadToken => "E3",
-        Subject::Syntax => "E4",
-        Subject::TooDeep => "E5",
-        Subject::UnknownName => "E6",
-        Subject::DoubleName => "E7",
-        Subject::WrongKind => "E8",
-        Subject::AssignedLoopVariable => "E9",
-        Subject::Limit => "E10",
-        Subject::InputTooLong => "E11",
-        Subject::BadMap => "E12",
-        Subject::BadWorkers => "E13",
-        Subject::NotVerified => "E14",
-        Subject::BadListing => "E15",
-        Subject::OutOfMemory => "E16",
-        Subject::WriteFailed => "E17",
-        Subject::OutOfReserve => "E18",
-        Subject::BadSize => "E19",
-        Subject::CommandLine => "P1",
-        Subject::UnreadableFile => "P2",
-        Subject::Overflow => "overflow",
-        Subject::DivideByZero => "divide-by-zero",
-        Subject::OutOfRange => "out-of-range",
-        Subject::TooWide => "too-wide",
-        Subject::ReadConflict => "read-conflict",
-        Subject::WriteConflict => "write-conflict",
+        Subject::Refusal(number) => number.code(),
+        Subject::Fault(kind) => kind_word(kind),
         Subject::Check => "check",
         Subject::Plan => "plan",
         Subject::Meaning => "meaning",

@@ -7,10 +7,6 @@ use Rattle.std.specs.List.{flat_map}
 use Rattle.json_lines.specs.Small.{IsReadable, IsSmall}
 use Rattle.json_lines.proofs.Small.{AreSmall, HasSmall, has_all, small_count, small_flag, small_large, small_letters}
 use Rattle.json_lines.proofs.Small.{small_list, small_map, small_object, small_value, small_values, small_word, smaller}
-use Rattle.pram_tokens.specs.declared.error.TextFault.{TextFault}
-use Rattle.pram_tokens.specs.declared.error.TextFault.TheVariants as text
-use Rattle.pram_names.specs.declared.fault.Cause.{Cause}
-use Rattle.pram_names.specs.declared.fault.Cause.TheVariants as cause
 use Rattle.pram_model.specs.Layout.{SharedEntry, subscripts}
 use Rattle.pram_model.specs.declared.rule.Rule.{Rule}
 use Rattle.pram_check.specs.Checked.{Checked}
@@ -19,7 +15,6 @@ use Rattle.write_rules.specs.Verdict.{Verdict, Ended, Faulted, GoesOn}
 use Rattle.costs.specs.declared.cost.Cost.{Cost}
 use Rattle.costs.specs.declared.line_cost.LineCost.{LineCost}
 use Rattle.program_texts.specs.declared.from_text.Refusal.{Refusal}
-use Rattle.program_texts.specs.declared.from_text.Refusal.TheVariants as refusal
 use Rattle.program_texts.specs.declared.stop.Stop.{Stop}
 use Rattle.program_texts.specs.declared.stop.Stop.TheVariants as stop
 use Rattle.comparing.specs.Compared.{declares, finding_of, rules}
@@ -39,7 +34,9 @@ use Rattle.memory_texts.specs.declared.choice.Choice.{Choice}
 use Rattle.memory_texts.specs.declared.choice.Choice.TheVariants.{All}
 use Rattle.json_texts.specs.OutcomeFacts.{bounds_fields, chosen_facts, chosen_fields, entry_facts, fault_fields, memory_facts}
 use Rattle.json_texts.specs.OutcomeFacts.{opening_facts, outcome_facts, outcome_fields}
-use Rattle.json_texts.specs.RefusalFacts.{cause_fields, place_fields, reason_fields, stop_fields, text_fields, told_place}
+use Rattle.json_texts.specs.RefusalFacts.{limit_fields, place_fields, reason_fields, stop_fields, told_place}
+use Rattle.program_texts.specs.Stopped.{limit_of}
+use Rattle.pram_names.specs.declared.fault.Limit.{Limit}
 use Rattle.json_texts.specs.RuleFacts.{comparison_facts, declared_fields, finding_fields, rule_facts}
 use Rattle.json_texts.specs.ActFacts.{act_facts, cell_fact, position_fact, processor_fact, value_fact, write_fact, written_fact}
 use Rattle.json_texts.specs.CauseFacts.{beyond_fields, known_fields, why_fields, write_facts}
@@ -108,29 +105,12 @@ small_place : (source : List ℕ) (place : Option ℕ) → HasSmall 3 (place_fie
 small_place source None = tt
 small_place source (Some at) = (small_count 3 at, (small_count 3 _, (small_count 3 _, tt)))
 
-small_text : (fault : TextFault) → HasSmall 3 (text_fields fault)
-small_text (text.NotAscii at) = (small_word 3 _, (small_word 3 _, tt))
-small_text text.TextTooLong = (small_word 3 _, (small_word 3 _, tt))
-small_text (text.BadToken at) = (small_word 3 _, (small_word 3 _, tt))
-small_text (text.Syntax at) = (small_word 3 _, (small_word 3 _, tt))
-small_text (text.TooDeep at) = (small_word 3 _, (small_word 3 _, tt))
-small_text text.OutOfMemory = (small_word 3 _, (small_word 3 _, tt))
-
-small_cause : (c : Cause) → HasSmall 3 (cause_fields c)
-small_cause cause.UnknownName = (small_word 3 _, (small_word 3 _, tt))
-small_cause cause.DoubleName = (small_word 3 _, (small_word 3 _, tt))
-small_cause cause.WrongKind = (small_word 3 _, (small_word 3 _, tt))
-small_cause cause.AssignedLoopVariable = (small_word 3 _, (small_word 3 _, tt))
-small_cause (cause.Limit l) = (small_word 3 _, (small_word 3 _, (small_word 3 _, tt)))
+small_limit : (limit : Option Limit) → HasSmall 3 (limit_fields limit)
+small_limit None = tt
+small_limit (Some l) = (small_word 3 _, tt)
 
 small_reason : (r : Refusal) → HasSmall 3 (reason_fields r)
-small_reason (refusal.Text fault) = small_text fault
-small_reason (refusal.Program breach) = small_cause breach.cause
-small_reason refusal.InputTooLong = (small_word 3 _, (small_word 3 _, tt))
-small_reason refusal.BadMap = (small_word 3 _, (small_word 3 _, tt))
-small_reason refusal.BadWorkers = (small_word 3 _, (small_word 3 _, tt))
-small_reason refusal.OutOfMemory = (small_word 3 _, (small_word 3 _, tt))
-small_reason refusal.OutOfReserve = (small_word 3 _, (small_word 3 _, tt))
+small_reason r = (small_word 3 _, (small_word 3 _, small_limit (limit_of r)))
 
 pub small_stop : (source : List ℕ) (why : Stop) → HasSmall 3 (stop_fields source why)
 small_stop source (stop.Words message) = (small_word 3 _, (small_word 3 _, tt))

@@ -7,40 +7,13 @@ ghost use Rattle.text_out.specs.Out.{Writes};
 ghost use Rattle.program_texts.specs.Shown as texts;
 ghost use Rattle.json_texts.specs.OutcomeFacts as spec;
 
-use itoa::Buffer as Digits;
 use json_lines::Object;
 use pram_trees::Layout;
-use pram_values::{Kind, Place};
-use program_texts::write_cell;
+use pram_values::Place;
+use program_texts::{kind_word, write_cell, write_place};
 use std::alloc::{AllocError, Global};
 use text_out::{Buffer, Out, WriteFault};
 use write_rules::Fault;
-
-fn kind_word(kind: Kind) -> &'static str
-    ensures { result.now ≡ texts.kind_text kind }
-{
-    match kind {
-        Kind::Overflow => "overflow",
-        Kind::DivideByZero => "divide-by-zero",
-        Kind::OutOfRange => "out-of-range",
-        Kind::TooWide => "too-wide",
-        Kind::ReadConflict => "read-conflict",
-        Kind::WriteConflict => "write-conflict",
-    }
-}
-
-fn write_place<W: Out>(out: &mut W, layout: &Layout, place: Place) -> Result<(), WriteFault>
-    ensures written { Writes (W.Out.state out.old) (W.Out.state out.new) (texts.place_text layout.now place) result }
-{
-    match place {
-        Place::All => out.write_all(b"all"),
-        Place::Processor(index) => {
-            let mut digits = Digits::new();
-            out.write_parts(&[b"processor ", digits.format(index).as_bytes()])
-        }
-        Place::Cell(cell) => write_cell(out, layout, cell as usize),
-    }
-}
 
 // A buffer with the text of a place.
 fn place_text(alloc: Global, layout: &Layout, place: Place) -> Result<Buffer, AllocError>

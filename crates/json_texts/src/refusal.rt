@@ -8,19 +8,19 @@ ghost use Rattle.program_texts.specs.Stopped as texts;
 ghost use Rattle.json_texts.specs.RefusalFacts as spec;
 
 use json_lines::Object;
-use pram_check::{Cause, Limit, Spot};
+use pram_check::{Limit, Spot};
 use pram_trees::TextFault;
-use program_texts::{Refusal, Stop};
+use program_texts::{Number, Refusal, Stop, limit_word};
 use sized_texts::{Reason, reason_word};
 use std::alloc::AllocError;
 use text_places::place_of;
 
 // The number and the name.
-fn put_named(object: &mut Object, number: &str, name: &str) -> Result<(), AllocError>
-    ensures { OnOk result (shown object.new ≡ with_fields (spec.named number.now name.now) (shown object.old)) }
+fn put_named(object: &mut Object, number: Number) -> Result<(), AllocError>
+    ensures { OnOk result (shown object.new ≡ with_fields (spec.named number) (shown object.old)) }
 {
-    object.put_word("refused", number)?;
-    object.put_word("name", name)
+    object.put_word("refused", number.code())?;
+    object.put_word("name", number.name())
 }
 
 // The offset of a place, its line and its column.
@@ -42,62 +42,20 @@ fn put_place(object: &mut Object, source: &[u8], place: Option<usize>) -> Result
     }
 }
 
-fn put_text_fault(object: &mut Object, fault: TextFault) -> Result<(), AllocError>
-    ensures { OnOk result (shown object.new ≡ with_fields (spec.text_fields fault) (shown object.old)) }
-{
-    match fault {
-        TextFault::NotAscii(_) => put_named(object, "E1", "NotAscii"),
-        TextFault::TextTooLong => put_named(object, "E2", "TextTooLong"),
-        TextFault::BadToken(_) => put_named(object, "E3", "BadToken"),
-        TextFault::Syntax(_) => put_named(object, "E4", "Syntax"),
-        TextFault::TooDeep(_) => put_named(object, "E5", "TooDeep"),
-        TextFault::OutOfMemory => put_named(object, "E16", "OutOfMemory"),
-    }
-}
-
-fn limit_word(limit: Limit) -> &'static str
-    ensures { result.now ≡ spec.limit_word limit }
+fn put_limit(object: &mut Object, limit: Option<Limit>) -> Result<(), AllocError>
+    ensures { OnOk result (shown object.new ≡ with_fields (spec.limit_fields limit) (shown object.old)) }
 {
     match limit {
-        Limit::Cells => "cells",
-        Limit::Procs => "procs",
-        Limit::Bounds => "bounds",
-        Limit::Reads => "reads",
-        Limit::Tokens => "tokens",
-    }
-}
-
-fn put_limit(object: &mut Object, limit: Limit) -> Result<(), AllocError>
-    ensures { OnOk result (shown object.new ≡ with_fields (spec.cause_fields (Cause.Limit limit)) (shown object.old)) }
-{
-    put_named(object, "E10", "Limit")?;
-    object.put_word("limit", limit_word(limit))
-}
-
-fn put_cause(object: &mut Object, cause: Cause) -> Result<(), AllocError>
-    ensures { OnOk result (shown object.new ≡ with_fields (spec.cause_fields cause) (shown object.old)) }
-{
-    match cause {
-        Cause::UnknownName => put_named(object, "E6", "UnknownName"),
-        Cause::DoubleName => put_named(object, "E7", "DoubleName"),
-        Cause::WrongKind => put_named(object, "E8", "WrongKind"),
-        Cause::AssignedLoopVariable => put_named(object, "E9", "AssignedLoopVariable"),
-        Cause::Limit(limit) => put_limit(object, limit),
+        None => Ok(()),
+        Some(limit) => object.put_word("limit", limit_word(limit)),
     }
 }
 
 fn put_reason(object: &mut Object, refusal: Refusal) -> Result<(), AllocError>
     ensures { OnOk result (shown object.new ≡ with_fields (spec.reason_fields refusal) (shown object.old)) }
 {
-    match refusal {
-        Refusal::Text(fault) => put_text_fault(object, fault),
-        Refusal::Program(breach) => put_cause(object, breach.cause),
-        Refusal::InputTooLong => put_named(object, "E11", "InputTooLong"),
-        Refusal::BadMap => put_named(object, "E12", "BadMap"),
-        Refusal::BadWorkers => put_named(object, "E13", "BadWorkers"),
-        Refusal::OutOfMemory => put_named(object, "E16", "OutOfMemory"),
-        Refusal::OutOfReserve => put_named(object, "E18", "OutOfReserve"),
-    }
+    put_named(object, refusal.number())?;
+    put_limit(object, refusal.limit())
 }
 
 fn text_place(fault: TextFault) -> Option<usize>
@@ -146,7 +104,7 @@ fn put_refusal(object: &mut Object, source: &[u8], refusal: Refusal) -> Result<(
 fn put_unverified(object: &mut Object, at: u32, reason: &str) -> Result<(), AllocError>
     ensures { OnOk result (shown object.new ≡ with_fields (spec.unverified_fields at reason.now) (shown object.old)) }
 {
-    put_named(object, "E14", "NotVerified")?;
+    put_named(object, Number::NotVerified)?;
     object.put_count("instruction", u64::from(at))?;
     object.put_word("reason", reason)
 }
@@ -154,7 +112,7 @@ fn put_unverified(object: &mut Object, at: u32, reason: &str) -> Result<(), Allo
 fn put_bad_listing(object: &mut Object, source: &[u8], at: u32) -> Result<(), AllocError>
     ensures { OnOk result (shown object.new ≡ with_fields (spec.stop_fields source.now (Stop.BadListing at)) (shown object.old)) }
 {
-    put_named(object, "E15", "BadListing")?;
+    put_named(object, Number::BadListing)?;
     put_offset(object, source, at as usize)
 }
 
@@ -166,16 +124,16 @@ fn put_bad_size(
 ) -> Result<(), AllocError>
     ensures { OnOk result (shown object.new ≡ with_fields (spec.size_fields source.now at reason) (shown object.old)) }
 {
-    put_named(object, "E19", "BadSize")?;
+    put_named(object, Number::BadSize)?;
     object.put_word("reason", reason_word(reason))?;
     put_offset(object, source, at as usize)
 }
 
 // A word of the command line, or a file, that was refused.
-fn put_about(object: &mut Object, number: &str, name: &str, word: &str) -> Result<(), AllocError>
-    ensures { OnOk result (shown object.new ≡ with_fields (spec.about number.now name.now word.now) (shown object.old)) }
+fn put_about(object: &mut Object, number: Number, name: &str, word: &str) -> Result<(), AllocError>
+    ensures { OnOk result (shown object.new ≡ with_fields (spec.about number name.now word.now) (shown object.old)) }
 {
-    object.put_word("refused", number)?;
+    object.put_word("refused", number.code())?;
     object.put_word(name, word)
 }
 
@@ -188,13 +146,13 @@ pub(crate) fn put_stop(
     ensures { OnOk result (shown object.new ≡ with_fields (spec.stop_fields source.now stop.now) (shown object.old)) }
 {
     match stop {
-        Stop::Words(message) => put_about(object, "P1", "message", message.as_str()),
-        Stop::Number(word) => put_about(object, "P1", "word", word),
-        Stop::Unreadable(file) => put_about(object, "P2", "file", file),
+        Stop::Words(message) => put_about(object, Number::CommandLine, "message", message.as_str()),
+        Stop::Number(word) => put_about(object, Number::CommandLine, "word", word),
+        Stop::Unreadable(file) => put_about(object, Number::UnreadableFile, "file", file),
         Stop::Refused(refusal) => put_refusal(object, source, *refusal),
         Stop::NotVerified(at, reason) => put_unverified(object, *at, reason),
         Stop::BadListing(at) => put_bad_listing(object, source, *at),
-        Stop::WriteFailed => put_named(object, "E17", "WriteFailed"),
+        Stop::WriteFailed => put_named(object, Number::WriteFailed),
         Stop::BadSize(at, reason) => put_bad_size(object, source, *at, *reason),
     }
 }

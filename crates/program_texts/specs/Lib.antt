@@ -1,3 +1,4 @@
+pub mod Numbers
 pub mod Report
 pub mod Shown
 pub mod Status

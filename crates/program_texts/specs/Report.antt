@@ -12,8 +12,8 @@ use Rattle.pram_names.specs.Breaches.{breaches, first}
 use Rattle.pram_check.specs.Checked.{Checked, IsResolved}
 use Rattle.pram_check.specs.Faults.{IsAccepted}
 use Rattle.write_rules.specs.Verdict.{Verdict}
-use Rattle.pram_meaning.specs.declared.reference.MeaningRefusal.{MeaningRefusal}
-use Rattle.pram_meaning.specs.declared.reference.MeaningRefusal.TheVariants as no_meaning
+use Rattle.pram_meaning.specs.declared.observation.MeaningRefusal.{MeaningRefusal}
+use Rattle.pram_meaning.specs.declared.observation.MeaningRefusal.TheVariants as no_meaning
 use Rattle.pram_meaning.specs.Outcome.{IsOutcome}
 use Rattle.program_texts.specs.declared.from_text.Refusal.{Refusal}
 use Rattle.program_texts.specs.declared.from_text.Refusal.TheVariants as refusal

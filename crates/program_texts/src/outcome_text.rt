@@ -81,12 +81,14 @@ pub fn write_fault_text<W: Out>(
     ensures written { Writes (W.Out.state out.old) (W.Out.state out.new) (shown.fault_text layout.now fault.now) result }
 {
     let mut digits = Buffer::new();
-    out.write_parts(&[b"fault ", kind_word(fault.kind), b" "])?;
+    out.write_parts(&[b"fault ", kind_bytes(fault.kind), b" "])?;
     write_place(out, layout, fault.place)?;
     out.write_parts(&[b" line ", digits.format(fault.line).as_bytes()])
 }
 
-fn write_place<W: Out>(out: &mut W, layout: &Layout, place: Place) -> Result<(), WriteFault>
+/// Writes the place of a fault: `all`, `processor 3`, or a cell, as `a[1]`. The error is that the writer failed (E17).
+pub fn write_place<W: Out>(out: &mut W, layout: &Layout, place: Place) -> Result<(), WriteFault>
+    // Exactly the place's text is written, or a beginning of it and then a failure.
     ensures written { Writes (W.Out.state out.old) (W.Out.state out.new) (shown.place_text layout.now place) result }
 {
     match place {
@@ -99,15 +101,23 @@ fn write_place<W: Out>(out: &mut W, layout: &Layout, place: Place) -> Result<(),
     }
 }
 
-fn kind_word(kind: Kind) -> &'static [u8]
+/// The word of a kind of fault, as `read-conflict`.
+pub fn kind_word(kind: Kind) -> &'static str
+    // It is the word by which a fault of that kind is told.
     ensures { result.now ≡ shown.kind_text kind }
 {
     match kind {
-        Kind::Overflow => b"overflow",
-        Kind::DivideByZero => b"divide-by-zero",
-        Kind::OutOfRange => b"out-of-range",
-        Kind::TooWide => b"too-wide",
-        Kind::ReadConflict => b"read-conflict",
-        Kind::WriteConflict => b"write-conflict",
+        Kind::Overflow => "overflow",
+        Kind::DivideByZero => "divide-by-zero",
+        Kind::OutOfRange => "out-of-range",
+        Kind::TooWide => "too-wide",
+        Kind::ReadConflict => "read-conflict",
+        Kind::WriteConflict => "write-conflict",
     }
+}
+
+fn kind_bytes(kind: Kind) -> &'static [u8]
+    ensures { result.now ≡ shown.kind_text kind }
+{
+    kind_word(kind).as_bytes()
 }

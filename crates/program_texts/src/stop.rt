@@ -3,11 +3,13 @@
 ghost use Rattle.std.specs.Prelude.{◌≡◌};
 ghost use Rattle.text_out.specs.Out.{Writes};
 ghost use Rattle.program_texts.specs.Stopped as stopped;
-ghost use Rattle.program_texts.specs.StoppedFields.{bad_size_line, name_end, named_line, stop_text, unverified_line};
+ghost use Rattle.program_texts.specs.Numbers as numbers;
+ghost use Rattle.program_texts.specs.StoppedFields.{name_end, named_front, named_line, reason_line, reason_text, stop_text};
 ghost use Rattle.program_texts.specs.declared.stop.Stop.TheVariants.{Refused, WriteFailed};
 ghost use Rattle.program_texts.specs.declared.from_text.Refusal.TheVariants.{OutOfMemory};
 
 use crate::from_text::Refusal;
+use crate::number::Number;
 use itoa::Buffer;
 use pram_check::{Breach, Cause, Limit, Spot};
 use pram_trees::TextFault;
@@ -17,9 +19,6 @@ use std::fmt;
 use text_out::{Out, WriteFault};
 use text_places::write_escaped;
 use thiserror::Error;
-
-// Want of memory has one spelling, whoever asked.
-const OUT_OF_MEMORY: &str = "E16 OutOfMemory";
 
 /// Why a call of the program comes to no end of its own. Its text is what `write_stop` writes, but
 /// for the word `refused` and the end of the line, and with control bytes of a word or a name as they are.
@@ -83,13 +82,17 @@ pub fn write_stop<W: Out>(out: &mut W, stop: &Stop<'_>) -> Result<(), WriteFault
 {
     match stop {
         Stop::Words(text) => out.write_all(text.as_bytes()),
-        Stop::Number(word) => write_named(out, b"refused P1 ", word.as_bytes()),
-        Stop::Unreadable(name) => write_named(out, b"refused P2 ", name.as_bytes()),
+        Stop::Number(word) => write_named(out, Number::CommandLine, word.as_bytes()),
+        Stop::Unreadable(name) => write_named(out, Number::UnreadableFile, name.as_bytes()),
         Stop::Refused(refusal) => write_refusal(out, *refusal),
-        Stop::NotVerified(at, reason) => write_unverified(out, *at, reason),
-        Stop::BadListing(at) => write_refused(out, "E15 BadListing", Some(*at)),
-        Stop::WriteFailed => out.write_all(b"refused E17 WriteFailed\n"),
-        Stop::BadSize(at, reason) => write_bad_size(out, *at, *reason),
+        Stop::NotVerified(at, reason) => {
+            write_reason(out, Number::NotVerified, *at, reason.as_bytes())
+        }
+        Stop::BadListing(at) => write_refused(out, Number::BadListing, None, Some(*at)),
+        Stop::WriteFailed => write_refused(out, Number::WriteFailed, None, None),
+        Stop::BadSize(at, reason) => {
+            write_reason(out, Number::BadSize, *at, reason_word(*reason).as_bytes())
+        }
     }
 }
 
@@ -100,137 +103,157 @@ fn write_name<W: Out>(out: &mut W, name: &[u8]) -> Result<(), WriteFault>
     out.write_all(b"\n")
 }
 
-// `refused P2 sum.pram`, on one line whatever stands in the name.
-fn write_named<W: Out>(out: &mut W, front: &[u8], name: &[u8]) -> Result<(), WriteFault>
-    ensures written { Writes (W.Out.state out.old) (W.Out.state out.new) (named_line front.now name.now) result }
+fn write_named_front<W: Out>(out: &mut W, number: Number) -> Result<(), WriteFault>
+    ensures written { Writes (W.Out.state out.old) (W.Out.state out.new) (named_front number) result }
 {
-    out.write_all(front)?;
+    out.write_parts(&[b"refused ", number.code().as_bytes(), b" "])
+}
+
+// `refused P2 sum.pram`, on one line whatever stands in the name.
+fn write_named<W: Out>(out: &mut W, number: Number, name: &[u8]) -> Result<(), WriteFault>
+    ensures written { Writes (W.Out.state out.old) (W.Out.state out.new) (named_line number name.now) result }
+{
+    write_named_front(out, number)?;
     write_name(out, name)
 }
 
-// `refused E14 NotVerified at 0 exchange`.
-fn write_unverified<W: Out>(out: &mut W, at: u32, reason: &str) -> Result<(), WriteFault>
-    ensures written { Writes (W.Out.state out.old) (W.Out.state out.new) (unverified_line at reason.now) result }
+// `refused E6 UnknownName`, or `refused E10 Limit cells`.
+fn write_front<W: Out>(
+    out: &mut W,
+    number: Number,
+    detail: &Option<Limit>,
+) -> Result<(), WriteFault>
+    ensures written { Writes (W.Out.state out.old) (W.Out.state out.new)
+        (stopped.refused_front number (stopped.detail_text detail.now)) result }
 {
-    let mut digits = Buffer::new();
-    out.write_parts(&[
-        b"refused E14 NotVerified at ",
-        digits.format(at).as_bytes(),
-        b" ",
-        reason.as_bytes(),
-        b"\n",
-    ])
+    let (code, name) = (number.code().as_bytes(), number.name().as_bytes());
+    match detail {
+        None => out.write_parts(&[b"refused ", code, b" ", name]),
+        Some(limit) => {
+            let word = limit_word(*limit).as_bytes();
+            out.write_parts(&[b"refused ", code, b" ", name, b" ", word])
+        }
+    }
 }
 
-// `refused E19 BadSize at 12 unknown`.
-fn write_bad_size<W: Out>(out: &mut W, at: u32, reason: Reason) -> Result<(), WriteFault>
-    ensures written { Writes (W.Out.state out.old) (W.Out.state out.new) (bad_size_line at reason) result }
+fn write_place<W: Out>(out: &mut W, place: Option<u32>) -> Result<(), WriteFault>
+    ensures written { Writes (W.Out.state out.old) (W.Out.state out.new) (stopped.place_text place) result }
+{
+    match place {
+        None => out.write_all(b"\n"),
+        Some(at) => {
+            let mut digits = Buffer::new();
+            out.write_parts(&[b" at ", digits.format(at).as_bytes(), b"\n"])
+        }
+    }
+}
+
+// ` at 12 unknown`.
+fn write_reason_text<W: Out>(out: &mut W, at: u32, reason: &[u8]) -> Result<(), WriteFault>
+    ensures written { Writes (W.Out.state out.old) (W.Out.state out.new) (reason_text at reason.now) result }
 {
     let mut digits = Buffer::new();
-    out.write_parts(&[
-        b"refused E19 BadSize at ",
-        digits.format(at).as_bytes(),
-        b" ",
-        reason_word(reason).as_bytes(),
-        b"\n",
-    ])
+    out.write_parts(&[b" at ", digits.format(at).as_bytes(), b" ", reason, b"\n"])
+}
+
+// `refused E14 NotVerified at 0 exchange`, or `refused E19 BadSize at 12 unknown`.
+fn write_reason<W: Out>(
+    out: &mut W,
+    number: Number,
+    at: u32,
+    reason: &[u8],
+) -> Result<(), WriteFault>
+    ensures written { Writes (W.Out.state out.old) (W.Out.state out.new) (reason_line number at reason.now) result }
+{
+    write_front(out, number, &None)?;
+    write_reason_text(out, at, reason)
 }
 
 fn write_refusal<W: Out>(out: &mut W, refusal: Refusal) -> Result<(), WriteFault>
-    ensures written { Writes (W.Out.state out.old) (W.Out.state out.new)
-        (stopped.refused_line (stopped.refusal_words refusal) (stopped.refusal_place refusal)) result }
+    ensures written { Writes (W.Out.state out.old) (W.Out.state out.new) (stopped.refused_line (numbers.refusal_number refusal)
+        (stopped.detail_text (stopped.limit_of refusal)) (stopped.refusal_place refusal)) result }
 {
-    let (words, place) = words_of(refusal);
-    write_refused(out, words, place)
+    write_refused(out, refusal.number(), refusal.limit(), place_of(refusal))
 }
 
 // `refused E6 UnknownName at 57`, or the same without a place.
-fn write_refused<W: Out>(out: &mut W, words: &str, place: Option<u32>) -> Result<(), WriteFault>
-    ensures written { Writes (W.Out.state out.old) (W.Out.state out.new) (stopped.refused_line words.now place) result }
+fn write_refused<W: Out>(
+    out: &mut W,
+    number: Number,
+    limit: Option<Limit>,
+    place: Option<u32>,
+) -> Result<(), WriteFault>
+    ensures written { Writes (W.Out.state out.old) (W.Out.state out.new)
+        (stopped.refused_line number (stopped.detail_text limit) place) result }
 {
-    match place {
-        None => out.write_parts(&[b"refused ", words.as_bytes(), b"\n"]),
-        Some(at) => {
-            let mut digits = Buffer::new();
-            out.write_parts(&[
-                b"refused ",
-                words.as_bytes(),
-                b" at ",
-                digits.format(at).as_bytes(),
-                b"\n",
-            ])
-        }
-    }
+    write_front(out, number, &limit)?;
+    write_place(out, place)
 }
 
 // The words by which a refusal is written are its text.
 impl fmt::Display for Refusal {
     fn fmt<W: fmt::Write>(&self, f: &mut fmt::Formatter<W>) -> fmt::Result {
-        let (words, place) = words_of(*self);
-        match place {
-            None => write!(f, "{words}"),
-            Some(at) => write!(f, "{words} at {at}"),
+        let number = self.number();
+        write!(f, "{} {}", number.code(), number.name())?;
+        if let Some(limit) = self.limit() {
+            write!(f, " {}", limit_word(limit))?;
         }
+        if let Some(at) = place_of(*self) {
+            write!(f, " at {at}")?;
+        }
+        Ok(())
     }
 }
 
 impl std::error::Error for Refusal {}
 
-// A refusal's number and name, and the offset where it has one.
-fn words_of(refusal: Refusal) -> (&'static str, Option<u32>)
-    ensures words { result.0.now ≡ stopped.refusal_words refusal }
-    ensures place { result.1 ≡ stopped.refusal_place refusal }
+// The offset of a refusal, where it has one.
+fn place_of(refusal: Refusal) -> Option<u32>
+    ensures { result ≡ stopped.refusal_place refusal }
 {
     match refusal {
-        Refusal::Text(fault) => text_words(fault),
-        Refusal::Program(breach) => breach_words(breach),
-        Refusal::InputTooLong => ("E11 InputTooLong", None),
-        Refusal::BadMap => ("E12 BadMap", None),
-        Refusal::BadWorkers => ("E13 BadWorkers", None),
-        Refusal::OutOfMemory => (OUT_OF_MEMORY, None),
-        Refusal::OutOfReserve => ("E18 OutOfReserve", None),
+        Refusal::Text(fault) => text_place(fault),
+        Refusal::Program(breach) => breach_place(breach),
+        Refusal::InputTooLong
+        | Refusal::BadMap
+        | Refusal::BadWorkers
+        | Refusal::OutOfMemory
+        | Refusal::OutOfReserve => None,
     }
 }
 
-fn text_words(fault: TextFault) -> (&'static str, Option<u32>)
-    ensures words { result.0.now ≡ stopped.text_words fault }
-    ensures place { result.1 ≡ stopped.text_place fault }
+fn text_place(fault: TextFault) -> Option<u32>
+    ensures { result ≡ stopped.text_place fault }
 {
     match fault {
-        TextFault::NotAscii(at) => ("E1 NotAscii", Some(at)),
-        TextFault::TextTooLong => ("E2 TextTooLong", None),
-        TextFault::BadToken(at) => ("E3 BadToken", Some(at)),
-        TextFault::Syntax(at) => ("E4 Syntax", Some(at)),
-        TextFault::TooDeep(at) => ("E5 TooDeep", Some(at)),
-        TextFault::OutOfMemory => (OUT_OF_MEMORY, None),
+        TextFault::NotAscii(at)
+        | TextFault::BadToken(at)
+        | TextFault::Syntax(at)
+        | TextFault::TooDeep(at) => Some(at),
+        TextFault::TextTooLong | TextFault::OutOfMemory => None,
     }
 }
 
-fn breach_words(breach: Breach) -> (&'static str, Option<u32>)
-    ensures words { result.0.now ≡ stopped.cause_words breach.cause }
-    ensures place { result.1 ≡ stopped.cause_place breach.spot breach.cause }
+fn breach_place(breach: Breach) -> Option<u32>
+    ensures { result ≡ stopped.cause_place breach.spot breach.cause }
 {
-    let place = match breach.spot {
-        Spot::Offset(at) => Some(at),
-        Spot::TextEnd => None,
-    };
-    match breach.cause {
-        Cause::UnknownName => ("E6 UnknownName", place),
-        Cause::DoubleName => ("E7 DoubleName", place),
-        Cause::WrongKind => ("E8 WrongKind", place),
-        Cause::AssignedLoopVariable => ("E9 AssignedLoopVariable", place),
-        Cause::Limit(limit) => (limit_words(limit), None),
+    match (breach.cause, breach.spot) {
+        (Cause::Limit(_), _) => None,
+        (_, Spot::Offset(at)) => Some(at),
+        (_, Spot::TextEnd) => None,
     }
 }
 
-fn limit_words(limit: Limit) -> &'static str
-    ensures { result.now ≡ stopped.limit_words limit }
+/// The word of a limit, as `cells`.
+pub fn limit_word(limit: Limit) -> &'static str
+    // It is the word by which the limit is told.
+    ensures { result.now ≡ stopped.limit_word limit }
 {
     match limit {
-        Limit::Cells => "E10 Limit cells",
-        Limit::Procs => "E10 Limit procs",
-        Limit::Bounds => "E10 Limit bounds",
-        Limit::Reads => "E10 Limit reads",
-        Limit::Tokens => "E10 Limit tokens",
+        Limit::Cells => "cells",
+        Limit::Procs => "procs",
+        Limit::Bounds => "bounds",
+        Limit::Reads => "reads",
+        Limit::Tokens => "tokens",
     }
 }

@@ -2,10 +2,12 @@ use Rattle.std.proofs.Common.{refl}
 use Rattle.text_places.proofs.Pieces.{both, stops_in_first}
 use Rattle.program_texts.proofs.stop.write_named.Goals as goal
 
-pub returns-in_err-write_all : goal.returns-in_err-write_all
-returns-in_err-write_all g c = record {
-  written = stops_in_first _ _ _ _ _ c.from_residual.result _ refl c.from_residual.ensures.1 c.in_err-write_all.ensures.written;
+pub returns-in_err-write_named_front : goal.returns-in_err-write_named_front
+returns-in_err-write_named_front g c = record {
+  written = stops_in_first _ _ _ _ _ c.from_residual.result _ refl c.from_residual.ensures.1 c.in_err-write_named_front.ensures.written;
 }
 
 pub returns : goal.returns
-returns g c = record { written = both _ _ _ _ _ _ c.write_name.result refl c.in_ok-write_all.ensures.written c.write_name.ensures.written }
+returns g c = record {
+  written = both _ _ _ _ _ _ c.write_name.result refl c.in_ok-write_named_front.ensures.written c.write_name.ensures.written;
+}
