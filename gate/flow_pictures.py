@@ -24,6 +24,7 @@ MOST = 64
 # where rows and columns stand, and how far before its column a line begins
 LEFT, WIDE, TOP, TALL, BACK, BASE = 168, 100, 310, 24, 60, 4
 ENTRY = re.compile(r"(?:cell (\w+)|array (\w+) (\d+) (\d+))")
+BLACK = "#000000"
 LINE = re.compile(r"M(\d+) (\d+)L(\d+) (\d+)")
 
 
@@ -87,9 +88,9 @@ def shown(root, names):
         elif x is not None and it.get("text-anchor") == "middle":
             column(x)[1].add((cell(int(y) - BASE), it.text))
     for it in root.iter(f"{SVG}path"):
-        line = LINE.fullmatch(it.get("d"))
-        if line:
-            back, start, x, end = map(int, line.groups())
+        back, start, x, end = map(int, LINE.fullmatch(it.get("d")).groups())
+        # others are of the key, and along rows
+        if start >= TOP and it.get("stroke") == BLACK:
             column(x)[2].add((cell(start) if back == x - BACK else None, cell(end)))
     return [(tuple(head), nodes, arrows) for _, (head, nodes, arrows) in sorted(columns.items())]
 
@@ -112,7 +113,8 @@ def wrong(file, *more):
     met = [f"processors {' '.join(it['met'][:12])} " for it in entries if it.get("met")]
     kinds = {it.tag.removeprefix(SVG) for it in root.iter()}
     checks = [labels(root, len(names)) == names, shown(root, names) == columns, all(any(it.startswith(one) for it in texts) for one in met)]
-    checks += [kinds <= {"svg", "rect", "text", "path", "circle"}, root.get("version") == "1.1"]
+    checks += [kinds <= {"svg", "title", "defs", "pattern", "rect", "text", "path", "circle"}, root.get("version") == "1.1"]
+    checks += [root.get("viewBox") == f"0 0 {root.get('width')} {root.get('height')}", root[0].tag == f"{SVG}title"]
     if file.parent == EXAMPLES and file.stem in SHOWN:
         checks.append((EXAMPLES / "flows" / f"{file.stem}.svg").read_text() == text)
     other = [pair for pair in zip(columns, shown(root, names)) if pair[0] != pair[1]][:1]

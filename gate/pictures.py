@@ -4,7 +4,7 @@
 pictures.py PROGRAM: each exchange that is drawn has its number, its kind and its h, and for each worker the words that it sent and
 received, by bars that stand within their column and are as tall as the words are to the most, with the worker's number below; the scale
 has marks for 0, the half and the most, where such bars end; the lines of statements are those that the trace has; the last text says how
-the run came out, and no element but boxes, lines and texts stands there.
+the run came out, no element but boxes, lines and texts stands there, and the picture has a title and fits any window.
 """
 import re
 import subprocess
@@ -19,6 +19,7 @@ from jobs import JOBS
 PROGRAM = Path(sys.argv[1]).resolve()
 SVG = "{http://www.w3.org/2000/svg}"
 LINE = re.compile(r"(\d+) (\w+) sent ((?:\d+ )+)received ((?:\d+ )+)h (\d+)(?: line (\d+))?")
+AXIS = re.compile(r"M\d+ (\d+)L")
 MOST_DRAWN = 200
 
 
@@ -40,12 +41,11 @@ def traced(text):
 
 def bars(root):
     """Each bar's name, its left edge, and how far it goes up and down from the axis."""
-    axis = int(next(root.iter(f"{SVG}line")).get("y1"))
-    for it in root.iter(f"{SVG}rect"):
-        name = it.find(f"{SVG}title")
-        if name is not None:
-            top, height = int(it.get("y")), int(it.get("height"))
-            yield name.text, int(it.get("x")), axis - top, top + height - axis
+    axis = int(AXIS.match(next(root.iter(f"{SVG}path")).get("d"))[1])
+    for it in root.iter(f"{SVG}g"):
+        bar = it.find(f"{SVG}rect")
+        top, height = int(bar.get("y")), int(bar.get("height"))
+        yield it.find(f"{SVG}title").text, int(bar.get("x")), axis - top, top + height - axis
 
 
 def tall(words, most):
@@ -84,9 +84,11 @@ def wrong(file, *more):
     said += ["exchange", "words sent", "0", "words received", "worker"]
     said += marks(max(h for *_, h, _ in drawn))
     kinds = {it.tag.removeprefix(SVG) for it in root.iter()}
-    known = {"svg", "rect", "line", "path", "g", "text", "title", "defs", "pattern"}
+    known = {"svg", "rect", "path", "g", "text", "title", "defs", "pattern"}
     checks = [texts[:-1] == said, list(bars(root)) == list(wanted(drawn, 168, 92)), kinds == known]
-    checks += [int(root.get("width")) >= 180 + 92 * len(drawn), root.get("version") == "1.1"]
+    wide, high = root.get("width"), root.get("height")
+    checks += [int(wide) >= 180 + 92 * len(drawn), root.get("version") == "1.1", root.get("viewBox") == f"0 0 {wide} {high}"]
+    checks.append(root.find(f"{SVG}title").text == "The exchanges of a run")
     return [] if all(checks) else [f"{file.name}: {checks}"]
 
 

@@ -3,7 +3,8 @@
 
 step_pictures.py PROGRAM: each statement that is drawn has its number, its line and the text of that line, and as many boxes as processors
 executed it, less those that it says have no row; each box stands in the row that has its index's name; a fault stands below the bands with
-those that met there, who are outlined; no element but boxes and texts stands there, and none beyond a page's width.
+those that met there, who are outlined; no element but boxes and texts stands there, and none beyond a page's width. It has a title, and its
+view is its size.
 """
 import re
 import subprocess
@@ -19,7 +20,7 @@ PROGRAM = Path(sys.argv[1]).resolve()
 SVG = "{http://www.w3.org/2000/svg}"
 RAN = re.compile(r"(\d+) line (\d+) processors (\d+)(?: .*)?")
 FAULT = re.compile(r"(\d+) (fault .* line (\d+))(?: processors((?: -?\d+)+))?")
-TURNED = re.compile(r"translate\((\d+) (\d+)\) rotate\(-90\)")
+TURNED = re.compile(r"translate\((\d+) (\d+)\)rotate\(-90\)")
 MOST_DRAWN, FIRST, LAST, BAND, MOST_ROWS, LETTERS, NAMED = 112, 96, 16, 16, 64, 36, 8
 LEFT, WIDE, TALL, PAGE = 160, 64, 20, 1200
 
@@ -63,8 +64,8 @@ def wrong(file, *more):
     texts = [it for it in root.iter(f"{SVG}text") if not it.get("transform")]
     turned = [it for it in root.iter(f"{SVG}text") if it.get("transform")]
     upright = [(tuple(map(int, TURNED.fullmatch(it.get("transform")).groups())), it.text) for it in turned]
-    titled = [it for it in root.iter(f"{SVG}rect") if it.find(f"{SVG}title") is not None]
-    boxes = [(*at(it), it.find(f"{SVG}title").text, it.get("fill")) for it in titled]
+    groups = [(it.find(f"{SVG}title").text, it.find(f"{SVG}rect")) for it in root.iter(f"{SVG}g")]
+    boxes = [(*at(it), title, it.get("fill")) for title, it in groups]
     tops = [at(it)[1] - 13 for it in texts if it.text == "outside"]
     without = f", without the {len(entries) - MOST_DRAWN} from {FIRST + 1} to {len(entries) - LAST}" if cut else ""
     checks = [texts[0].text == f"statements {len(entries)}{without}", len(tops) == -(-len(drawn) // BAND)]
@@ -87,7 +88,9 @@ def wrong(file, *more):
     rest = f" and {len(met) - NAMED} more" if len(met) > NAMED else ""
     checks += [behind == [*([fault] if fault else []), *([f"met: processors {' '.join(met[:NAMED])}{rest}"] if met else [])]]
     kinds = {it.tag.removeprefix(SVG) for it in root.iter()}
-    checks += [kinds <= {"svg", "rect", "text", "title"}, int(root.get("width")) <= PAGE, root.get("version") == "1.1"]
+    checks += [kinds <= {"svg", "title", "defs", "pattern", "rect", "text", "g"}, int(root.get("width")) <= PAGE]
+    checks += [root.get("version") == "1.1", root.get("viewBox") == f"0 0 {root.get('width')} {root.get('height')}"]
+    checks += [root.find(f"{SVG}title").text == "a run, statement by statement"]
     return [] if all(checks) else [f"{file.name}: {checks}"]
 
 

@@ -17,6 +17,7 @@ use Rattle.flow_pictures.specs.declared.spans.CellSpan.{CellSpan}
 use Rattle.flow_pictures.specs.Streamed.{HasStreamedFlow}
 use Rattle.diagnoses.specs.Sources.{text_in}
 use Rattle.step_pictures.specs.Picture.{part_of, picture}
+use Rattle.svg_texts.specs.Shapes as shapes
 use Rattle.step_text.specs.declared.telling.Telling.{Telling}
 use Rattle.program_texts.specs.Shown.{shown}
 use Rattle.program_texts.specs.Status.{status_of}
@@ -88,7 +89,8 @@ module _ (on : Terminal) (s : FoundSteps) (old : OutState) where
     pub cut_in_lines : (new : OutState) (why : Stop) → IsCutIn s telling old new why → IsCutOff on s old new why
     cut_in_lines new why cut = InLines why telling asked is cut
 
-    module _ (o : Outcome) (comes : IsOutcomeOf s o) (mid new : OutState) (lines : mid ≡ with_bytes old (lines_of s telling (entries_of s)))
+    module _ (o : Outcome) (comes : IsOutcomeOf s o) (mid new : OutState) (lines : mid ≡ with_bytes old (lines_of s telling (entries_of
+        s)))
         (ends : Status) where
       pub told_in_words : (given : Status) → Wrote ends (shown s.loaded.program.layout (verdict_of o)) mid new (Ok given) →
           IsToldBy on s old new (Ok o)
@@ -177,7 +179,8 @@ telling_by on s text sized telling same_text same_sized is =
     (subst (λ (t : List ℕ). IsTelling on s.words.steps t sized s.loaded.program telling) same_text is)
 
 -- the outcome, by its declarations
-pub outcome_as : (s : FoundSteps) (o : Outcome) (layout : List SharedEntry) (ends : Status) (mid new : OutState) (r : Result Status Stop) →
+pub outcome_as : (s : FoundSteps) (o : Outcome) (layout : List SharedEntry) (ends : Status) (mid new : OutState) (r : Result Status Stop)
+    →
     layout ≡ s.loaded.program.layout → Wrote ends (shown layout (verdict_of o)) mid new r →
     Wrote ends (shown s.loaded.program.layout (verdict_of o)) mid new r
 outcome_as s o layout ends mid new r same w = subst (λ (l : List SharedEntry). Wrote ends (shown l (verdict_of o)) mid new r) same w
@@ -186,16 +189,18 @@ outcome_as s o layout ends mid new r same w = subst (λ (l : List SharedEntry). 
 pub picture_as : (s : FoundSteps) (o : Outcome) (layout : List SharedEntry) (text : List ℕ) (whole : ℕ) (es : List Entry) (ends : Status)
     (old new : OutState) (r : Result Status Stop) → layout ≡ s.loaded.program.layout → text ≡ s.loaded.source.bytes.items →
     whole ≡ length (entries_of s) → es ≡ between s.words.steps.from s.words.steps.to (entries_of s) →
-    Wrote ends (picture layout text (part_of s.words.steps.from whole) es) old new r →
+    Wrote ends (shapes.picture_text (picture layout text (part_of s.words.steps.from whole) es)) old new r →
     Wrote ends (picture_text (with_outcome s o) (entries_of s)) old new r
 picture_as s o layout text whole es ends old new r same_layout same_text same_whole same w =
-    subst (λ (l : List SharedEntry). Wrote ends (picture l s.loaded.source.bytes.items (part_of s.words.steps.from (length (entries_of s)))
-    (between s.words.steps.from s.words.steps.to (entries_of s))) old new r) same_layout
-    (subst (λ (t : List ℕ). Wrote ends (picture layout t (part_of s.words.steps.from (length (entries_of s)))
-    (between s.words.steps.from s.words.steps.to (entries_of s))) old new r) same_text
-    (subst (λ (n : ℕ). Wrote ends (picture layout text (part_of s.words.steps.from n)
-    (between s.words.steps.from s.words.steps.to (entries_of s))) old new r) same_whole
-    (subst (λ (es : List Entry). Wrote ends (picture layout text (part_of s.words.steps.from whole) es) old new r) same w)))
+    subst (λ (l : List SharedEntry). Wrote ends (shapes.picture_text (picture l s.loaded.source.bytes.items
+    (part_of s.words.steps.from (length (entries_of s))) (between s.words.steps.from s.words.steps.to (entries_of s)))) old new r)
+    same_layout
+    (subst (λ (t : List ℕ). Wrote ends (shapes.picture_text (picture layout t (part_of s.words.steps.from (length (entries_of s)))
+    (between s.words.steps.from s.words.steps.to (entries_of s)))) old new r) same_text
+    (subst (λ (n : ℕ). Wrote ends (shapes.picture_text (picture layout text (part_of s.words.steps.from n)
+    (between s.words.steps.from s.words.steps.to (entries_of s)))) old new r) same_whole
+    (subst (λ (es : List Entry). Wrote ends (shapes.picture_text (picture layout text (part_of s.words.steps.from whole) es)) old new r)
+    same w)))
 
 -- the run, as it came back
 pub run_as : (on : Terminal) (s : FoundSteps) (o : Outcome) (run : FoundRun) (old new : OutState) → run ≡ with_outcome s o →

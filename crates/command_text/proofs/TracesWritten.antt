@@ -5,6 +5,7 @@ use Rattle.superstep_machine.specs.Trace.{Exchange}
 use Rattle.text_out.specs.Out.{OutState}
 use Rattle.program_texts.specs.declared.status.Status.{Status}
 use Rattle.program_texts.specs.declared.stop.Stop.{Stop}
+use Rattle.svg_texts.specs.Shapes.{picture_text}
 use Rattle.tracer.specs.Picture.{picture}
 use Rattle.tracer.specs.Traced.{trace_text}
 use Rattle.command_facts.specs.Written.{Wrote}
@@ -15,7 +16,7 @@ told_so lines l es rest same = ap (λ (x : List ℕ). trace_text x es ++ rest) (
 
 -- or drawn
 pub drawn_so : (status : Status) (lines l ends e : List ℕ) (es : List Exchange) (old new : OutState) (r : Result Status Stop) → l ≡ lines →
-    e ≡ ends → Wrote status (picture l e es) old new r → Wrote status (picture lines ends es) old new r
+    e ≡ ends → Wrote status (picture_text (picture l e es)) old new r → Wrote status (picture_text (picture lines ends es)) old new r
 drawn_so status lines l ends e es old new r same_lines same_ends w =
-    subst (λ (x : List ℕ). Wrote status (picture lines x es) old new r) same_ends
-    (subst (λ (x : List ℕ). Wrote status (picture x e es) old new r) same_lines w)
+    subst (λ (x : List ℕ). Wrote status (picture_text (picture lines x es)) old new r) same_ends
+    (subst (λ (x : List ℕ). Wrote status (picture_text (picture x e es)) old new r) same_lines w)

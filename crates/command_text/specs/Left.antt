@@ -36,7 +36,7 @@ pub data LeavesFound (on : Terminal) (words : List (List ℕ)) (f : Found) (out 
       → IsRefusalReported on words why about.Nothing err err_new → LeavesFound on words f out out_new err err_new status.Refused
 
 -- both streams after a call of these words
-abbrev pub Leaves : (List ℕ → Option (List ℕ) → Type 0) → Terminal → List (List ℕ) → Result Request Stop → (out out_new err err_new : OutState) →
-    Status → Type 0
+abbrev pub Leaves : (List ℕ → Option (List ℕ) → Type 0) → Terminal → List (List ℕ) → Result Request Stop →
+    (out out_new err err_new : OutState) → Status → Type 0
 Leaves holds on words asked out out_new err err_new ends =
     calls.Leaves (LeavesFound on) (IsRefusalReported on) holds words asked out out_new err err_new ends

@@ -7,7 +7,9 @@ use Rattle.superstep_listing.specs.Listing.{spelling}
 use Rattle.step_pictures.specs.Picture as steps
 use Rattle.flow_pictures.specs.Asides.{asides_in}
 use Rattle.flow_pictures.specs.Picture.{flow}
+use Rattle.svg_texts.specs.Shapes as shapes
 use Rattle.sweep_pictures.specs.Picture as sweeps
+use Rattle.svg_texts.specs.Shapes.{picture_text as drawn_text}
 use Rattle.sweeps.specs.CsvText.{csv_text}
 use Rattle.sweeps.specs.SweepText.{sweep_text}
 use Rattle.memory_texts.specs.Chosen.{shown_by}
@@ -39,7 +41,7 @@ use Rattle.command_text.specs.Steps.{IsTelling, told_text}
 use Rattle.command_text.specs.Traces.{counts_text, outcome_text}
 
 abbrev pub version_text : List ℕ
-version_text = line (codes "pramc 1.1.0")
+version_text = line (codes "pramc 1.2.0")
 
 -- `accepted cells 16 procs 8 rule erew`
 abbrev pub accepted_line : Checked → List ℕ
@@ -54,7 +56,7 @@ table_text false s = sweep_text s.sweep.name s.rows.items s.growths
 
 -- or drawn
 abbrev pub swept_text : Form → (csv : Bool) → FoundSweep → List ℕ
-swept_text form.Picture csv s = sweeps.picture s.sweep.name s.rows.items
+swept_text form.Picture csv s = drawn_text (sweeps.picture s.sweep.name s.rows.items)
 swept_text form.Words csv s = table_text csv s
 swept_text form.Flow csv s = table_text csv s
 swept_text form.Page csv s = table_text csv s
@@ -68,15 +70,15 @@ IsInWords on r entries text = (telling : Telling)
 
 -- drawn between the numbers that are asked for, beside the text as it stands in its file
 abbrev pub picture_text : FoundRun → List Entry → List ℕ
-picture_text r entries =
-    steps.picture_from r.loaded.program.layout r.loaded.source.bytes.items entries r.words.steps.from r.words.steps.to
+picture_text r entries = shapes.picture_text
+    (steps.picture_from r.loaded.program.layout r.loaded.source.bytes.items entries r.words.steps.from r.words.steps.to)
 
 -- the flow of data between the numbers that are asked for, drawn beside the text that its sizes give, of which statements have their
 -- places; which reads of a statement are for subscripts alone is known by the program's tree; of the cells of the declarations that are
 -- asked for
 abbrev pub flow_text : FoundRun → List Entry → List ℕ
-flow_text r entries = flow r.loaded.program.layout (text_in r.loaded.source) (asides_in r.loaded.program.body) r.input.items entries
-    (chosen_spans r.loaded.program.layout r.words.shown) r.words.steps.from r.words.steps.to
+flow_text r entries = shapes.picture_text (flow r.loaded.program.layout (text_in r.loaded.source) (asides_in r.loaded.program.body)
+    r.input.items entries (chosen_spans r.loaded.program.layout r.words.shown) r.words.steps.from r.words.steps.to)
 
 -- as a page of the statements between the numbers that are asked for, with the text that its sizes give
 abbrev pub IsPageOf : FoundRun → List Entry → List ℕ → Type 0

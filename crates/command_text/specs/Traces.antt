@@ -1,6 +1,7 @@
 -- The exchanges of a run, in words or drawn.
 use Rattle.std.specs.Prelude.{ℕ, List, [], ◌++◌, Option, Some, None}
 use Rattle.superstep_machine.specs.Trace.{Exchange}
+use Rattle.svg_texts.specs.Shapes.{picture_text}
 use Rattle.tracer.specs.Cost.{cost_text}
 use Rattle.tracer.specs.Picture.{picture}
 use Rattle.tracer.specs.Traced.{trace_text}
@@ -32,7 +33,7 @@ exchanges_text w told t = trace_text t.lines.items t.counts ++ behind w told t.c
 
 -- or drawn
 abbrev pub counts_text : Form → TraceWords → (told : List ℕ) → FoundTrace → List ℕ
-counts_text form.Picture w told t = picture t.lines.items t.ends.items t.counts
+counts_text form.Picture w told t = picture_text (picture t.lines.items t.ends.items t.counts)
 counts_text form.Words w told t = exchanges_text w told t
 counts_text form.Flow w told t = exchanges_text w told t
 counts_text form.Page w told t = exchanges_text w told t

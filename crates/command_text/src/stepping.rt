@@ -13,6 +13,7 @@ ghost use Rattle.program_texts.specs.declared.stop.Stop.TheVariants.{Refused};
 ghost use Rattle.journal.specs.Entries.{entry_is};
 ghost use Rattle.journal.specs.Between.{between};
 ghost use Rattle.step_pictures.specs.Picture.{part_of, picture};
+ghost use Rattle.svg_texts.specs.Shapes.{picture_text};
 ghost use Rattle.command_text.specs.Stepped as stepped;
 ghost use Rattle.command_text.specs.Steps as spec;
 
@@ -212,7 +213,7 @@ fn write_pictured<'a, O: Out>(
     from: usize,
 ) -> Result<Status, Stop<'a>>
     ensures written { Wrote (status_of outcome.now)
-        (picture layout.now text.now (part_of from excerpt.now.whole) (map entry_is excerpt.now.entries.items))
+        (picture_text (picture layout.now text.now (part_of from excerpt.now.whole) (map entry_is excerpt.now.entries.items)))
         (O.Out.state out.old) (O.Out.state out.new) result }
 {
     write_excerpt(out, layout, text, &excerpt.entries, from, excerpt.whole)?;

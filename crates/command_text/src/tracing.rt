@@ -5,6 +5,7 @@ ghost use Rattle.text_out.specs.Out.{Writes};
 ghost use Rattle.write_rules.specs.Verdict.{verdict_of};
 ghost use Rattle.program_texts.specs.Shown.{shown};
 ghost use Rattle.program_texts.specs.Status.{status_of};
+ghost use Rattle.svg_texts.specs.Shapes.{picture_text};
 ghost use Rattle.tracer.specs.Picture.{picture};
 ghost use Rattle.command_facts.specs.Written.{Wrote};
 ghost use Rattle.command_text.specs.Costs.{if_asked};
@@ -101,7 +102,7 @@ fn write_drawn<'a, O: Out>(
     outcome: &Outcome,
     found: &FoundTrace,
 ) -> Result<Status, Stop<'a>>
-    ensures written { Wrote (status_of outcome.now) (picture found.now.lines.items found.now.ends.items found.now.counts)
+    ensures written { Wrote (status_of outcome.now) (picture_text (picture found.now.lines.items found.now.ends.items found.now.counts))
         (O.Out.state out.old) (O.Out.state out.new) result }
 {
     write_picture(&found.counts, &found.lines, &found.ends, out)?;

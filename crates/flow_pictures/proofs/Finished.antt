@@ -1,7 +1,7 @@
 -- What is drawn of all entries that came.
 use Rattle.std.proofs.Common.{◌≡◌, ◌∙◌, ℕ, ◌+◌, ◌-◌, ◌<◌, Bool, List, [], ◌∷◌, ◌++◌, ℤ, ap, arith, length, map, refl, sym, take}
 use Rattle.std.proofs.lemmas.List.{length-map, map-append, take-map, take-take}
-use Rattle.std.specs.Prelude.{codes}
+use Rattle.svg_texts.specs.Shapes.{Over, Picture}
 use Rattle.pram_model.specs.Layout.{SharedEntry}
 use Rattle.journal.specs.Entries.{Entry}
 use Rattle.flow_pictures.specs.declared.column as rust
@@ -10,23 +10,22 @@ use Rattle.flow_pictures.specs.declared.spans.CellSpan.{CellSpan}
 use Rattle.flow_pictures.specs.Cells.{rows_and_next}
 use Rattle.flow_pictures.specs.Choice.{drawn, faulted, ran, touching}
 use Rattle.flow_pictures.specs.Drawing.{Column, Drawing, column_is, column_of, drawing, entries_of}
-use Rattle.flow_pictures.specs.Picture.{columns, counts_text, flow, picture, row_head, row_heads, size_text}
-use Rattle.flow_pictures.specs.Places.{picture_width, y_at}
+use Rattle.flow_pictures.specs.Facts.{Fact, Row, columns_facts, fact_shape, row_facts}
+use Rattle.flow_pictures.specs.MarkShapes.{each}
+use Rattle.flow_pictures.specs.Picture.{counts, flow, picture, title}
+use Rattle.flow_pictures.specs.Places.{picture_height, picture_width}
 use Rattle.flow_pictures.specs.Taken.{HasTaken}
 use Rattle.flow_pictures.specs.Values.{value_at}
 use Rattle.flow_pictures.proofs.Drawn.{drawn_count}
 
 -- ---- pictures by the same values
 
-same_heads : (layout : List SharedEntry) (wide : ℕ) (v w : ℕ → ℤ) → ((k : ℕ) → v k ≡ w k) → (row : ℕ) (cells : List ℕ) →
-    row_heads layout wide v row cells ≡ row_heads layout wide w row cells
-same_heads layout wide v w same row [] = refl
-same_heads layout wide v w same row (c ∷ cells) =
-    ap (λ x. row_head layout wide (y_at row) c x ++ row_heads layout wide v (row + 1) cells) (same c)
-    ∙ ap (λ t. row_head layout wide (y_at row) c (w c) ++ t) (same_heads layout wide v w same (row + 1) cells)
+same_rows : (v w : ℕ → ℤ) → ((k : ℕ) → v k ≡ w k) → (row : ℕ) (cells : List ℕ) → row_facts v row cells ≡ row_facts w row cells
+same_rows v w same row [] = refl
+same_rows v w same row (c ∷ cells) = λ i. Row row c (same c i) ∷ same_rows v w same (row + 1) cells i
 
 module _ (layout : List SharedEntry) (text : List ℕ) (only : List CellSpan) where
-  abbrev pictured : (from to count touching : ℕ) → (before : ℕ → ℤ) → List Column → List ℕ
+  abbrev pictured : (from to count touching : ℕ) → (before : ℕ → ℤ) → List Column → Picture
   pictured from to count touching before cs = picture layout text only
       (record { from = from; to = to; count = count; touching = touching; before = before; columns = cs })
 
@@ -39,8 +38,12 @@ module _ (layout : List SharedEntry) (text : List ℕ) (only : List CellSpan) wh
       let found = rows_and_next only (entries_of (c ∷ cs)) in
       let rows = take 64 found in
       let wide = picture_width (length (c ∷ cs)) in
-      ap (λ t. size_text d found ++ (counts_text layout only d found ++ (t ++ (columns layout text rows 1 (c ∷ cs) ++ codes "</svg>\n"))))
-      (same_heads layout wide v w (same (omega arith)) 0 rows)
+      ap (λ (fs : List Fact). record {
+        title = title;
+        wide = wide;
+        tall = picture_height (length rows);
+        shape = Over (counts layout only d found) (each (fact_shape layout text rows wide) (fs ++ columns_facts rows 1 (c ∷ cs)));
+      }) (same_rows v w (same (omega arith)) 0 rows)
 
   pub same_picture : (d e : Drawing) → d.from ≡ e.from → d.to ≡ e.to → d.count ≡ e.count → d.touching ≡ e.touching →
       d.columns ≡ e.columns → (0 < length e.columns → (k : ℕ) → d.before k ≡ e.before k) →

@@ -7,11 +7,16 @@ pub mod ColumnLists
 pub mod Complete
 pub mod Drawn
 pub mod Finished
+pub mod EachShape
+pub mod FactTexts
+pub mod InPicture
 pub mod Kept
 pub mod Least
+pub mod Lettered
 pub mod Members
 pub mod RowLists
 pub mod Shaped
+pub mod Spelled
 pub mod Standing
 pub mod Taken
 pub mod ChosenRows

@@ -1,142 +1,94 @@
--- A flow's picture is its shapes, and each of these is so.
-use Rattle.std.proofs.Common.{◌≡◌, ◌∙◌, ◌⊎◌, inl, inr, ℕ, zero, suc, ◌+◌, ◌<◌, List, [], ◌∷◌, ◌++◌, ℤ, Bool, true, false, ◌&&◌, Option}
+-- A flow's picture is the shapes of its facts, and each of these is so.
+use Rattle.std.proofs.Common.{◌≡◌, ◌∙◌, ◌⊎◌, inl, inr, ℕ, zero, suc, ◌+◌, ◌<◌, List, [], ◌∷◌, ◌++◌, ℤ, Bool, true, Option}
 use Rattle.std.proofs.Common.{None, Some}
-use Rattle.std.proofs.Common.{ap, append_assoc, arith, codes, get_or, length, map, refl, subst, sym, take}
-use Rattle.std.proofs.lemmas.Grind.{flat_map-append}
+use Rattle.std.proofs.Common.{ap, arith, get_or, length, map, refl, subst, sym}
 use Rattle.std.proofs.lemmas.List.{length-map}
 use Rattle.std.proofs.lemmas.List.Elements.{Contains-append_cases}
-use Rattle.std.proofs.lemmas.List.Folds.{Any-from_list_any, flat_map-map}
+use Rattle.std.proofs.lemmas.List.Folds.{Any-from_list_any}
 use Rattle.std.proofs.lemmas.Simd.{map-map}
-use Rattle.std.specs.List.{Contains, filter, flat_map}
+use Rattle.std.specs.List.{Contains, filter}
 use Rattle.pram_model.proofs.Truths.{both}
-use Rattle.pram_model.specs.Layout.{SharedEntry}
+use Rattle.svg_texts.specs.Shapes.{Over}
 use Rattle.journal.specs.Entries.{Act, Entry, Ran, Faulting}
 use Rattle.flow_pictures.specs.declared.spans.CellSpan.{CellSpan}
 use Rattle.flow_pictures.specs.Cells.{entry_cells, rows_and_next}
 use Rattle.flow_pictures.specs.Choice.{acts_in}
-use Rattle.flow_pictures.specs.Columns.{column_fault, column_text, heading}
-use Rattle.flow_pictures.specs.Drawing.{Column, column_of, drawing, entries_of}
-use Rattle.flow_pictures.specs.Laws.{IsColumn, cells, found, statements}
-use Rattle.flow_pictures.specs.Marks.{arrows, carries, carries_one, has_read, is_written, nodes, reading, readings, value_in}
-use Rattle.flow_pictures.specs.Picture.{columns, counts_text, flow, row_heads, size_text, table}
-use Rattle.flow_pictures.specs.Places.{picture_width}
-use Rattle.flow_pictures.specs.Shapes.{HasFault}
-use Rattle.flow_pictures.specs.Shapes.{Box, IsReadAlone, IsSo, Line, Ring, RowsWereTouched, Shape, ShapesAreSo, ThePictureIsItsShapes}
-use Rattle.flow_pictures.specs.Shapes.{Heading}
-use Rattle.flow_pictures.specs.Shapes.{Row, Stop, column_shapes, columns_shapes, head_text, row_shapes, shape_text, shapes, stop_shapes}
-use Rattle.flow_pictures.specs.Shapes.{values_before}
-use Rattle.flow_pictures.specs.Texts.{arrow_text, node_text, reading_text}
+use Rattle.flow_pictures.specs.Drawing.{column_of, drawing, entries_of}
+use Rattle.flow_pictures.specs.FactLaws.{FactsAreSo, HasFault, IsReadAlone, IsSo, RowsWereTouched, ThePictureIsItsShapes}
+use Rattle.flow_pictures.specs.FactLaws.{run_facts, run_facts_of, values_before}
+use Rattle.flow_pictures.specs.Facts.{Fact, Row, Heading, Line, Box, Ring, Stop, column_facts, columns_facts, fact_shape, row_facts}
+use Rattle.flow_pictures.specs.Facts.{stop_facts}
+use Rattle.flow_pictures.specs.Laws.{cells, found, statements}
+use Rattle.flow_pictures.specs.Marks.{arrows, carries, carries_one, has_read, is_written, nodes, reading, readings}
+use Rattle.flow_pictures.specs.MarkShapes.{each}
+use Rattle.flow_pictures.specs.Picture.{counts, picture_of, title}
+use Rattle.flow_pictures.specs.Places.{picture_height, picture_width}
 use Rattle.flow_pictures.specs.Values.{value_behind}
 use Rattle.flow_pictures.proofs.Carriers.{read_is}
 use Rattle.flow_pictures.proofs.ChosenRows.{row_was_touched}
-use Rattle.flow_pictures.proofs.Members.{MadeOf, of_kept, of_mapped, of_spread, passes_test}
+use Rattle.flow_pictures.proofs.Members.{MadeOf, of_mapped, of_spread, passes_test}
 use Rattle.flow_pictures.proofs.Standing.{arrow_among, boxes, node_among}
 
--- ---- the texts
+-- ---- the picture
 
-module _ (layout : List SharedEntry) (text rows : List ℕ) (wide : ℕ) where
-  abbrev t : Shape → List ℕ
-  t = shape_text layout text rows wide
+facts_are : (aside : Entry → List Bool) (opening : List ℤ) (es : List Entry) (rows : List ℕ) (j : ℕ) (p : ℕ × Entry) →
+    column_facts rows j (column_of aside opening es p) ≡ run_facts_of aside opening es rows j p
+facts_are aside opening es rows j p =
+    ap (λ ns. Heading j p.0 p.1 ∷ (map Line (arrows rows j (aside p.1) (acts_in p.1)) ++ (map Box ns
+    ++ (map Ring (readings rows j (acts_in p.1)) ++ stop_facts j p.1)))) (boxes aside opening es rows j p)
 
-  rows_are : (value : ℕ → ℤ) (k : ℕ) (cells : List ℕ) → row_heads layout wide value k cells ≡ flat_map t (row_shapes value k cells)
-  rows_are value k [] = refl
-  rows_are value k (c ∷ cells) = ap (λ l. t (Row k c (value c)) ++ l) (rows_are value (k + 1) cells)
-
-  stop_is : (j : ℕ) (e : Entry) → column_fault layout rows j e ≡ flat_map t (stop_shapes j e)
-  stop_is j (Ran here acts cells variables locals printed) = refl
-  stop_is j (Faulting here fault cause acts met locals) = sym (append-nil (t (Stop j fault met)))
-    where
-      append-nil : (xs : List ℕ) → xs ++ [] ≡ xs
-      append-nil [] = refl
-      append-nil (x ∷ xs) = ap (λ l. x ∷ l) (append-nil xs)
-
-  -- the marks of a column, and what is drawn of its fault
-  parts_are : (ls bs rs stops : List Shape) → (flat_map t ls ++ (flat_map t bs ++ flat_map t rs)) ++ flat_map t stops
-      ≡ flat_map t (ls ++ (bs ++ (rs ++ stops)))
-  parts_are ls bs rs stops =
-      append_assoc (flat_map t ls) (flat_map t bs ++ flat_map t rs) (flat_map t stops)
-      ∙ ap (λ l. flat_map t ls ++ l) (append_assoc (flat_map t bs) (flat_map t rs) (flat_map t stops))
-      ∙ sym (flat_map-append t ls (bs ++ (rs ++ stops))
-      ∙ ap (λ l. flat_map t ls ++ l) (flat_map-append t bs (rs ++ stops) ∙ ap (λ l. flat_map t bs ++ l) (flat_map-append t rs stops)))
-
-  column_is_shapes : (aside : Entry → List Bool) (opening : List ℤ) (es : List Entry) (j : ℕ) (p : ℕ × Entry) →
-      column_text layout text rows j (column_of aside opening es p) ≡ flat_map t (column_shapes aside opening es rows j p)
-  column_is_shapes aside opening es j p =
-      let acts = acts_in p.1 in
-      let ls = arrows rows j (aside p.1) acts in
-      let ns = nodes rows j (value_behind opening es p.0) acts in
-      let old = nodes rows j (value_in acts (column_of aside opening es p).written) acts in
-      let rs = readings rows j acts in
-      let front = heading text j p.0 p.1 in
-      ap (λ x. front ++ ((flat_map (arrow_text rows) ls ++ (flat_map (node_text rows) x ++ flat_map (reading_text rows) rs))
-      ++ column_fault layout rows j p.1)) (boxes aside opening es rows j p)
-      ∙ ap (λ l. front ++ ((l ++ (flat_map (node_text rows) ns ++ flat_map (reading_text rows) rs)) ++ column_fault layout rows j p.1))
-      (sym (flat_map-map t Line ls))
-      ∙ ap (λ l. front ++ ((flat_map t (map Line ls) ++ (l ++ flat_map (reading_text rows) rs)) ++ column_fault layout rows j p.1))
-      (sym (flat_map-map t Box ns))
-      ∙ ap (λ l. front ++ ((flat_map t (map Line ls) ++ (flat_map t (map Box ns) ++ l)) ++ column_fault layout rows j p.1))
-      (sym (flat_map-map t Ring rs))
-      ∙ ap (λ l. front ++ ((flat_map t (map Line ls) ++ (flat_map t (map Box ns) ++ flat_map t (map Ring rs))) ++ l)) (stop_is j p.1)
-      ∙ ap (λ l. front ++ l) (parts_are (map Line ls) (map Box ns) (map Ring rs) (stop_shapes j p.1))
-
-  columns_are : (aside : Entry → List Bool) (opening : List ℤ) (es : List Entry) (j : ℕ) (ps : List (ℕ × Entry)) →
-      columns layout text rows j (map (column_of aside opening es) ps) ≡ flat_map t (columns_shapes aside opening es rows j ps)
-  columns_are aside opening es j [] = refl
-  columns_are aside opening es j (p ∷ ps) =
-      ap (λ l. l ++ columns layout text rows (j + 1) (map (column_of aside opening es) ps)) (column_is_shapes aside opening es j p)
-      ∙ ap (λ l. flat_map t (column_shapes aside opening es rows j p) ++ l) (columns_are aside opening es (j + 1) ps)
-      ∙ sym (flat_map-append t (column_shapes aside opening es rows j p) (columns_shapes aside opening es rows (j + 1) ps))
+all_facts_are : (aside : Entry → List Bool) (opening : List ℤ) (es : List Entry) (rows : List ℕ) (j : ℕ) (ps : List (ℕ × Entry)) →
+    columns_facts rows j (map (column_of aside opening es) ps) ≡ run_facts aside opening es rows j ps
+all_facts_are aside opening es rows j [] = refl
+all_facts_are aside opening es rows j (p ∷ ps) =
+    λ i. facts_are aside opening es rows j p i ++ all_facts_are aside opening es rows (j + 1) ps i
 
 pub the_picture_is_its_shapes : ThePictureIsItsShapes
 the_picture_is_its_shapes only layout text aside opening es from to =
     let ps = statements es from to in
     let d = drawing aside opening es from to in
     let cs = map (column_of aside opening es) ps in
-    let all = found only es from to in
     let rows = cells only es from to in
-    let wide = picture_width (length ps) in
-    let t = shape_text layout text rows wide in
     let before = values_before opening es from to in
-    let same : rows_and_next only (entries_of cs) ≡ all =
+    let same : rows_and_next only (entries_of cs) ≡ found only es from to =
     ap (rows_and_next only) (map-map (λ c. c.entry) (column_of aside opening es) ps) in
     let many : length cs ≡ length ps = length-map ps (column_of aside opening es) in
-    let ends = codes "</svg>\n" in
-    ap (λ (f : List ℕ). size_text d f ++ (counts_text layout only d f ++ table layout text (picture_width (length cs)) before cs
-    (take 64 f))) same
-    ∙ ap (λ n. size_text d all ++ (counts_text layout only d all ++ table layout text (picture_width n) before cs rows)) many
-    ∙ sym (append_assoc (size_text d all) (counts_text layout only d all) (table layout text wide before cs rows))
-    ∙ ap (λ l. head_text layout only aside opening es from to ++ l)
-    (ap (λ l. l ++ (columns layout text rows 1 cs ++ ends)) (rows_are layout text rows wide before 0 rows)
-    ∙ ap (λ l. flat_map t (row_shapes before 0 rows) ++ (l ++ ends)) (columns_are layout text rows wide aside opening es 1 ps)
-    ∙ sym (append_assoc (flat_map t (row_shapes before 0 rows)) (flat_map t (columns_shapes aside opening es rows 1 ps)) ends)
-    ∙ ap (λ l. l ++ ends) (sym (flat_map-append t (row_shapes before 0 rows) (columns_shapes aside opening es rows 1 ps))))
+    ap (picture_of layout text only d) same
+    ∙ (λ i. record {
+      title = title;
+      wide = picture_width (many i);
+      tall = picture_height (length rows);
+      shape = Over (counts layout only d (found only es from to))
+          (each (fact_shape layout text rows (picture_width (many i)))
+          (row_facts before 0 rows ++ all_facts_are aside opening es rows 1 ps i));
+    })
 
 -- ---- each is so
 
--- a shape of the columns from j on is of one of them
+-- a fact of the columns from j on is of one of them
 record OfColumn (aside : Entry → List Bool) (opening : List ℤ) (es : List Entry) (rows : List ℕ) (j : ℕ) (ps : List (ℕ × Entry))
-    (s : Shape) :
+    (s : Fact) :
     Type 0 where
   place : ℕ
   statement : ℕ × Entry
   within : place < length ps
   is : get_or ps place statement ≡ statement
-  one : Contains (column_shapes aside opening es rows (j + place) statement) s
+  one : Contains (run_facts_of aside opening es rows (j + place) statement) s
 
-in_column : (aside : Entry → List Bool) (opening : List ℤ) (es : List Entry) (rows : List ℕ) (j : ℕ) (ps : List (ℕ × Entry)) (s : Shape) →
-    Contains (columns_shapes aside opening es rows j ps) s → OfColumn aside opening es rows j ps s
+in_column : (aside : Entry → List Bool) (opening : List ℤ) (es : List Entry) (rows : List ℕ) (j : ℕ) (ps : List (ℕ × Entry)) (s : Fact) →
+    Contains (run_facts aside opening es rows j ps) s → OfColumn aside opening es rows j ps s
 in_column aside opening es rows j [] s one = absurd (omega (arith, one.1))
 in_column aside opening es rows j (p ∷ ps) s one =
-    by (Contains-append_cases (column_shapes aside opening es rows j p) (columns_shapes aside opening es rows (j + 1) ps) s one)
+    by (Contains-append_cases (run_facts_of aside opening es rows j p) (run_facts aside opening es rows (j + 1) ps) s one)
     (λ there. in_column aside opening es rows (j + 1) ps s there)
   where
-    here : Contains (column_shapes aside opening es rows j p) s → OfColumn aside opening es rows j (p ∷ ps) s
+    here : Contains (run_facts_of aside opening es rows j p) s → OfColumn aside opening es rows j (p ∷ ps) s
     here one = let same : j ≡ j + 0 = omega arith in record {
       place = 0;
       statement = p;
       within = omega arith;
       is = refl;
-      one = subst (λ k. Contains (column_shapes aside opening es rows k p) s) same one;
+      one = subst (λ k. Contains (run_facts_of aside opening es rows k p) s) same one;
     }
 
     further : OfColumn aside opening es rows (j + 1) ps s → OfColumn aside opening es rows j (p ∷ ps) s
@@ -145,11 +97,11 @@ in_column aside opening es rows j (p ∷ ps) s one =
       statement = o.statement;
       within = omega (arith, within);
       is = o.is;
-      one = subst (λ k. Contains (column_shapes aside opening es rows k o.statement) s) same o.one;
+      one = subst (λ k. Contains (run_facts_of aside opening es rows k o.statement) s) same o.one;
     }
 
-    by : Contains (column_shapes aside opening es rows j p) s ⊎ Contains (columns_shapes aside opening es rows (j + 1) ps) s →
-        (Contains (columns_shapes aside opening es rows (j + 1) ps) s → OfColumn aside opening es rows (j + 1) ps s) →
+    by : Contains (run_facts_of aside opening es rows j p) s ⊎ Contains (run_facts aside opening es rows (j + 1) ps) s →
+        (Contains (run_facts aside opening es rows (j + 1) ps) s → OfColumn aside opening es rows (j + 1) ps s) →
         OfColumn aside opening es rows j (p ∷ ps) s
     by (inl first) others = here first
     by (inr there) others = further (others there)
@@ -164,17 +116,17 @@ row_is only aside opening es from to k i c within is same = (
   refl,
 )
 
-record OfRow (value : ℕ → ℤ) (k : ℕ) (cs : List ℕ) (s : Shape) : Type 0 where
+record OfRow (value : ℕ → ℤ) (k : ℕ) (cs : List ℕ) (s : Fact) : Type 0 where
   place : ℕ
   cell : ℕ
   within : place < length cs
   is : get_or cs place cell ≡ cell
   same : Row (k + place) cell (value cell) ≡ s
 
-in_row : (value : ℕ → ℤ) (k : ℕ) (cs : List ℕ) (s : Shape) → Contains (row_shapes value k cs) s → OfRow value k cs s
+in_row : (value : ℕ → ℤ) (k : ℕ) (cs : List ℕ) (s : Fact) → Contains (row_facts value k cs) s → OfRow value k cs s
 in_row value k [] s one = absurd (omega (arith, one.1))
 in_row value k (c ∷ cs) s one =
-    by (Contains-append_cases (Row k c (value c) ∷ []) (row_shapes value (k + 1) cs) s one) (λ there. in_row value (k + 1) cs s there)
+    by (Contains-append_cases (Row k c (value c) ∷ []) (row_facts value (k + 1) cs) s one) (λ there. in_row value (k + 1) cs s there)
   where
     only_one : (i : ℕ) → i < length (Row k c (value c) ∷ []) → get_or (Row k c (value c) ∷ []) i s ≡ s → Row k c (value c) ≡ s
     only_one zero within is = is
@@ -198,8 +150,8 @@ in_row value k (c ∷ cs) s one =
       same = ap (λ n. Row n o.cell (value o.cell)) same ∙ o.same;
     }
 
-    by : Contains (Row k c (value c) ∷ []) s ⊎ Contains (row_shapes value (k + 1) cs) s →
-        (Contains (row_shapes value (k + 1) cs) s → OfRow value (k + 1) cs s) → OfRow value k (c ∷ cs) s
+    by : Contains (Row k c (value c) ∷ []) s ⊎ Contains (row_facts value (k + 1) cs) s →
+        (Contains (row_facts value (k + 1) cs) s → OfRow value (k + 1) cs s) → OfRow value k (c ∷ cs) s
     by (inl first) others = here (only_one first.0 first.1 first.2)
     by (inr there) others = further (others there)
 
@@ -227,7 +179,7 @@ reads_alone acts cell h =
     }
 
 module _ (only : List CellSpan) (aside : Entry → List Bool) (opening : List ℤ) (es : List Entry) (from to : ℕ) where
-  abbrev So : Shape → Type 0
+  abbrev So : Fact → Type 0
   So = IsSo only aside opening es from to
 
   abbrev ps : List (ℕ × Entry)
@@ -240,13 +192,13 @@ module _ (only : List CellSpan) (aside : Entry → List Bool) (opening : List �
     heading_is : So (Heading (1 + i) p.0 p.1)
     heading_is = (i, refl, record { within = within; is = is })
 
-    line_is : (s : Shape) → MadeOf (arrows rows (1 + i) (aside p.1) (acts_in p.1)) (λ a s. Line a ≡ s) s → So s
+    line_is : (s : Fact) → MadeOf (arrows rows (1 + i) (aside p.1) (acts_in p.1)) (λ a s. Line a ≡ s) s → So s
     line_is s m = subst So m.holds (arrow_among aside rows 1 ps i p m.from within is m.item)
 
-    box_is : (s : Shape) → MadeOf (nodes rows (1 + i) (value_behind opening es p.0) (acts_in p.1)) (λ n s. Box n ≡ s) s → So s
+    box_is : (s : Fact) → MadeOf (nodes rows (1 + i) (value_behind opening es p.0) (acts_in p.1)) (λ n s. Box n ≡ s) s → So s
     box_is s m = subst So m.holds (node_among opening es rows 1 ps i p m.from within is m.item)
 
-    ring_is : (s : Shape) → MadeOf (readings rows (1 + i) (acts_in p.1)) (λ r s. Ring r ≡ s) s → So s
+    ring_is : (s : Fact) → MadeOf (readings rows (1 + i) (acts_in p.1)) (λ r s. Ring r ≡ s) s → So s
     ring_is s m =
         let cell = of_mapped (reading (1 + i)) (filter (λ c. carries (acts_in p.1) c None) rows) m.from m.item in
         let alone = reads_alone (acts_in p.1) cell.from (passes_test (λ c. carries (acts_in p.1) c None) rows cell.from cell.item) in
@@ -261,7 +213,7 @@ module _ (only : List CellSpan) (aside : Entry → List Bool) (opening : List �
           writes = alone.writes;
         }))
 
-    stop_is_so : (e : Entry) → e ≡ p.1 → (s : Shape) → Contains (stop_shapes (1 + i) e) s → So s
+    stop_is_so : (e : Entry) → e ≡ p.1 → (s : Fact) → Contains (stop_facts (1 + i) e) s → So s
     stop_is_so (Ran here acts cells variables locals printed) same s one = absurd (omega (arith, one.1))
     stop_is_so (Faulting here fault cause acts met locals) same s one = by one.0 one.1 one.2
       where
@@ -272,20 +224,20 @@ module _ (only : List CellSpan) (aside : Entry → List Bool) (opening : List �
         by zero within is = subst So is this
         by (suc k) within is = absurd (omega (arith, within))
 
-    column_is_so : (s : Shape) → Contains (column_shapes aside opening es rows (1 + i) p) s → So s
+    column_is_so : (s : Fact) → Contains (run_facts_of aside opening es rows (1 + i) p) s → So s
     column_is_so s one = head_or (Contains-append_cases (Heading (1 + i) p.0 p.1 ∷ []) (ls ++ (bs ++ (rs ++ stops))) s one)
       where
-        ls : List Shape
+        ls : List Fact
         ls = map Line (arrows rows (1 + i) (aside p.1) (acts_in p.1))
 
-        bs : List Shape
+        bs : List Fact
         bs = map Box (nodes rows (1 + i) (value_behind opening es p.0) (acts_in p.1))
 
-        rs : List Shape
+        rs : List Fact
         rs = map Ring (readings rows (1 + i) (acts_in p.1))
 
-        stops : List Shape
-        stops = stop_shapes (1 + i) p.1
+        stops : List Fact
+        stops = stop_facts (1 + i) p.1
 
         ring_or : Contains rs s ⊎ Contains stops s → So s
         ring_or (inl ring) = ring_is s (of_mapped Ring (readings rows (1 + i) (acts_in p.1)) s ring)
@@ -307,19 +259,19 @@ module _ (only : List CellSpan) (aside : Entry → List Bool) (opening : List �
         head_or (inl head) = this head.0 head.1 head.2
         head_or (inr rest) = line_or (Contains-append_cases ls (bs ++ (rs ++ stops)) s rest)
 
-  row_is_so : (s : Shape) → OfRow (values_before opening es from to) 0 rows s → So s
+  row_is_so : (s : Fact) → OfRow (values_before opening es from to) 0 rows s → So s
   row_is_so s o = subst So o.same (row_is only aside opening es from to (0 + o.place) o.place o.cell o.within o.is (omega arith))
 
-  either : (s : Shape) → Contains (row_shapes (values_before opening es from to) 0 rows) s ⊎ Contains
-      (columns_shapes aside opening es rows 1 ps) s → So s
+  either : (s : Fact) → Contains (row_facts (values_before opening es from to) 0 rows) s ⊎ Contains
+      (run_facts aside opening es rows 1 ps) s → So s
   either s (inl row) = row_is_so s (in_row (values_before opening es from to) 0 rows s row)
   either s (inr column) =
       let o = in_column aside opening es rows 1 ps s column in column_is_so o.place o.statement o.within o.is s o.one
 
-pub shapes_are_so : ShapesAreSo
-shapes_are_so only aside opening es from to s one =
-    either only aside opening es from to s (Contains-append_cases (row_shapes (values_before opening es from to) 0 (cells only es from to))
-    (columns_shapes aside opening es (cells only es from to) 1 (statements es from to)) s one)
+pub facts_are_so : FactsAreSo
+facts_are_so only aside opening es from to s one =
+    either only aside opening es from to s (Contains-append_cases (row_facts (values_before opening es from to) 0 (cells only es from to))
+    (run_facts aside opening es (cells only es from to) 1 (statements es from to)) s one)
 
 -- ---- rows
 

@@ -56,9 +56,3 @@ pub record IsCarried (aside : Entry → List Bool) (j : ℕ) (ps : List (ℕ × 
   pub writes : act.write ≡ Some l.to
   -- and it is dashed exactly where no processor of it read that cell for the value that it wrote there
   pub dashed : l.dashed ≡ not (values (aside statement.1) (acts_in statement.1) l.from (Some l.to))
-
--- a text stands within another one
-pub record StandsIn (part whole : List ℕ) : Type 0 where
-  pub before : List ℕ
-  pub behind : List ℕ
-  pub is : whole ≡ before ++ (part ++ behind)

@@ -7,11 +7,15 @@ pub mod Places
 pub mod Drawing
 pub mod Taken
 pub mod Marks
-pub mod Texts
+pub mod Looks
+pub mod MarkShapes
 pub mod Columns
+pub mod Rows
+pub mod Facts
+pub mod Table
 pub mod Picture
 pub mod Laws
-pub mod Shapes
+pub mod FactLaws
 pub mod Asides
 pub mod Takes
 pub mod TakesLaws

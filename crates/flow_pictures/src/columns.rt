@@ -4,7 +4,8 @@ ghost use Rattle.std.specs.Prelude.{◌≡◌, ◌<◌, ◌^◌, map};
 ghost use Rattle.text_out.specs.Out.{Writes};
 ghost use Rattle.journal.specs.Entries.{entry_is};
 ghost use Rattle.flow_pictures.specs.Drawing.{column_is};
-ghost use Rattle.flow_pictures.specs.Picture as picture;
+ghost use Rattle.svg_texts.specs.Shapes.{shape_text};
+ghost use Rattle.flow_pictures.specs.Table as table;
 ghost use Rattle.flow_pictures.specs.Columns as spec;
 
 use crate::column::Column;
@@ -13,36 +14,39 @@ use crate::faults::write_fault_part;
 use crate::letters::{source_at, write_source};
 use crate::marks::write_marks;
 use crate::measure::{x_of, y_at};
-use itoa::Buffer;
 use journal::Entry;
 use pram_trees::Layout;
+use svg_texts::{Anchor, Face, close_text, open_label, write_number, write_numbered};
 use text_out::{Out, WriteFault};
 
-// The number of a statement and its line.
-fn write_number<W: Out>(out: &mut W, x: u128, number: usize, line: u32) -> Result<(), WriteFault>
-    ensures written { Writes (W.Out.state out.old) (W.Out.state out.new) (spec.number_text x number line) result }
+// The number of a statement.
+fn write_place_number<W: Out>(out: &mut W, x: u128, number: usize) -> Result<(), WriteFault>
+    ensures written { Writes (W.Out.state out.old) (W.Out.state out.new) (shape_text (spec.number_shape x number)) result }
 {
-    let mut across = Buffer::new();
-    let mut digits = Buffer::new();
-    let mut lines = Buffer::new();
-    let from = across.format(x).as_bytes();
-    out.write_parts(&[
-        b"<text x='",
-        from,
-        b"' y='272' text-anchor='middle' font-weight='bold'>",
-        digits.format(number).as_bytes(),
-        b"</text>\n<text x='",
-        from,
-        b"' y='286' text-anchor='middle'>line ",
-        lines.format(line).as_bytes(),
-        b"</text>\n",
-    ])
+    write_number(out, x, 272, Anchor::Middle, Face::Bold, number as u128)
+}
+
+// Its line.
+fn write_line<W: Out>(out: &mut W, x: u128, line: u32) -> Result<(), WriteFault>
+    ensures written { Writes (W.Out.state out.old) (W.Out.state out.new) (shape_text (spec.line_shape x line)) result }
+{
+    open_label(out, x, 286, Anchor::Middle, Face::Plain)?;
+    write_numbered(out, b"line ", line as u128)?;
+    close_text(out)
+}
+
+fn write_entry_line<W: Out>(out: &mut W, x: u128, entry: &Entry) -> Result<(), WriteFault>
+    ensures written { Writes (W.Out.state out.old) (W.Out.state out.new) (shape_text (spec.entry_line x (entry_is entry.now))) result }
+{
+    write_line(out, x, location_in(entry).line)
 }
 
 fn write_place<W: Out>(out: &mut W, x: u128, number: usize, entry: &Entry) -> Result<(), WriteFault>
-    ensures written { Writes (W.Out.state out.old) (W.Out.state out.new) (spec.place_text x number (entry_is entry.now)) result }
+    ensures written { Writes (W.Out.state out.old) (W.Out.state out.new)
+        (shape_text (spec.place_shape x number (entry_is entry.now))) result }
 {
-    write_number(out, x, number, location_in(entry).line)
+    write_place_number(out, x, number)?;
+    write_entry_line(out, x, entry)
 }
 
 fn write_line_source<W: Out>(
@@ -52,7 +56,8 @@ fn write_line_source<W: Out>(
     entry: &Entry,
 ) -> Result<(), WriteFault>
     requires near { x < 2 ^ 100 }
-    ensures written { Writes (W.Out.state out.old) (W.Out.state out.new) (spec.line_source text.now x (entry_is entry.now)) result }
+    ensures written { Writes (W.Out.state out.old) (W.Out.state out.new)
+        (shape_text (spec.line_source text.now x (entry_is entry.now))) result }
 {
     write_source(out, x, source_at(text, location_in(entry).offset))
 }
@@ -65,7 +70,8 @@ fn write_heading_at<W: Out>(
     entry: &Entry,
 ) -> Result<(), WriteFault>
     requires near { x < 2 ^ 100 }
-    ensures written { Writes (W.Out.state out.old) (W.Out.state out.new) (spec.heading_at text.now x number (entry_is entry.now)) result }
+    ensures written { Writes (W.Out.state out.old) (W.Out.state out.new)
+        (shape_text (spec.heading_at text.now x number (entry_is entry.now))) result }
 {
     write_place(out, x, number, entry)?;
     write_line_source(out, text, x, entry)
@@ -80,7 +86,7 @@ fn write_heading<W: Out>(
     entry: &Entry,
 ) -> Result<(), WriteFault>
     ensures written { Writes (W.Out.state out.old) (W.Out.state out.new)
-        (spec.heading text.now column number (entry_is entry.now)) result }
+        (shape_text (spec.heading text.now column number (entry_is entry.now))) result }
 {
     write_heading_at(out, text, x_of(column), number, entry)
 }
@@ -101,7 +107,7 @@ fn write_column_fault<W: Out>(
     entry: &Entry,
 ) -> Result<(), WriteFault>
     ensures written { Writes (W.Out.state out.old) (W.Out.state out.new)
-        (spec.column_fault layout.now rows.now column (entry_is entry.now)) result }
+        (shape_text (spec.column_fault layout.now rows.now column (entry_is entry.now))) result }
 {
     write_fault_part(out, layout, rows, x_of(column), bottom(rows), entry)
 }
@@ -115,7 +121,7 @@ fn write_column<W: Out>(
     drawn: &Column,
 ) -> Result<(), WriteFault>
     ensures written { Writes (W.Out.state out.old) (W.Out.state out.new)
-        (spec.column_text layout.now text.now rows.now column (column_is drawn.now)) result }
+        (shape_text (spec.column_shape layout.now text.now rows.now column (column_is drawn.now))) result }
 {
     write_heading(out, text, column, drawn.number, &drawn.entry)?;
     write_marks(out, rows, column, drawn)?;
@@ -131,7 +137,7 @@ pub(crate) fn write_columns<W: Out>(
     columns: &[Column],
 ) -> Result<(), WriteFault>
     ensures written { Writes (W.Out.state out.old) (W.Out.state out.new)
-        (picture.columns layout.now text.now rows.now 1 (map column_is columns.now)) result }
+        (shape_text (table.columns layout.now text.now rows.now 1 (map column_is columns.now))) result }
 {
     let mut before = 0usize;
     for column in columns {

@@ -1,51 +1,49 @@
 //! What is drawn of a fault.
 
-ghost use Rattle.std.specs.Prelude.{◌≡◌, ◌<◌, ◌^◌, take};
+ghost use Rattle.std.specs.Prelude.{◌≡◌, ◌<◌, ◌^◌, ◌++◌, codes, take};
 ghost use Rattle.text_out.specs.Out.{Writes};
 ghost use Rattle.journal.specs.Entries.{entry_is};
 ghost use Rattle.program_texts.specs.Shown.{spaced};
+ghost use Rattle.svg_texts.specs.Letters.{letters};
+ghost use Rattle.svg_texts.specs.Shapes.{shape_text, words_text};
 ghost use Rattle.flow_pictures.specs.Columns as spec;
-ghost use Rattle.flow_pictures.specs.Texts as texts;
 
 use crate::links::has_read;
+use crate::looks::black;
 use crate::measure::y_of;
-use crate::shapes::{Area, write_line_front, write_rectangle};
+use crate::names::write_fault_letters;
 use itoa::Buffer;
 use journal::Entry;
 use pram_trees::Layout;
 use pram_values::Place;
-use program_texts::{write_fault_text, write_values};
+use program_texts::write_values;
+use svg_texts::{Anchor, Face, Form, Weight, close_text, open_label, write_form};
 use text_out::{Out, WriteFault};
 use write_rules::Fault;
 
 // No more of those that met are named.
 const MOST_NAMED: usize = 12;
 
-fn write_heavy<W: Out>(out: &mut W, area: Area) -> Result<(), WriteFault>
+// Around the middle of something, 28 pixels to each side.
+fn write_frame<W: Out>(out: &mut W, x: u128, top: u128, tall: u128) -> Result<(), WriteFault>
     ensures written { Writes (W.Out.state out.old) (W.Out.state out.new)
-        (texts.rectangle area.left area.top area.wide area.tall spec.heavy) result }
+        (shape_text (spec.frame x top tall)) result }
 {
-    write_rectangle(
-        out,
-        area,
-        b"' fill='none' stroke='#000000' stroke-width='3'/>\n",
-    )
+    let form = Form::Rectangle {
+        left: x.saturating_sub(28),
+        top,
+        wide: 56,
+        tall,
+    };
+    write_form(out, &form, &black(Weight::Heavy, false))
 }
 
 // A frame in the row of a cell, where it has one.
 fn write_cell_frame<W: Out>(out: &mut W, rows: &[u32], x: u128, cell: u32) -> Result<(), WriteFault>
-    ensures written { Writes (W.Out.state out.old) (W.Out.state out.new) (spec.cell_frame rows.now x cell) result }
+    ensures written { Writes (W.Out.state out.old) (W.Out.state out.new) (shape_text (spec.cell_frame rows.now x cell)) result }
 {
     if has_read(rows, cell) {
-        let left = x.saturating_sub(28);
-        let top = y_of(rows, cell).saturating_sub(9);
-        let area = Area {
-            left,
-            top,
-            wide: 56,
-            tall: 18,
-        };
-        write_heavy(out, area)
+        write_frame(out, x, y_of(rows, cell).saturating_sub(9), 18)
     } else {
         Ok(())
     }
@@ -57,7 +55,7 @@ fn write_place_frame<W: Out>(
     x: u128,
     place: Place,
 ) -> Result<(), WriteFault>
-    ensures written { Writes (W.Out.state out.old) (W.Out.state out.new) (spec.place_frame rows.now x place) result }
+    ensures written { Writes (W.Out.state out.old) (W.Out.state out.new) (shape_text (spec.place_frame rows.now x place)) result }
 {
     match place {
         Place::All => Ok(()),
@@ -66,38 +64,32 @@ fn write_place_frame<W: Out>(
     }
 }
 
-fn write_fault_rest<W: Out>(out: &mut W, layout: &Layout, fault: &Fault) -> Result<(), WriteFault>
-    ensures written { Writes (W.Out.state out.old) (W.Out.state out.new) (spec.fault_rest layout.now fault.now) result }
-{
-    write_fault_text(out, layout, fault)?;
-    out.write_all(b"</text>\n")
-}
-
 fn write_fault_line<W: Out>(
     out: &mut W,
     layout: &Layout,
     y: u128,
     fault: &Fault,
 ) -> Result<(), WriteFault>
-    ensures written { Writes (W.Out.state out.old) (W.Out.state out.new) (spec.fault_line layout.now y fault.now) result }
+    ensures written { Writes (W.Out.state out.old) (W.Out.state out.new) (shape_text (spec.fault_line layout.now y fault.now)) result }
 {
-    write_line_front(out, y)?;
-    write_fault_rest(out, layout, fault)
+    open_label(out, 12, y, Anchor::Start, Face::Plain)?;
+    write_fault_letters(out, layout, fault)?;
+    close_text(out)
 }
 
 // How many more met than are named.
 fn write_met_cut<W: Out>(out: &mut W, met: &[i64]) -> Result<(), WriteFault>
-    ensures written { Writes (W.Out.state out.old) (W.Out.state out.new) (spec.met_cut met.now) result }
+    ensures written { Writes (W.Out.state out.old) (W.Out.state out.new) (words_text (spec.met_cut met.now)) result }
 {
     if met.len() > MOST_NAMED {
         let mut digits = Buffer::new();
         out.write_parts(&[
             b" and ",
             digits.format(met.len() - MOST_NAMED).as_bytes(),
-            b" more met there</text>\n",
+            b" more met there",
         ])
     } else {
-        out.write_all(b" met there</text>\n")
+        out.write_all(b" met there")
     }
 }
 
@@ -113,23 +105,37 @@ fn named(met: &[i64]) -> &[i64]
 }
 
 fn write_named<W: Out>(out: &mut W, met: &[i64]) -> Result<(), WriteFault>
-    ensures written { Writes (W.Out.state out.old) (W.Out.state out.new) (spaced (take 12 met.now)) result }
+    ensures written { Writes (W.Out.state out.old) (W.Out.state out.new) (letters (spaced (take 12 met.now))) result }
 {
     write_values(out, named(met))
 }
 
-fn write_some_met<W: Out>(out: &mut W, y: u128, met: &[i64]) -> Result<(), WriteFault>
-    ensures written { Writes (W.Out.state out.old) (W.Out.state out.new) (spec.some_met y met.now) result }
+fn write_named_met<W: Out>(out: &mut W, met: &[i64]) -> Result<(), WriteFault>
+    ensures written { Writes (W.Out.state out.old) (W.Out.state out.new)
+        (letters (spaced (take 12 met.now)) ++ words_text (spec.met_cut met.now)) result }
 {
-    write_line_front(out, y)?;
-    out.write_all(b"processors")?;
     write_named(out, met)?;
     write_met_cut(out, met)
 }
 
+fn write_met_words<W: Out>(out: &mut W, met: &[i64]) -> Result<(), WriteFault>
+    ensures written { Writes (W.Out.state out.old) (W.Out.state out.new) (words_text (spec.met_words met.now)) result }
+{
+    out.write_all(b"processors")?;
+    write_named_met(out, met)
+}
+
+fn write_some_met<W: Out>(out: &mut W, y: u128, met: &[i64]) -> Result<(), WriteFault>
+    ensures written { Writes (W.Out.state out.old) (W.Out.state out.new) (shape_text (spec.some_met y met.now)) result }
+{
+    open_label(out, 12, y, Anchor::Start, Face::Plain)?;
+    write_met_words(out, met)?;
+    close_text(out)
+}
+
 // Who met, below the fault.
 fn write_met<W: Out>(out: &mut W, y: u128, met: &[i64]) -> Result<(), WriteFault>
-    ensures written { Writes (W.Out.state out.old) (W.Out.state out.new) (spec.met_text y met.now) result }
+    ensures written { Writes (W.Out.state out.old) (W.Out.state out.new) (shape_text (spec.met_shape y met.now)) result }
 {
     if met.is_empty() {
         Ok(())
@@ -140,15 +146,32 @@ fn write_met<W: Out>(out: &mut W, y: u128, met: &[i64]) -> Result<(), WriteFault
 
 // A frame around the head of a column.
 fn write_head_frame<W: Out>(out: &mut W, x: u128) -> Result<(), WriteFault>
-    ensures written { Writes (W.Out.state out.old) (W.Out.state out.new) (spec.head_frame x) result }
+    ensures written { Writes (W.Out.state out.old) (W.Out.state out.new) (shape_text (spec.head_frame x)) result }
 {
-    let area = Area {
-        left: x.saturating_sub(28),
-        top: 258,
-        wide: 56,
-        tall: 34,
-    };
-    write_heavy(out, area)
+    write_frame(out, x, 258, 34)
+}
+
+fn write_frames<W: Out>(out: &mut W, rows: &[u32], x: u128, fault: &Fault) -> Result<(), WriteFault>
+    ensures written { Writes (W.Out.state out.old) (W.Out.state out.new) (shape_text (spec.frames rows.now x fault.now)) result }
+{
+    write_head_frame(out, x)?;
+    write_place_frame(out, rows, x, fault.place)
+}
+
+// What was wrong, and who met.
+fn write_fault_lines<W: Out>(
+    out: &mut W,
+    layout: &Layout,
+    y: u128,
+    fault: &Fault,
+    met: &[i64],
+) -> Result<(), WriteFault>
+    requires near { y < 2 ^ 100 }
+    ensures written { Writes (W.Out.state out.old) (W.Out.state out.new)
+        (shape_text (spec.fault_lines layout.now y fault.now met.now)) result }
+{
+    write_fault_line(out, layout, y, fault)?;
+    write_met(out, y + 18, met)
 }
 
 fn write_fault_marks<W: Out>(
@@ -162,12 +185,10 @@ fn write_fault_marks<W: Out>(
 ) -> Result<(), WriteFault>
     requires near { y < 2 ^ 100 }
     ensures written { Writes (W.Out.state out.old) (W.Out.state out.new)
-        (spec.fault_marks layout.now rows.now x y fault.now met.now) result }
+        (shape_text (spec.fault_marks layout.now rows.now x y fault.now met.now)) result }
 {
-    write_head_frame(out, x)?;
-    write_place_frame(out, rows, x, fault.place)?;
-    write_fault_line(out, layout, y, fault)?;
-    write_met(out, y + 18, met)
+    write_frames(out, rows, x, fault)?;
+    write_fault_lines(out, layout, y, fault, met)
 }
 
 /// Writes what is drawn of a fault, where the statement faulted.
@@ -181,7 +202,7 @@ pub(crate) fn write_fault_part<W: Out>(
 ) -> Result<(), WriteFault>
     requires near { y < 2 ^ 100 }
     ensures written { Writes (W.Out.state out.old) (W.Out.state out.new)
-        (spec.fault_part layout.now rows.now x y (entry_is entry.now)) result }
+        (shape_text (spec.fault_part layout.now rows.now x y (entry_is entry.now))) result }
 {
     match entry {
         Entry::Ran { .. } => Ok(()),

@@ -2,36 +2,37 @@
 
 ghost use Rattle.std.specs.Prelude.{◌≡◌, ℕ, ◌+◌, ◌-◌, ◌<◌, ◌≤◌, ◌++◌, ℤ, Bool, List, Some, length, map, slice_index_or, true};
 ghost use Rattle.std.specs.List.{Contains};
+ghost use Rattle.svg_texts.specs.Shapes.{IsIn};
 ghost use Rattle.pram_model.specs.Layout.{SharedEntry};
 ghost use Rattle.journal.specs.Entries.{Act, Entry};
 ghost use Rattle.flow_pictures.specs.declared.spans.CellSpan.{CellSpan};
 ghost use Rattle.flow_pictures.specs.Cells.{is_chosen, touched};
 ghost use Rattle.flow_pictures.specs.Choice.{acts_in, faulted, is_fault, ran, touching};
-ghost use Rattle.flow_pictures.specs.Laws.{IsCarried, IsColumn, StandsIn, arrows_of, cells, found, nodes_of, statements};
+ghost use Rattle.flow_pictures.specs.Laws.{IsCarried, IsColumn, arrows_of, cells, found, nodes_of, statements};
 ghost use Rattle.flow_pictures.specs.Marks.{Arrow, Node, arrow_by, node};
+ghost use Rattle.flow_pictures.specs.MarkShapes.{arrow_shape, node_shape};
 ghost use Rattle.flow_pictures.specs.Picture.{flow};
-ghost use Rattle.flow_pictures.specs.Shapes.{RowsWereTouched, ShapesAreSo, ThePictureIsItsShapes};
-ghost use Rattle.flow_pictures.specs.Texts.{arrow_text, node_text};
+ghost use Rattle.flow_pictures.specs.FactLaws.{FactsAreSo, RowsWereTouched, ThePictureIsItsShapes};
 ghost use Rattle.flow_pictures.specs.Values.{value_behind};
 
 /// Each write of a statement in column 1 + i to a cell that has a row is a box of that column and that row, with the value that the cell
-/// has behind the statement; and each box stands in the picture.
+/// has behind the statement; and each box is a shape of the picture.
 pub fn each_write_is_a_node()
     // Each write of a statement that has a column, to a cell that has a row, is a box there with the cell's value
     // behind the statement.
     ensures node { (only : List CellSpan) (opening : List ℤ) (es : List Entry) (from to i : ℕ) (p : ℕ × Entry) (a : Act) (cell : ℕ) →
         IsColumn (statements es from to) i p → Contains (acts_in p.1) a → a.write ≡ Some cell → Contains (cells only es from to) cell →
         Contains (nodes_of only opening es from to) (node (1 + i) (value_behind opening es p.0) cell) }
-    // Each of these boxes stands in the picture.
+    // Each of these boxes is a shape of the picture.
     ensures drawn { (only : List CellSpan) (layout : List SharedEntry) (text : List ℕ) (aside : Entry → List Bool)
         (opening : List ℤ) (es : List Entry) (from to : ℕ) (n : Node) →
         Contains (nodes_of only opening es from to) n →
-        StandsIn (node_text (cells only es from to) n) (flow layout text aside opening es only from to) }
+        IsIn (node_shape (cells only es from to) n) (flow layout text aside opening es only from to).shape }
 {}
 
-/// From each cell that a processor read comes a line to the cell that it wrote, where both have a row; each line stands in the picture; and
-/// there is no other: a line of column 1 + i begins at a cell that a processor of that statement read, and ends at the one that it wrote;
-/// and it is dashed exactly where no processor of it read that cell for the value that it wrote there, but for subscripts alone.
+/// From each cell that a processor read comes a line to the cell that it wrote, where both have a row; each line is a shape of the picture;
+/// and there is no other: a line of column 1 + i begins at a cell that a processor of that statement read, and ends at the one that it
+/// wrote; and it is dashed exactly where no processor of it read that cell for the value that it wrote there, but for subscripts alone.
 pub fn lines_come_from_reads()
     // From each cell that a processor read a line comes to the cell that it wrote, where both have a row.
     ensures line { (only : List CellSpan) (aside : Entry → List Bool) (es : List Entry) (from to i : ℕ) (p : ℕ × Entry)
@@ -39,10 +40,10 @@ pub fn lines_come_from_reads()
         IsColumn (statements es from to) i p → Contains (acts_in p.1) a → Contains a.reads source → a.write ≡ Some cell →
         Contains (cells only es from to) source → Contains (cells only es from to) cell →
         Contains (arrows_of only aside es from to) (arrow_by (1 + i) (aside p.1) (acts_in p.1) cell source) }
-    // Each of these lines stands in the picture.
+    // Each of these lines is a shape of the picture.
     ensures drawn { (only : List CellSpan) (layout : List SharedEntry) (text : List ℕ) (aside : Entry → List Bool)
         (opening : List ℤ) (es : List Entry) (from to : ℕ) (l : Arrow) → Contains (arrows_of only aside es from to) l →
-        StandsIn (arrow_text (cells only es from to) l) (flow layout text aside opening es only from to) }
+        IsIn (arrow_shape (cells only es from to) l) (flow layout text aside opening es only from to).shape }
     // Every line is of such a read and write, dashed exactly where no processor read that cell for the value written
     // there, but for subscripts alone.
     ensures carried { (only : List CellSpan) (aside : Entry → List Bool) (es : List Entry) (from to : ℕ) (l : Arrow) →
@@ -76,15 +77,16 @@ pub fn what_has_room_is_drawn()
         is_chosen only cell ≡ true }
 {}
 
-/// The picture is its head and the texts of its shapes, and nothing else: rows, headings, lines, boxes, rings and what is drawn of a fault.
-/// Each of these is so: a row has a cell that was touched, with its value before; a heading is of the statement in that column; lines and
-/// boxes are those above; a ring is at a cell that a processor read which wrote none; and a fault is that of its statement, with who met.
+/// The picture has a title and a size, and shows its head, and facts, each by its shape, and nothing else: rows, headings, lines, boxes,
+/// rings and what is drawn of a fault. Each fact is so: a row has a cell that was touched, with its value before; a heading is of the
+/// statement in that column; lines and boxes are those above; a ring is at a cell that a processor read which wrote none; and a fault is
+/// that of its statement, with who met.
 pub fn the_picture_is_its_shapes()
-    // The picture is its head and the texts of its shapes, and nothing else.
+    // The picture is its title, its size, its head and the shapes of its facts, and nothing else.
     ensures whole { ThePictureIsItsShapes }
-    // What each shape tells is so: a row's value before, a heading's statement, a line, a box, a ring's read without a
+    // What each fact tells is so: a row's value before, a heading's statement, a line, a box, a ring's read without a
     // write, and a fault.
-    ensures so { ShapesAreSo }
+    ensures so { FactsAreSo }
     // A cell that has a row was touched by a statement that has a column.
     ensures touched { RowsWereTouched }
 {}

@@ -1,12 +1,16 @@
-//! What is said above the rows: how many statements and cells are drawn, and what is what.
+//! What is said above the rows: how many statements and cells are drawn.
 
-ghost use Rattle.std.specs.Prelude.{◌≡◌, ◌++◌, codes, decimal};
+ghost use Rattle.std.specs.Prelude.{◌≡◌, ◌++◌, codes, decimal, length};
 ghost use Rattle.text_out.specs.Out.{Writes};
+ghost use Rattle.pram_model.specs.Layout.{total_size};
+ghost use Rattle.svg_texts.specs.Shapes.{shape_text, words_text};
 ghost use Rattle.flow_pictures.specs.Picture as spec;
 
+use crate::key::write_key;
 use crate::spans::CellSpan;
 use itoa::Buffer;
 use pram_trees::Layout;
+use svg_texts::{Anchor, Face, close_text, open_label};
 use text_out::{Out, WriteFault};
 
 // Between which numbers, where not all are asked for.
@@ -16,7 +20,7 @@ fn write_range<W: Out>(
     to: usize,
     statements: usize,
 ) -> Result<(), WriteFault>
-    ensures written { Writes (W.Out.state out.old) (W.Out.state out.new) (spec.range_text from to statements) result }
+    ensures written { Writes (W.Out.state out.old) (W.Out.state out.new) (words_text (spec.range_words from to statements)) result }
 {
     if from <= 1 && statements <= to {
         return Ok(());
@@ -37,17 +41,17 @@ fn write_statement_cut<W: Out>(
     columns: usize,
     touching: usize,
 ) -> Result<(), WriteFault>
-    ensures written { Writes (W.Out.state out.old) (W.Out.state out.new) (spec.statement_cut columns touching) result }
+    ensures written { Writes (W.Out.state out.old) (W.Out.state out.new) (words_text (spec.statement_cut columns touching)) result }
 {
     if touching > columns {
         let mut digits = Buffer::new();
         out.write_parts(&[
             b", without ",
             digits.format(touching - columns).as_bytes(),
-            b" for which there is no room</text>\n",
+            b" for which there is no room",
         ])
     } else {
-        out.write_all(b"</text>\n")
+        Ok(())
     }
 }
 
@@ -56,17 +60,32 @@ fn write_statements<W: Out>(
     statements: usize,
     columns: usize,
 ) -> Result<(), WriteFault>
-    ensures written { Writes (W.Out.state out.old) (W.Out.state out.new) (spec.statements_text statements columns) result }
+    ensures written { Writes (W.Out.state out.old) (W.Out.state out.new) (words_text (spec.statements_words statements columns)) result }
 {
     let mut all = Buffer::new();
     let mut some = Buffer::new();
     out.write_parts(&[
-        b"<text x='12' y='20'>",
         all.format(statements).as_bytes(),
         b" statements, ",
         some.format(columns).as_bytes(),
         b" of them drawn: those that touch shared memory",
     ])
+}
+
+fn write_statement_words<W: Out>(
+    out: &mut W,
+    from: usize,
+    to: usize,
+    statements: usize,
+    columns: usize,
+    touching: usize,
+) -> Result<(), WriteFault>
+    ensures written { Writes (W.Out.state out.old) (W.Out.state out.new)
+        (words_text (spec.statement_words from to statements columns touching)) result }
+{
+    write_statements(out, statements, columns)?;
+    write_range(out, from, to, statements)?;
+    write_statement_cut(out, columns, touching)
 }
 
 fn write_statement_line<W: Out>(
@@ -78,11 +97,11 @@ fn write_statement_line<W: Out>(
     touching: usize,
 ) -> Result<(), WriteFault>
     ensures written { Writes (W.Out.state out.old) (W.Out.state out.new)
-        (spec.statement_line from to statements columns touching) result }
+        (shape_text (spec.statement_line from to statements columns touching)) result }
 {
-    write_statements(out, statements, columns)?;
-    write_range(out, from, to, statements)?;
-    write_statement_cut(out, columns, touching)
+    open_label(out, 12, 20, Anchor::Start, Face::Plain)?;
+    write_statement_words(out, from, to, statements, columns, touching)?;
+    close_text(out)
 }
 
 // That more cells are touched than are drawn.
@@ -96,21 +115,22 @@ fn cell_cut(found: usize) -> &'static [u8]
     }
 }
 
-fn write_cell_line<W: Out>(
+fn write_cells<W: Out>(
     out: &mut W,
-    cells: u32,
+    layout: &Layout,
     rows: usize,
     found: usize,
 ) -> Result<(), WriteFault>
-    ensures written { Writes (W.Out.state out.old) (W.Out.state out.new) (spec.cell_line cells rows found) result }
+    ensures written { Writes (W.Out.state out.old) (W.Out.state out.new)
+        (words_text (spec.cells_words (total_size layout.now) rows found)) result }
 {
     let mut all = Buffer::new();
     let mut some = Buffer::new();
     let mut others = Buffer::new();
+    let cells = layout.cells();
     let left = (cells as usize).saturating_sub(rows);
     let cut = cell_cut(found);
     out.write_parts(&[
-        b"<text x='12' y='38'>",
         all.format(cells).as_bytes(),
         b" cells, ",
         some.format(rows).as_bytes(),
@@ -123,7 +143,7 @@ fn write_cell_line<W: Out>(
 
 fn write_some_only<W: Out>(out: &mut W, only: usize, declarations: usize) -> Result<(), WriteFault>
     ensures written { Writes (W.Out.state out.old) (W.Out.state out.new)
-        (codes ", in " ++ (decimal only ++ (codes " of " ++ (decimal declarations ++ codes " declarations</text>\n")))) result }
+        (codes ", in " ++ (decimal only ++ (codes " of " ++ (decimal declarations ++ codes " declarations")))) result }
 {
     let mut some = Buffer::new();
     let mut all = Buffer::new();
@@ -132,50 +152,51 @@ fn write_some_only<W: Out>(out: &mut W, only: usize, declarations: usize) -> Res
         some.format(only).as_bytes(),
         b" of ",
         all.format(declarations).as_bytes(),
-        b" declarations</text>\n",
+        b" declarations",
     ])
 }
 
 // That cells of some declarations alone are drawn.
-fn write_only<W: Out>(out: &mut W, only: &[CellSpan], declarations: usize) -> Result<(), WriteFault>
-    ensures written { Writes (W.Out.state out.old) (W.Out.state out.new) (spec.only_text only.now declarations) result }
+fn write_only<W: Out>(out: &mut W, layout: &Layout, only: &[CellSpan]) -> Result<(), WriteFault>
+    ensures written { Writes (W.Out.state out.old) (W.Out.state out.new)
+        (words_text (spec.only_words only.now (length layout.now))) result }
 {
     if only.is_empty() {
-        out.write_all(b"</text>\n")
+        Ok(())
     } else {
-        write_some_only(out, only.len(), declarations)
+        write_some_only(out, only.len(), layout.len())
     }
 }
 
-// How many cells are drawn, and how many not.
-fn write_cells<W: Out>(
+fn write_cell_words<W: Out>(
     out: &mut W,
     layout: &Layout,
     only: &[CellSpan],
     rows: usize,
     found: usize,
 ) -> Result<(), WriteFault>
-    ensures written { Writes (W.Out.state out.old) (W.Out.state out.new) (spec.cells_text layout.now only.now rows found) result }
+    ensures written { Writes (W.Out.state out.old) (W.Out.state out.new)
+        (words_text (spec.cells_words (total_size layout.now) rows found) ++ words_text (spec.only_words only.now (length layout.now)))
+        result }
 {
-    let cells = layout.cells();
-    let declarations = layout.len();
-    write_cell_line(out, cells, rows, found)?;
-    write_only(out, only, declarations)
+    write_cells(out, layout, rows, found)?;
+    write_only(out, layout, only)
 }
 
-// What is what.
-fn write_key<W: Out>(out: &mut W) -> Result<(), WriteFault>
-    ensures written { Writes (W.Out.state out.old) (W.Out.state out.new) (spec.key_text) result }
+// How many cells are drawn, and how many not.
+fn write_cell_line<W: Out>(
+    out: &mut W,
+    layout: &Layout,
+    only: &[CellSpan],
+    rows: usize,
+    found: usize,
+) -> Result<(), WriteFault>
+    ensures written { Writes (W.Out.state out.old) (W.Out.state out.new)
+        (shape_text (spec.cell_line layout.now only.now rows found)) result }
 {
-    out.write_parts(&[
-        b"<rect x='12' y='48' width='22' height='18' fill='#ffffff' stroke='#000000'/>\n<text x='19' y='61'>7</text>\n",
-        b"<text x='40' y='61'>written, with the new value</text>\n<path d='M220 57H250' stroke='#000000' stroke-width='1.5'/>\n",
-        b"<text x='256' y='61'>from a cell that the writer read</text>\n",
-        b"<circle cx='456' cy='57' r='4' fill='#ffffff' stroke='#000000'/>\n<text x='466' y='61'>read alone</text>\n",
-        b"<rect x='548' y='48' width='22' height='18' fill='none' stroke='#000000' stroke-width='3'/>\n",
-        b"<text x='578' y='61'>fault</text>\n<path d='M12 80H46' stroke='#000000' stroke-width='1.5' stroke-dasharray='6 4'/>\n",
-        b"<text x='54' y='84'>dashed: for a subscript alone</text>\n",
-    ])
+    open_label(out, 12, 38, Anchor::Start, Face::Plain)?;
+    write_cell_words(out, layout, only, rows, found)?;
+    close_text(out)
 }
 
 /// What stands above the rows.
@@ -192,9 +213,9 @@ pub(crate) fn write_head<W: Out>(
     found: usize,
 ) -> Result<(), WriteFault>
     ensures written { Writes (W.Out.state out.old) (W.Out.state out.new)
-        (spec.head layout.now only.now statements from to columns touching rows found) result }
+        (shape_text (spec.head layout.now only.now statements from to columns touching rows found)) result }
 {
     write_statement_line(out, from, to, statements, columns, touching)?;
-    write_cells(out, layout, only, rows, found)?;
+    write_cell_line(out, layout, only, rows, found)?;
     write_key(out)
 }

@@ -1,14 +1,21 @@
 //! Texts of a program.
 
-ghost use Rattle.std.specs.Prelude.{◌≡◌, ◌<◌, ◌^◌, drop, take};
+ghost use Rattle.std.specs.Prelude.{◌≡◌, ◌<◌, ◌^◌, ◌++◌, drop, take};
 ghost use Rattle.text_out.specs.Out.{Writes};
 ghost use Rattle.svg_texts.specs.Letters as svg;
-ghost use Rattle.flow_pictures.specs.Texts as spec;
+ghost use Rattle.svg_texts.specs.Shapes.{shape_text, words_text};
+ghost use Rattle.flow_pictures.specs.MarkShapes as spec;
 
-use itoa::Buffer;
-use svg_texts::write_letters;
+use svg_texts::{Anchor, Face, Lettering, close_text, open_text, write_letters};
 use text_out::{Out, WriteFault};
 use text_places::line_text;
+
+const UPWARDS: Lettering = Lettering {
+    anchor: Anchor::Start,
+    face: Face::Code,
+    ink: None,
+    upwards: true,
+};
 
 // No more of a line is shown.
 const MOST: usize = 24;
@@ -50,33 +57,29 @@ fn write_shown<W: Out>(out: &mut W, source: &[u8]) -> Result<(), WriteFault>
 
 // That more stands there than has room.
 fn write_source_cut<W: Out>(out: &mut W, source: &[u8]) -> Result<(), WriteFault>
-    ensures written { Writes (W.Out.state out.old) (W.Out.state out.new) (spec.source_cut source.now) result }
+    ensures written { Writes (W.Out.state out.old) (W.Out.state out.new) (words_text (spec.source_cut source.now)) result }
 {
     if source.len() > MOST {
-        out.write_all(b" ..</text>\n")
+        out.write_all(b" ..")
     } else {
-        out.write_all(b"</text>\n")
+        Ok(())
     }
 }
 
-fn write_source_front<W: Out>(out: &mut W, x: u128) -> Result<(), WriteFault>
-    requires near { x < 2 ^ 100 }
-    ensures written { Writes (W.Out.state out.old) (W.Out.state out.new) (spec.source_front x) result }
+fn write_source_words<W: Out>(out: &mut W, source: &[u8]) -> Result<(), WriteFault>
+    ensures written { Writes (W.Out.state out.old) (W.Out.state out.new)
+        (svg.letters (take 24 source.now) ++ words_text (spec.source_cut source.now)) result }
 {
-    let mut across = Buffer::new();
-    out.write_parts(&[
-        b"<text transform='translate(",
-        across.format(x + 4).as_bytes(),
-        b" 250)rotate(-90)' font-family='monospace' font-size='11'>",
-    ])
+    write_shown(out, source)?;
+    write_source_cut(out, source)
 }
 
 /// Writes what stands in the line of a statement, upwards.
 pub(crate) fn write_source<W: Out>(out: &mut W, x: u128, source: &[u8]) -> Result<(), WriteFault>
     requires near { x < 2 ^ 100 }
-    ensures written { Writes (W.Out.state out.old) (W.Out.state out.new) (spec.source_text x source.now) result }
+    ensures written { Writes (W.Out.state out.old) (W.Out.state out.new) (shape_text (spec.source_shape x source.now)) result }
 {
-    write_source_front(out, x)?;
-    write_shown(out, source)?;
-    write_source_cut(out, source)
+    open_text(out, x + 4, 250, &UPWARDS)?;
+    write_source_words(out, source)?;
+    close_text(out)
 }

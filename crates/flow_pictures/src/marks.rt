@@ -1,19 +1,22 @@
 //! The marks of a column.
 
-ghost use Rattle.std.specs.Prelude.{◌≡◌, [], None, Some, if◌then◌else◌, map};
-ghost use Rattle.std.specs.List.{flat_map};
+ghost use Rattle.std.specs.Prelude.{◌≡◌, None, Some, if◌then◌else◌, map};
 ghost use Rattle.text_out.specs.Out.{Writes};
 ghost use Rattle.journal.specs.Entries.{act_is};
 ghost use Rattle.flow_pictures.specs.Drawing.{column_is};
 ghost use Rattle.flow_pictures.specs.Marks as spec;
-ghost use Rattle.flow_pictures.specs.Texts as texts;
+ghost use Rattle.flow_pictures.specs.MarkShapes as shapes;
+ghost use Rattle.flow_pictures.specs.MarkShapes.{each};
+ghost use Rattle.svg_texts.specs.Shapes.{Empty, shape_text};
 
 use crate::column::Column;
 use crate::entries::acts_in;
 use crate::links::{carries, value_in, values, writes};
+use crate::looks::black;
 use crate::measure::{value_width, x_of, y_of};
-use crate::shapes::{write_box, write_line, write_ring};
+use crate::shapes::write_box;
 use journal::Act;
+use svg_texts::{Colour, Form, Weight, write_form, write_outlined};
 use text_out::{Out, WriteFault};
 
 // A cell that was written.
@@ -25,10 +28,26 @@ fn write_node<W: Out>(
     value: &i64,
 ) -> Result<(), WriteFault>
     ensures written { Writes (W.Out.state out.old) (W.Out.state out.new)
-        (texts.node_text rows.now record { cell = cell; column = column; value = value.now }) result }
+        (shape_text (shapes.node_shape rows.now record { cell = cell; column = column; value = value.now })) result }
 {
     let wide = value_width(value).min(76);
     write_box(out, x_of(column), y_of(rows, cell), wide, value)
+}
+
+// With the value that it has behind the statement.
+fn write_node_by<W: Out>(
+    out: &mut W,
+    rows: &[u32],
+    column: usize,
+    cell: u32,
+    written: &[i64],
+    acts: &[Act],
+) -> Result<(), WriteFault>
+    ensures written { Writes (W.Out.state out.old) (W.Out.state out.new)
+        (shape_text (shapes.node_shape rows.now (spec.node column (spec.value_in (map act_is acts.now) written.now) cell))) result }
+{
+    let value = value_in(acts, written, cell);
+    write_node(out, rows, column, cell, &value)
 }
 
 // A cell, where it was written by the statement of that number.
@@ -41,13 +60,12 @@ fn write_node_if<W: Out>(
     acts: &[Act],
 ) -> Result<(), WriteFault>
     ensures written { Writes (W.Out.state out.old) (W.Out.state out.new)
-        (if spec.writes (map act_is acts.now) cell
-        then texts.node_text rows.now (spec.node column (spec.value_in (map act_is acts.now) written.now) cell)
-        else []) result }
+        (shape_text (if spec.writes (map act_is acts.now) cell
+        then shapes.node_shape rows.now (spec.node column (spec.value_in (map act_is acts.now) written.now) cell)
+        else Empty)) result }
 {
     if writes(acts, cell) {
-        let value = value_in(acts, written, cell);
-        write_node(out, rows, column, cell, &value)
+        write_node_by(out, rows, column, cell, written, acts)
     } else {
         Ok(())
     }
@@ -60,25 +78,14 @@ fn write_nodes<W: Out>(
     written: &[i64],
     acts: &[Act],
 ) -> Result<(), WriteFault>
-    ensures written { Writes (W.Out.state out.old) (W.Out.state out.new) (flat_map (texts.node_text rows.now)
+    ensures written { Writes (W.Out.state out.old) (W.Out.state out.new) (shape_text (each (shapes.node_shape rows.now)
         (spec.nodes rows.now column (spec.value_in (map act_is acts.now) written.now)
-        (map act_is acts.now))) result }
+        (map act_is acts.now)))) result }
 {
     for cell in rows {
         write_node_if(out, rows, column, *cell, written, acts)?;
     }
     Ok(())
-}
-
-// How a line is drawn.
-fn stroke(dashed: bool) -> &'static [u8]
-    ensures { result.now ≡ texts.stroke dashed }
-{
-    if dashed {
-        b"' stroke='#000000' stroke-width='1.5' stroke-dasharray='6 4'/>\n"
-    } else {
-        b"' stroke='#000000' stroke-width='1.5'/>\n"
-    }
 }
 
 // From a cell that a processor read to the one that it wrote.
@@ -91,17 +98,16 @@ fn write_arrow<W: Out>(
     dashed: bool,
 ) -> Result<(), WriteFault>
     ensures written { Writes (W.Out.state out.old) (W.Out.state out.new)
-        (texts.arrow_text rows.now (spec.arrow column to from dashed)) result }
+        (shape_text (shapes.arrow_shape rows.now (spec.arrow column to from dashed))) result }
 {
     let x = x_of(column);
-    write_line(
-        out,
-        x.saturating_sub(60),
-        y_of(rows, from),
-        x,
-        y_of(rows, to),
-        stroke(dashed),
-    )
+    let form = Form::Line {
+        x: x.saturating_sub(60),
+        y: y_of(rows, from),
+        to_x: x,
+        to_y: y_of(rows, to),
+    };
+    write_form(out, &form, &black(Weight::Firm, dashed))
 }
 
 // By what processors did.
@@ -115,7 +121,7 @@ fn write_arrow_by<W: Out>(
     from: u32,
 ) -> Result<(), WriteFault>
     ensures written { Writes (W.Out.state out.old) (W.Out.state out.new)
-        (texts.arrow_text rows.now (spec.arrow_by column aside.now (map act_is acts.now) to from)) result }
+        (shape_text (shapes.arrow_shape rows.now (spec.arrow_by column aside.now (map act_is acts.now) to from))) result }
 {
     let dashed = !values(aside, acts, from, Some(to));
     write_arrow(out, rows, column, to, from, dashed)
@@ -131,8 +137,8 @@ fn write_arrow_if<W: Out>(
     acts: &[Act],
 ) -> Result<(), WriteFault>
     ensures written { Writes (W.Out.state out.old) (W.Out.state out.new)
-        (if spec.carries (map act_is acts.now) from (Some to)
-        then texts.arrow_text rows.now (spec.arrow_by column aside.now (map act_is acts.now) to from) else []) result }
+        (shape_text (if spec.carries (map act_is acts.now) from (Some to)
+        then shapes.arrow_shape rows.now (spec.arrow_by column aside.now (map act_is acts.now) to from) else Empty)) result }
 {
     if carries(acts, from, Some(to)) {
         write_arrow_by(out, rows, column, aside, acts, to, from)
@@ -150,7 +156,7 @@ fn write_arrows_to<W: Out>(
     to: u32,
 ) -> Result<(), WriteFault>
     ensures written { Writes (W.Out.state out.old) (W.Out.state out.new)
-        (flat_map (texts.arrow_text rows.now) (spec.arrows_to rows.now column aside.now (map act_is acts.now) to)) result }
+        (shape_text (each (shapes.arrow_shape rows.now) (spec.arrows_to rows.now column aside.now (map act_is acts.now) to))) result }
 {
     for from in rows {
         write_arrow_if(out, rows, column, aside, to, *from, acts)?;
@@ -168,8 +174,8 @@ fn write_arrows_if<W: Out>(
     to: u32,
 ) -> Result<(), WriteFault>
     ensures written { Writes (W.Out.state out.old) (W.Out.state out.new)
-        (if spec.writes (map act_is acts.now) to
-        then flat_map (texts.arrow_text rows.now) (spec.arrows_to rows.now column aside.now (map act_is acts.now) to) else []) result }
+        (shape_text (if spec.writes (map act_is acts.now) to
+        then each (shapes.arrow_shape rows.now) (spec.arrows_to rows.now column aside.now (map act_is acts.now) to) else Empty)) result }
 {
     if writes(acts, to) {
         write_arrows_to(out, rows, column, aside, acts, to)
@@ -186,12 +192,24 @@ fn write_arrows<W: Out>(
     acts: &[Act],
 ) -> Result<(), WriteFault>
     ensures written { Writes (W.Out.state out.old) (W.Out.state out.new)
-        (flat_map (texts.arrow_text rows.now) (spec.arrows rows.now column aside.now (map act_is acts.now))) result }
+        (shape_text (each (shapes.arrow_shape rows.now) (spec.arrows rows.now column aside.now (map act_is acts.now)))) result }
 {
     for to in rows {
         write_arrows_if(out, rows, column, aside, acts, *to)?;
     }
     Ok(())
+}
+
+// A cell that was read.
+fn write_ring<W: Out>(out: &mut W, rows: &[u32], column: usize, cell: u32) -> Result<(), WriteFault>
+    ensures written { Writes (W.Out.state out.old) (W.Out.state out.new)
+        (shape_text (shapes.reading_shape rows.now (spec.reading column cell))) result }
+{
+    let form = Form::Circle {
+        x: x_of(column),
+        y: y_of(rows, cell),
+    };
+    write_outlined(out, &form, Colour::White)
 }
 
 // A cell, where a processor read it that wrote none.
@@ -203,11 +221,11 @@ fn write_reading_if<W: Out>(
     acts: &[Act],
 ) -> Result<(), WriteFault>
     ensures written { Writes (W.Out.state out.old) (W.Out.state out.new)
-        (if spec.carries (map act_is acts.now) cell None
-        then texts.reading_text rows.now (spec.reading column cell) else []) result }
+        (shape_text (if spec.carries (map act_is acts.now) cell None
+        then shapes.reading_shape rows.now (spec.reading column cell) else Empty)) result }
 {
     if carries(acts, cell, None) {
-        write_ring(out, x_of(column), y_of(rows, cell))
+        write_ring(out, rows, column, cell)
     } else {
         Ok(())
     }
@@ -220,7 +238,7 @@ fn write_readings<W: Out>(
     acts: &[Act],
 ) -> Result<(), WriteFault>
     ensures written { Writes (W.Out.state out.old) (W.Out.state out.new)
-        (flat_map (texts.reading_text rows.now) (spec.readings rows.now column (map act_is acts.now))) result }
+        (shape_text (each (shapes.reading_shape rows.now) (spec.readings rows.now column (map act_is acts.now)))) result }
 {
     for cell in rows {
         write_reading_if(out, rows, column, *cell, acts)?;
@@ -236,8 +254,8 @@ fn write_acts<W: Out>(
     written: &[i64],
     acts: &[Act],
 ) -> Result<(), WriteFault>
-    ensures written { Writes (W.Out.state out.old) (W.Out.state out.new) (texts.marks_of rows.now column aside.now
-        (spec.value_in (map act_is acts.now) written.now) (map act_is acts.now)) result }
+    ensures written { Writes (W.Out.state out.old) (W.Out.state out.new) (shape_text (shapes.marks_of rows.now column aside.now
+        (spec.value_in (map act_is acts.now) written.now) (map act_is acts.now))) result }
 {
     write_arrows(out, rows, column, aside, acts)?;
     write_nodes(out, rows, column, written, acts)?;
@@ -252,7 +270,7 @@ pub(crate) fn write_marks<W: Out>(
     drawn: &Column,
 ) -> Result<(), WriteFault>
     ensures written { Writes (W.Out.state out.old) (W.Out.state out.new)
-        (texts.marks_text rows.now column (column_is drawn.now)) result }
+        (shape_text (shapes.marks_shape rows.now column (column_is drawn.now))) result }
 {
     let acts = acts_in(&drawn.entry);
     write_acts(out, rows, column, &drawn.aside, &drawn.written, acts)

@@ -3,7 +3,7 @@
 ghost use Rattle.std.specs.Prelude.{◌≡◌, ◌<◌, ◌^◌, length};
 ghost use Rattle.std.specs.Fmt.{signed_decimal};
 ghost use Rattle.flow_pictures.specs.Places as spec;
-ghost use Rattle.flow_pictures.specs.Texts as texts;
+ghost use Rattle.flow_pictures.specs.MarkShapes as marks;
 
 use itoa::Buffer;
 
@@ -74,7 +74,7 @@ fn letter_count(value: &i64) -> usize
 
 /// How wide a value is.
 pub(crate) fn value_width(value: &i64) -> u128
-    ensures { result ≡ texts.value_width value.now }
+    ensures { result ≡ marks.value_width value.now }
 {
     7 * letter_count(value) as u128 + 8
 }

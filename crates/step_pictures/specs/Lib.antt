@@ -1,3 +1,4 @@
+pub mod Paints
 pub mod Drawn
 pub mod ProgramLines
 pub mod Measures

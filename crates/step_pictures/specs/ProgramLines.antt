@@ -1,9 +1,9 @@
 -- The program's text of a statement's line, as it stands above its column.
-use Rattle.std.specs.Prelude.{ℕ, ◌+◌, ◌-◌, min, max, nat_lt, if◌then◌else◌, List, [], ◌∷◌, ◌++◌, length, take, drop}
-use Rattle.std.specs.Prelude.{codes, decimal}
+use Rattle.std.specs.Prelude.{ℕ, ◌+◌, ◌-◌, min, max, nat_lt, if◌then◌else◌, List, [], ◌∷◌, length, take, drop, codes}
 use Rattle.std.specs.Char.{is_ascii_whitespace}
 use Rattle.std.specs.List.{prefix_len, suffix_len}
-use Rattle.svg_texts.specs.Letters.{letters}
+use Rattle.svg_texts.specs.Shapes.{Words, Letters, Then, Shape, Empty, Text, Over}
+use Rattle.step_pictures.specs.Paints.{upright}
 use Rattle.text_places.specs.Places.{line_text}
 use Rattle.journal.specs.Entries.{Entry, Ran, Faulting}
 
@@ -20,23 +20,19 @@ abbrev pub code_of : (text : List ℕ) → (line : ℕ) → List ℕ
 code_of text line = without_end (without_front (line_text text line))
 
 -- of what is longer than a row, that it goes on
-abbrev pub with_dots : List ℕ → List ℕ
-with_dots bytes = letters bytes ++ codes ".."
+abbrev pub with_dots : List ℕ → Words
+with_dots bytes = Then (Letters bytes) (Letters (codes ".."))
 
-abbrev pub cut : List ℕ → List ℕ
-cut bytes = if nat_lt 36 (length bytes) then with_dots (take 34 bytes) else letters bytes
-
-abbrev pub turned : (x y : ℕ) → List ℕ
-turned x y = codes "<text transform='translate(" ++ (decimal x ++ (codes " " ++ (decimal y
-    ++ codes ") rotate(-90)' font-family='monospace' font-size='11'>")))
+abbrev pub cut : List ℕ → Words
+cut bytes = if nat_lt 36 (length bytes) then with_dots (take 34 bytes) else Letters bytes
 
 -- a row that reads upwards from there
-abbrev pub upright : (x y : ℕ) → List ℕ → List ℕ
-upright x y bytes = turned x y ++ (cut bytes ++ codes "</text>\n")
+abbrev pub code_row : (x y : ℕ) → List ℕ → Shape
+code_row x y bytes = Text x y upright (cut bytes)
 
-abbrev pub more_code : (x y : ℕ) → List ℕ → List ℕ
-more_code x y [] = []
-more_code x y (b ∷ bytes) = upright x y (b ∷ bytes)
+abbrev pub more_code : (x y : ℕ) → List ℕ → Shape
+more_code x y [] = Empty
+more_code x y (b ∷ bytes) = code_row x y (b ∷ bytes)
 
 -- what fits into a row, and what doesn't
 abbrev pub first_row : List ℕ → List ℕ
@@ -46,8 +42,8 @@ abbrev pub next_row : List ℕ → List ℕ
 next_row bytes = if nat_lt 36 (length bytes) then drop 36 bytes else []
 
 -- two rows
-abbrev pub code_rows : (x y : ℕ) → List ℕ → List ℕ
-code_rows x y bytes = upright (x + 24) y (first_row bytes) ++ more_code (x + 38) y (next_row bytes)
+abbrev pub code_rows : (x y : ℕ) → List ℕ → Shape
+code_rows x y bytes = Over (code_row (x + 24) y (first_row bytes)) (more_code (x + 38) y (next_row bytes))
 
 -- ---- how long the longest row is, which says how tall a band is
 

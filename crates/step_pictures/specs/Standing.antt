@@ -1,16 +1,10 @@
--- What a reader relies on: which texts stand in a picture.
-use Rattle.std.specs.Prelude.{◌≡◌, ℕ, ◌<◌, List, ◌++◌, length, slice_index_or}
+-- Where the statements that are drawn stand in a picture.
+use Rattle.std.specs.Prelude.{◌≡◌, ℕ, ◌<◌, List, length, slice_index_or}
 use Rattle.pram_model.specs.Layout.{SharedEntry}
 use Rattle.journal.specs.Entries.{Entry}
 use Rattle.step_pictures.specs.declared.frame.Part.{Part}
 use Rattle.step_pictures.specs.Drawn.{Numbered, drawn}
 use Rattle.step_pictures.specs.Measures.{Column, column_at, frame_of, rows_top}
-
--- a text stands within another one
-pub record StandsIn (part whole : List ℕ) : Type 0 where
-  pub before : List ℕ
-  pub behind : List ℕ
-  pub is : whole ≡ before ++ (part ++ behind)
 
 -- the statement that is drawn behind j others
 abbrev pub StandsAt : List Entry → (j : ℕ) → Numbered → Type 0

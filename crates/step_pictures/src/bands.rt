@@ -1,51 +1,54 @@
 //! Bands of columns.
 
 ghost use Rattle.std.specs.Prelude.{◌≡◌, ◌≤◌, ◌<◌, ◌+◌, ◌^◌, length, map};
+ghost use Rattle.std.specs.Fmt.{signed_decimal};
 ghost use Rattle.text_out.specs.Out.{Writes};
 ghost use Rattle.journal.specs.Entries.{entry_is};
 ghost use Rattle.step_pictures.specs.Bands as spec;
 ghost use Rattle.step_pictures.specs.Measures.{column_at, column_is, frame_is};
+ghost use Rattle.svg_texts.specs.Shapes.{shape_text};
 
 use crate::columns::write_column;
 use crate::frame::{Column, Frame};
 use crate::measure::{column_left, row_top, rows_top};
+use crate::paints::{open_plain, write_axis, write_note};
 use itoa::Buffer;
 use journal::Entry;
+use svg_texts::close_text;
 use text_out::{Out, WriteFault};
+
+fn write_axes<W: Out>(out: &mut W, top: usize) -> Result<(), WriteFault>
+    requires some { 42 ≤ top }
+    ensures written { Writes (W.Out.state out.old) (W.Out.state out.new) (shape_text (spec.axes top)) result }
+{
+    write_axis(out, top - 26, b"statement")?;
+    write_axis(out, top - 9, b"processor")
+}
 
 // The titles of the axes, and the name of the first row.
 fn write_titles<W: Out>(out: &mut W, top: usize) -> Result<(), WriteFault>
     requires some { 42 ≤ top }
     requires near { top ≤ 20000 }
-    ensures written { Writes (W.Out.state out.old) (W.Out.state out.new) (spec.titles top) result }
+    ensures written { Writes (W.Out.state out.old) (W.Out.state out.new) (shape_text (spec.titles top)) result }
 {
-    let mut upper = Buffer::new();
-    let mut lower = Buffer::new();
-    let mut first = Buffer::new();
-    out.write_parts(&[
-        b"<text x='12' y='",
-        upper.format(top - 26).as_bytes(),
-        b"' font-weight='bold'>statement</text>\n<text x='12' y='",
-        lower.format(top - 9).as_bytes(),
-        b"' font-weight='bold'>processor</text>\n<text x='12' y='",
-        first.format(top + 13).as_bytes(),
-        b"'>outside</text>\n",
-    ])
+    write_axes(out, top)?;
+    write_note(out, 12, top + 13, b"outside")
+}
+
+fn write_index<W: Out>(out: &mut W, index: i64) -> Result<(), WriteFault>
+    ensures written { Writes (W.Out.state out.old) (W.Out.state out.new) (signed_decimal index) result }
+{
+    let mut digits = Buffer::new();
+    out.write_all(digits.format(index).as_bytes())
 }
 
 // A processor's name in front of its row.
 fn write_label<W: Out>(out: &mut W, y: usize, index: &i64) -> Result<(), WriteFault>
-    ensures written { Writes (W.Out.state out.old) (W.Out.state out.new) (spec.label y index.now) result }
+    ensures written { Writes (W.Out.state out.old) (W.Out.state out.new) (shape_text (spec.label y index.now)) result }
 {
-    let mut down = Buffer::new();
-    let mut digits = Buffer::new();
-    out.write_parts(&[
-        b"<text x='12' y='",
-        down.format(y).as_bytes(),
-        b"'>",
-        digits.format(*index).as_bytes(),
-        b"</text>\n",
-    ])
+    open_plain(out, 12, y)?;
+    write_index(out, *index)?;
+    close_text(out)
 }
 
 // Where the name of the row behind so many others stands.
@@ -60,7 +63,7 @@ fn label_line(top: usize, before: usize) -> usize
 fn write_labels<W: Out>(out: &mut W, top: usize, rows: &[i64]) -> Result<(), WriteFault>
     requires near { top ≤ 20000 }
     requires few { length rows.now ≤ 64 }
-    ensures written { Writes (W.Out.state out.old) (W.Out.state out.new) (spec.labels_from top 1 rows.now) result }
+    ensures written { Writes (W.Out.state out.old) (W.Out.state out.new) (shape_text (spec.labels_from top 1 rows.now)) result }
 {
     let mut before = 0;
     for index in rows {
@@ -75,7 +78,7 @@ fn write_band_front<W: Out>(out: &mut W, rows: &[i64], top: usize) -> Result<(),
     requires some { 42 ≤ top }
     requires near { top ≤ 20000 }
     requires few { length rows.now ≤ 64 }
-    ensures written { Writes (W.Out.state out.old) (W.Out.state out.new) (spec.band_front rows.now top) result }
+    ensures written { Writes (W.Out.state out.old) (W.Out.state out.new) (shape_text (spec.band_front rows.now top)) result }
 {
     write_titles(out, top)?;
     write_labels(out, top, rows)
@@ -83,7 +86,7 @@ fn write_band_front<W: Out>(out: &mut W, rows: &[i64], top: usize) -> Result<(),
 
 fn write_front<W: Out>(out: &mut W, frame: &Frame<'_>, before: usize) -> Result<(), WriteFault>
     requires few { before < 112 }
-    ensures written { Writes (W.Out.state out.old) (W.Out.state out.new) (spec.front_of (frame_is frame.now) before) result }
+    ensures written { Writes (W.Out.state out.old) (W.Out.state out.new) (shape_text (spec.front_of (frame_is frame.now) before)) result }
 {
     if before % 16 == 0 {
         write_band_front(out, frame.rows, rows_top(frame, before))
@@ -114,7 +117,7 @@ fn write_with_front<W: Out>(
 ) -> Result<(), WriteFault>
     requires few { before < 112 }
     ensures written { Writes (W.Out.state out.old) (W.Out.state out.new)
-        (spec.with_front (frame_is frame.now) before number (entry_is entry.now)) result }
+        (shape_text (spec.with_front (frame_is frame.now) before number (entry_is entry.now))) result }
 {
     write_front(out, frame, before)?;
     write_column(out, frame, column_of(frame, before, number), entry)
@@ -131,7 +134,7 @@ pub(crate) fn write_columns<W: Out>(
     requires few { first + length entries.now ≤ 112 }
     requires number { number + length entries.now < 2 ^ 64 }
     ensures written { Writes (W.Out.state out.old) (W.Out.state out.new)
-        (spec.columns_from (frame_is frame.now) first number (map entry_is entries.now)) result }
+        (shape_text (spec.columns_from (frame_is frame.now) first number (map entry_is entries.now))) result }
 {
     let mut before = 0;
     for entry in entries {

@@ -5,47 +5,52 @@ ghost use Rattle.text_out.specs.Out.{Writes};
 ghost use Rattle.journal.specs.Entries.{act_is, entry_is};
 ghost use Rattle.step_pictures.specs.Columns as spec;
 ghost use Rattle.step_pictures.specs.Measures.{column_is, frame_is};
+ghost use Rattle.svg_texts.specs.Shapes.{shape_text};
 
 use crate::drawn::{acts_in, met_in};
 use crate::frame::{Column, Frame};
 use crate::marks::{Corner, write_box, write_outline};
 use crate::measure::row_top;
+use crate::paints::open_plain;
 use crate::program_lines::{code_of, line_of, write_code};
 use crate::rows::{missing, place_of};
-use itoa::Buffer;
 use journal::{Act, Entry};
 use pram_trees::Layout;
+use svg_texts::{Anchor, Face, close_text, write_number, write_numbered};
 use text_out::{Out, WriteFault};
+
+// The number of a statement.
+fn write_statement_number<W: Out>(out: &mut W, at: Column) -> Result<(), WriteFault>
+    ensures written { Writes (W.Out.state out.old) (W.Out.state out.new) (shape_text (spec.number (column_is at))) result }
+{
+    write_number(
+        out,
+        at.x as u128,
+        (at.y - 26) as u128,
+        Anchor::Start,
+        Face::Plain,
+        at.number,
+    )
+}
+
+fn write_line_number<W: Out>(out: &mut W, at: Column, line: u32) -> Result<(), WriteFault>
+    ensures written { Writes (W.Out.state out.old) (W.Out.state out.new) (shape_text (spec.line_number (column_is at) line)) result }
+{
+    open_plain(out, at.x, at.y - 9)?;
+    write_numbered(out, b"line ", line as u128)?;
+    close_text(out)
+}
 
 // The number of a statement and its line.
 fn write_numbers<W: Out>(out: &mut W, at: Column, line: u32) -> Result<(), WriteFault>
-    ensures written { Writes (W.Out.state out.old) (W.Out.state out.new) (spec.numbers_text (column_is at) line) result }
+    ensures written { Writes (W.Out.state out.old) (W.Out.state out.new) (shape_text (spec.numbers (column_is at) line)) result }
 {
-    let mut left = Buffer::new();
-    let mut upper = Buffer::new();
-    let mut number = Buffer::new();
-    let mut lower = Buffer::new();
-    let mut digits = Buffer::new();
-    let from = left.format(at.x).as_bytes();
-    out.write_parts(&[
-        b"<text x='",
-        from,
-        b"' y='",
-        upper.format(at.y - 26).as_bytes(),
-        b"'>",
-        number.format(at.number).as_bytes(),
-        b"</text>\n<text x='",
-        from,
-        b"' y='",
-        lower.format(at.y - 9).as_bytes(),
-        b"'>line ",
-        digits.format(line).as_bytes(),
-        b"</text>\n",
-    ])
+    write_statement_number(out, at)?;
+    write_line_number(out, at, line)
 }
 
 fn write_heading<W: Out>(out: &mut W, text: &[u8], at: Column, line: u32) -> Result<(), WriteFault>
-    ensures written { Writes (W.Out.state out.old) (W.Out.state out.new) (spec.heading text.now (column_is at) line) result }
+    ensures written { Writes (W.Out.state out.old) (W.Out.state out.new) (shape_text (spec.heading text.now (column_is at) line)) result }
 {
     write_code(out, at.x, at.y - 42, code_of(text, line))?;
     write_numbers(out, at, line)
@@ -62,7 +67,7 @@ fn write_act_at<W: Out>(
 ) -> Result<(), WriteFault>
     requires few { length rows.now ≤ 64 }
     ensures written { Writes (W.Out.state out.old) (W.Out.state out.new)
-        (spec.act_at layout.now rows.now (column_is at) before (act_is act.now)) result }
+        (shape_text (spec.act_at layout.now rows.now (column_is at) before (act_is act.now))) result }
 {
     if before < rows.len() {
         let y = row_top(at.y, before + 1);
@@ -79,7 +84,8 @@ fn write_outside<W: Out>(
     at: Column,
     act: &Act,
 ) -> Result<(), WriteFault>
-    ensures written { Writes (W.Out.state out.old) (W.Out.state out.new) (spec.outside layout.now (column_is at) (act_is act.now)) result }
+    ensures written { Writes (W.Out.state out.old) (W.Out.state out.new)
+        (shape_text (spec.outside layout.now (column_is at) (act_is act.now))) result }
 {
     let y = row_top(at.y, 0);
     write_box(out, layout, Corner { x: at.x, y }, act)
@@ -94,7 +100,7 @@ fn write_act<W: Out>(
 ) -> Result<(), WriteFault>
     requires few { length rows.now ≤ 64 }
     ensures written { Writes (W.Out.state out.old) (W.Out.state out.new)
-        (spec.act_drawn layout.now rows.now (column_is at) (act_is act.now)) result }
+        (shape_text (spec.act_drawn layout.now rows.now (column_is at) (act_is act.now))) result }
 {
     match act.processor {
         None => write_outside(out, layout, at, act),
@@ -111,7 +117,7 @@ fn write_acts<W: Out>(
 ) -> Result<(), WriteFault>
     requires few { length rows.now ≤ 64 }
     ensures written { Writes (W.Out.state out.old) (W.Out.state out.new)
-        (spec.acts_drawn layout.now rows.now (column_is at) (map act_is acts.now)) result }
+        (shape_text (spec.acts_drawn layout.now rows.now (column_is at) (map act_is acts.now))) result }
 {
     for act in acts {
         write_act(out, layout, rows, at, act)?;
@@ -128,7 +134,8 @@ fn write_met_at<W: Out>(
     index: i64,
 ) -> Result<(), WriteFault>
     requires few { length rows.now ≤ 64 }
-    ensures written { Writes (W.Out.state out.old) (W.Out.state out.new) (spec.met_at rows.now (column_is at) before index) result }
+    ensures written { Writes (W.Out.state out.old) (W.Out.state out.new)
+        (shape_text (spec.met_at rows.now (column_is at) before index)) result }
 {
     if before < rows.len() {
         let y = row_top(at.y, before + 1);
@@ -140,7 +147,8 @@ fn write_met_at<W: Out>(
 
 fn write_met<W: Out>(out: &mut W, rows: &[i64], at: Column, index: &i64) -> Result<(), WriteFault>
     requires few { length rows.now ≤ 64 }
-    ensures written { Writes (W.Out.state out.old) (W.Out.state out.new) (spec.met_drawn rows.now (column_is at) index.now) result }
+    ensures written { Writes (W.Out.state out.old) (W.Out.state out.new)
+        (shape_text (spec.met_drawn rows.now (column_is at) index.now)) result }
 {
     write_met_at(out, rows, at, place_of(rows, *index), *index)
 }
@@ -152,7 +160,8 @@ fn write_all_met<W: Out>(
     met: &[i64],
 ) -> Result<(), WriteFault>
     requires few { length rows.now ≤ 64 }
-    ensures written { Writes (W.Out.state out.old) (W.Out.state out.new) (spec.all_met rows.now (column_is at) met.now) result }
+    ensures written { Writes (W.Out.state out.old) (W.Out.state out.new)
+        (shape_text (spec.all_met rows.now (column_is at) met.now)) result }
 {
     for index in met {
         write_met(out, rows, at, index)?;
@@ -161,26 +170,17 @@ fn write_all_met<W: Out>(
 }
 
 fn write_more_at<W: Out>(out: &mut W, x: usize, y: usize, count: usize) -> Result<(), WriteFault>
-    ensures written { Writes (W.Out.state out.old) (W.Out.state out.new) (spec.more_at x y count) result }
+    ensures written { Writes (W.Out.state out.old) (W.Out.state out.new) (shape_text (spec.more_at x y count)) result }
 {
-    let mut left = Buffer::new();
-    let mut down = Buffer::new();
-    let mut digits = Buffer::new();
-    out.write_parts(&[
-        b"<text x='",
-        left.format(x).as_bytes(),
-        b"' y='",
-        down.format(y).as_bytes(),
-        b"'>+",
-        digits.format(count).as_bytes(),
-        b"</text>\n",
-    ])
+    open_plain(out, x, y)?;
+    write_numbered(out, b"+", count as u128)?;
+    close_text(out)
 }
 
 // How many more act, below the rows.
 fn write_more<W: Out>(out: &mut W, rows: usize, at: Column, count: usize) -> Result<(), WriteFault>
     requires few { rows ≤ 64 }
-    ensures written { Writes (W.Out.state out.old) (W.Out.state out.new) (spec.more_text rows (column_is at) count) result }
+    ensures written { Writes (W.Out.state out.old) (W.Out.state out.new) (shape_text (spec.more_acting rows (column_is at) count)) result }
 {
     if count == 0 {
         out.write_all(b"")
@@ -198,7 +198,7 @@ fn write_missing<W: Out>(
 ) -> Result<(), WriteFault>
     requires few { length rows.now ≤ 64 }
     ensures written { Writes (W.Out.state out.old) (W.Out.state out.new)
-        (spec.missing_text rows.now (column_is at) (map act_is acts.now)) result }
+        (shape_text (spec.without_row rows.now (column_is at) (map act_is acts.now))) result }
 {
     write_more(out, rows.len(), at, missing(rows, acts))
 }
@@ -214,7 +214,7 @@ fn write_processors<W: Out>(
 ) -> Result<(), WriteFault>
     requires few { length rows.now ≤ 64 }
     ensures written { Writes (W.Out.state out.old) (W.Out.state out.new)
-        (spec.processors layout.now rows.now (column_is at) (map act_is acts.now) met.now) result }
+        (shape_text (spec.processors layout.now rows.now (column_is at) (map act_is acts.now) met.now)) result }
 {
     write_acts(out, layout, rows, at, acts)?;
     write_all_met(out, rows, at, met)?;
@@ -229,7 +229,7 @@ pub(crate) fn write_column<W: Out>(
     entry: &Entry,
 ) -> Result<(), WriteFault>
     ensures written { Writes (W.Out.state out.old) (W.Out.state out.new)
-        (spec.column (frame_is frame.now) (column_is at) (entry_is entry.now)) result }
+        (shape_text (spec.column (frame_is frame.now) (column_is at) (entry_is entry.now))) result }
 {
     write_heading(out, frame.text, at, line_of(entry))?;
     write_processors(

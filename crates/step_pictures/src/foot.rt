@@ -4,23 +4,19 @@ ghost use Rattle.std.specs.Prelude.{◌≡◌, ◌≤◌, ◌+◌, ◌-◌, map,
 ghost use Rattle.text_out.specs.Out.{Writes};
 ghost use Rattle.journal.specs.Entries.{entry_is};
 ghost use Rattle.step_pictures.specs.Picture as spec;
+ghost use Rattle.svg_texts.specs.Shapes.{shape_text, words_text};
 
+use crate::names::write_fault_letters;
+use crate::paints::open_plain;
 use itoa::Buffer;
 use journal::Entry;
 use pram_trees::Layout;
-use program_texts::write_fault_text;
+use svg_texts::{close_text, write_numbered};
 use text_out::{Out, WriteFault};
 use write_rules::Fault;
 
 // So many of those that met are named below the bands.
 const MOST_NAMED: usize = 8;
-
-fn write_line_front<W: Out>(out: &mut W, y: usize) -> Result<(), WriteFault>
-    ensures written { Writes (W.Out.state out.old) (W.Out.state out.new) (spec.line_front y) result }
-{
-    let mut down = Buffer::new();
-    out.write_parts(&[b"<text x='12' y='", down.format(y).as_bytes(), b"'>"])
-}
 
 fn write_fault_line<W: Out>(
     out: &mut W,
@@ -28,23 +24,23 @@ fn write_fault_line<W: Out>(
     y: usize,
     fault: &Fault,
 ) -> Result<(), WriteFault>
-    ensures written { Writes (W.Out.state out.old) (W.Out.state out.new) (spec.fault_line layout.now y fault.now) result }
+    ensures written { Writes (W.Out.state out.old) (W.Out.state out.new) (shape_text (spec.fault_line layout.now y fault.now)) result }
 {
-    write_line_front(out, y)?;
-    write_fault_text(out, layout, fault)?;
-    out.write_all(b"</text>\n")
+    open_plain(out, 12, y)?;
+    write_fault_letters(out, layout, fault)?;
+    close_text(out)
 }
 
 // An index, behind a blank.
 fn write_index<W: Out>(out: &mut W, index: &i64) -> Result<(), WriteFault>
-    ensures written { Writes (W.Out.state out.old) (W.Out.state out.new) (spec.behind_blank index.now) result }
+    ensures written { Writes (W.Out.state out.old) (W.Out.state out.new) (words_text (spec.behind_blank index.now)) result }
 {
     let mut digits = Buffer::new();
     out.write_parts(&[b" ", digits.format(*index).as_bytes()])
 }
 
 fn write_indices<W: Out>(out: &mut W, indices: &[i64]) -> Result<(), WriteFault>
-    ensures written { Writes (W.Out.state out.old) (W.Out.state out.new) (spec.indices_text indices.now) result }
+    ensures written { Writes (W.Out.state out.old) (W.Out.state out.new) (words_text (spec.indices_words indices.now)) result }
 {
     for index in indices {
         write_index(out, index)?;
@@ -64,15 +60,15 @@ fn named(met: &[i64]) -> &[i64]
 }
 
 fn write_and_more<W: Out>(out: &mut W, count: usize) -> Result<(), WriteFault>
-    ensures written { Writes (W.Out.state out.old) (W.Out.state out.new) (spec.and_more count) result }
+    ensures written { Writes (W.Out.state out.old) (W.Out.state out.new) (words_text (spec.and_more count)) result }
 {
-    let mut digits = Buffer::new();
-    out.write_parts(&[b" and ", digits.format(count).as_bytes(), b" more"])
+    write_numbered(out, b" and ", count as u128)?;
+    out.write_all(b" more")
 }
 
 // How many more met.
 fn write_more_met<W: Out>(out: &mut W, count: usize) -> Result<(), WriteFault>
-    ensures written { Writes (W.Out.state out.old) (W.Out.state out.new) (spec.more_met count) result }
+    ensures written { Writes (W.Out.state out.old) (W.Out.state out.new) (words_text (spec.more_met count)) result }
 {
     if count > MOST_NAMED {
         write_and_more(out, count - MOST_NAMED)
@@ -83,7 +79,7 @@ fn write_more_met<W: Out>(out: &mut W, count: usize) -> Result<(), WriteFault>
 
 // Who met.
 fn write_met_words<W: Out>(out: &mut W, met: &[i64]) -> Result<(), WriteFault>
-    ensures written { Writes (W.Out.state out.old) (W.Out.state out.new) (spec.met_words met.now) result }
+    ensures written { Writes (W.Out.state out.old) (W.Out.state out.new) (words_text (spec.met_words met.now)) result }
 {
     out.write_all(b"met: processors")?;
     write_indices(out, named(met))?;
@@ -91,15 +87,15 @@ fn write_met_words<W: Out>(out: &mut W, met: &[i64]) -> Result<(), WriteFault>
 }
 
 fn write_some_met<W: Out>(out: &mut W, y: usize, met: &[i64]) -> Result<(), WriteFault>
-    ensures written { Writes (W.Out.state out.old) (W.Out.state out.new) (spec.some_met y met.now) result }
+    ensures written { Writes (W.Out.state out.old) (W.Out.state out.new) (shape_text (spec.some_met y met.now)) result }
 {
-    write_line_front(out, y)?;
+    open_plain(out, 12, y)?;
     write_met_words(out, met)?;
-    out.write_all(b"</text>\n")
+    close_text(out)
 }
 
 fn write_met_line<W: Out>(out: &mut W, y: usize, met: &[i64]) -> Result<(), WriteFault>
-    ensures written { Writes (W.Out.state out.old) (W.Out.state out.new) (spec.met_line y met.now) result }
+    ensures written { Writes (W.Out.state out.old) (W.Out.state out.new) (shape_text (spec.met_line y met.now)) result }
 {
     if met.is_empty() {
         out.write_all(b"")
@@ -116,7 +112,8 @@ fn write_fault_lines<W: Out>(
     met: &[i64],
 ) -> Result<(), WriteFault>
     requires near { y ≤ 20000 }
-    ensures written { Writes (W.Out.state out.old) (W.Out.state out.new) (spec.fault_lines layout.now y fault.now met.now) result }
+    ensures written { Writes (W.Out.state out.old) (W.Out.state out.new)
+        (shape_text (spec.fault_lines layout.now y fault.now met.now)) result }
 {
     write_fault_line(out, layout, y, fault)?;
     write_met_line(out, y + 18, met)
@@ -129,7 +126,8 @@ fn write_ending_of<W: Out>(
     entry: &Entry,
 ) -> Result<(), WriteFault>
     requires near { y ≤ 20000 }
-    ensures written { Writes (W.Out.state out.old) (W.Out.state out.new) (spec.ending_of layout.now y (entry_is entry.now)) result }
+    ensures written { Writes (W.Out.state out.old) (W.Out.state out.new)
+        (shape_text (spec.ending_of layout.now y (entry_is entry.now))) result }
 {
     match entry {
         Entry::Ran { .. } => out.write_all(b""),
@@ -146,7 +144,7 @@ pub(crate) fn write_ending<W: Out>(
 ) -> Result<(), WriteFault>
     requires near { y ≤ 20000 }
     ensures written { Writes (W.Out.state out.old) (W.Out.state out.new)
-        (spec.ending layout.now y (map entry_is entries.now)) result }
+        (shape_text (spec.ending layout.now y (map entry_is entries.now))) result }
 {
     match entries.last() {
         None => out.write_all(b""),

@@ -1,19 +1,24 @@
 //! A processor in the column of a statement.
 
-ghost use Rattle.std.specs.Prelude.{◌≡◌, ◌≤◌};
+ghost use Rattle.std.specs.Prelude.{◌≡◌, ◌≤◌, ◌+◌, ◌++◌, codes};
 ghost use Rattle.text_out.specs.Out.{Writes};
 ghost use Rattle.journal.specs.Entries.{act_is};
 ghost use Rattle.step_pictures.specs.Marks as spec;
+ghost use Rattle.svg_texts.specs.Shapes.{shape_text, words_text};
 
+use crate::names::write_cell_letters;
+use crate::paints::{heavy, write_note, write_white};
 use itoa::Buffer;
 use journal::Act;
 use pram_trees::Layout;
-use program_texts::write_cell;
+use svg_texts::{
+    Colour, Form, close_titled, open_titled, write_filled, write_form, write_title_end,
+};
 use text_out::{Out, WriteFault};
 
 // Which processor it is.
 fn write_who<W: Out>(out: &mut W, processor: Option<i64>) -> Result<(), WriteFault>
-    ensures written { Writes (W.Out.state out.old) (W.Out.state out.new) (spec.who_text processor) result }
+    ensures written { Writes (W.Out.state out.old) (W.Out.state out.new) (words_text (spec.who_words processor)) result }
 {
     match processor {
         None => out.write_all(b"outside pardo"),
@@ -26,14 +31,14 @@ fn write_who<W: Out>(out: &mut W, processor: Option<i64>) -> Result<(), WriteFau
 
 // A cell, behind a space.
 fn write_behind<W: Out>(out: &mut W, layout: &Layout, cell: u32) -> Result<(), WriteFault>
-    ensures written { Writes (W.Out.state out.old) (W.Out.state out.new) (spec.cell_behind layout.now cell) result }
+    ensures written { Writes (W.Out.state out.old) (W.Out.state out.new) (words_text (spec.cell_behind layout.now cell)) result }
 {
     out.write_all(b" ")?;
-    write_cell(out, layout, cell as usize)
+    write_cell_letters(out, layout, cell as usize)
 }
 
 fn write_cells<W: Out>(out: &mut W, layout: &Layout, cells: &[u32]) -> Result<(), WriteFault>
-    ensures written { Writes (W.Out.state out.old) (W.Out.state out.new) (spec.cells_text layout.now cells.now) result }
+    ensures written { Writes (W.Out.state out.old) (W.Out.state out.new) (words_text (spec.cells_words layout.now cells.now)) result }
 {
     for cell in cells {
         write_behind(out, layout, *cell)?;
@@ -43,7 +48,7 @@ fn write_cells<W: Out>(out: &mut W, layout: &Layout, cells: &[u32]) -> Result<()
 
 // Which cells it read.
 fn write_reads<W: Out>(out: &mut W, layout: &Layout, cells: &[u32]) -> Result<(), WriteFault>
-    ensures written { Writes (W.Out.state out.old) (W.Out.state out.new) (spec.reads_text layout.now cells.now) result }
+    ensures written { Writes (W.Out.state out.old) (W.Out.state out.new) (words_text (spec.reads_words layout.now cells.now)) result }
 {
     if cells.is_empty() {
         return Ok(());
@@ -53,15 +58,15 @@ fn write_reads<W: Out>(out: &mut W, layout: &Layout, cells: &[u32]) -> Result<()
 }
 
 fn write_written<W: Out>(out: &mut W, layout: &Layout, cell: u32) -> Result<(), WriteFault>
-    ensures written { Writes (W.Out.state out.old) (W.Out.state out.new) (spec.written_text layout.now cell) result }
+    ensures written { Writes (W.Out.state out.old) (W.Out.state out.new) (words_text (spec.written_words layout.now cell)) result }
 {
     out.write_all(b" writes ")?;
-    write_cell(out, layout, cell as usize)
+    write_cell_letters(out, layout, cell as usize)
 }
 
 // Which cell it wrote.
 fn write_write<W: Out>(out: &mut W, layout: &Layout, cell: Option<u32>) -> Result<(), WriteFault>
-    ensures written { Writes (W.Out.state out.old) (W.Out.state out.new) (spec.write_text layout.now cell) result }
+    ensures written { Writes (W.Out.state out.old) (W.Out.state out.new) (words_text (spec.write_words layout.now cell)) result }
 {
     match cell {
         None => out.write_all(b""),
@@ -70,7 +75,8 @@ fn write_write<W: Out>(out: &mut W, layout: &Layout, cell: Option<u32>) -> Resul
 }
 
 fn write_accesses<W: Out>(out: &mut W, layout: &Layout, act: &Act) -> Result<(), WriteFault>
-    ensures written { Writes (W.Out.state out.old) (W.Out.state out.new) (spec.accesses_text layout.now (act_is act.now)) result }
+    ensures written { Writes (W.Out.state out.old) (W.Out.state out.new)
+        (words_text (spec.accesses_words layout.now (act_is act.now))) result }
 {
     write_reads(out, layout, &act.reads)?;
     write_write(out, layout, act.write)
@@ -78,7 +84,8 @@ fn write_accesses<W: Out>(out: &mut W, layout: &Layout, act: &Act) -> Result<(),
 
 // What the box of a processor says where it is pointed at.
 fn write_title<W: Out>(out: &mut W, layout: &Layout, act: &Act) -> Result<(), WriteFault>
-    ensures written { Writes (W.Out.state out.old) (W.Out.state out.new) (spec.title_text layout.now (act_is act.now)) result }
+    ensures written { Writes (W.Out.state out.old) (W.Out.state out.new)
+        (words_text (spec.title_words layout.now (act_is act.now))) result }
 {
     write_who(out, act.processor)?;
     write_accesses(out, layout, act)
@@ -93,71 +100,42 @@ pub(crate) struct Corner {
     ghost down: { y ≤ 30000 },
 }
 
-// Where a coloured field stands, and the letter in it.
-#[derive(Clone, Copy)]
-struct Field {
+// A field of that colour.
+fn write_field<W: Out>(
+    out: &mut W,
     left: usize,
     top: usize,
-    letter: usize,
-    line: usize,
-}
-
-fn write_mark<W: Out>(
-    out: &mut W,
-    field: Field,
-    colour: &[u8],
-    letter: &[u8],
+    colour: Colour,
 ) -> Result<(), WriteFault>
-    ensures written { Writes (W.Out.state out.old) (W.Out.state out.new)
-        (spec.mark field.left field.top field.letter field.line colour.now letter.now) result }
+    ensures written { Writes (W.Out.state out.old) (W.Out.state out.new) (shape_text (spec.field left top colour)) result }
 {
-    let mut left = Buffer::new();
-    let mut top = Buffer::new();
-    let mut from = Buffer::new();
-    let mut line = Buffer::new();
-    out.write_parts(&[
-        b"<rect x='",
-        left.format(field.left).as_bytes(),
-        b"' y='",
-        top.format(field.top).as_bytes(),
-        b"' width='26' height='14' fill='",
-        colour,
-        b"'/>\n<text x='",
-        from.format(field.letter).as_bytes(),
-        b"' y='",
-        line.format(field.line).as_bytes(),
-        letter,
-    ])
+    let form = Form::Rectangle {
+        left: left as u128,
+        top: top as u128,
+        wide: 26,
+        tall: 14,
+    };
+    write_filled(out, &form, colour)
 }
 
-// That it read.
-fn write_read_mark<W: Out>(out: &mut W, at: Corner) -> Result<(), WriteFault>
-    ensures written { Writes (W.Out.state out.old) (W.Out.state out.new) (spec.read_mark at.x at.y) result }
+/// Writes the mark of one that read.
+pub(crate) fn write_read_mark<W: Out>(out: &mut W, at: Corner) -> Result<(), WriteFault>
+    ensures written { Writes (W.Out.state out.old) (W.Out.state out.new) (shape_text (spec.read_mark at.x at.y)) result }
 {
-    let field = Field {
-        left: at.x + 2,
-        top: at.y + 2,
-        letter: at.x + 12,
-        line: at.y + 13,
-    };
-    write_mark(out, field, b"#0072b2", b"' fill='#ffffff'>r</text>\n")
+    write_field(out, at.x + 2, at.y + 2, Colour::Blue)?;
+    write_white(out, at.x + 12, at.y + 13, b"r")
 }
 
-// That it wrote.
-fn write_write_mark<W: Out>(out: &mut W, at: Corner) -> Result<(), WriteFault>
-    ensures written { Writes (W.Out.state out.old) (W.Out.state out.new) (spec.write_mark at.x at.y) result }
+/// Writes the mark of one that wrote.
+pub(crate) fn write_write_mark<W: Out>(out: &mut W, at: Corner) -> Result<(), WriteFault>
+    ensures written { Writes (W.Out.state out.old) (W.Out.state out.new) (shape_text (spec.write_mark at.x at.y)) result }
 {
-    let field = Field {
-        left: at.x + 32,
-        top: at.y + 2,
-        letter: at.x + 40,
-        line: at.y + 13,
-    };
-    write_mark(out, field, b"#e69f00", b"'>w</text>\n")
+    write_field(out, at.x + 32, at.y + 2, Colour::Orange)?;
+    write_note(out, at.x + 40, at.y + 13, b"w")
 }
 
 fn write_read_part<W: Out>(out: &mut W, at: Corner, cells: &[u32]) -> Result<(), WriteFault>
-    ensures written { Writes (W.Out.state out.old) (W.Out.state out.new) (spec.read_part at.x at.y cells.now) result }
+    ensures written { Writes (W.Out.state out.old) (W.Out.state out.new) (shape_text (spec.read_part at.x at.y cells.now)) result }
 {
     if cells.is_empty() {
         out.write_all(b"")
@@ -167,7 +145,7 @@ fn write_read_part<W: Out>(out: &mut W, at: Corner, cells: &[u32]) -> Result<(),
 }
 
 fn write_write_part<W: Out>(out: &mut W, at: Corner, cell: Option<u32>) -> Result<(), WriteFault>
-    ensures written { Writes (W.Out.state out.old) (W.Out.state out.new) (spec.write_part at.x at.y cell) result }
+    ensures written { Writes (W.Out.state out.old) (W.Out.state out.new) (shape_text (spec.write_part at.x at.y cell)) result }
 {
     match cell {
         None => out.write_all(b""),
@@ -176,31 +154,39 @@ fn write_write_part<W: Out>(out: &mut W, at: Corner, cell: Option<u32>) -> Resul
 }
 
 fn write_marks<W: Out>(out: &mut W, at: Corner, act: &Act) -> Result<(), WriteFault>
-    ensures written { Writes (W.Out.state out.old) (W.Out.state out.new) (spec.marks at.x at.y (act_is act.now)) result }
+    ensures written { Writes (W.Out.state out.old) (W.Out.state out.new) (shape_text (spec.marks at.x at.y (act_is act.now))) result }
 {
     write_read_part(out, at, &act.reads)?;
     write_write_part(out, at, act.write)
 }
 
-fn write_ground<W: Out>(out: &mut W, at: Corner) -> Result<(), WriteFault>
-    ensures written { Writes (W.Out.state out.old) (W.Out.state out.new) (spec.ground_text at.x at.y) result }
+/// Writes the ground of a box.
+pub(crate) fn write_ground<W: Out>(out: &mut W, at: Corner) -> Result<(), WriteFault>
+    ensures written { Writes (W.Out.state out.old) (W.Out.state out.new) (shape_text (spec.ground at.x at.y)) result }
 {
-    let mut left = Buffer::new();
-    let mut top = Buffer::new();
-    out.write_parts(&[
-        b"<rect x='",
-        left.format(at.x).as_bytes(),
-        b"' y='",
-        top.format(at.y).as_bytes(),
-        b"' width='60' height='18' fill='#e0e0e0'><title>",
-    ])
+    let form = Form::Rectangle {
+        left: at.x as u128,
+        top: at.y as u128,
+        wide: 60,
+        tall: 18,
+    };
+    write_filled(out, &form, Colour::Light)
+}
+
+fn write_marked<W: Out>(out: &mut W, at: Corner, act: &Act) -> Result<(), WriteFault>
+    ensures written { Writes (W.Out.state out.old) (W.Out.state out.new) (shape_text (spec.marked at.x at.y (act_is act.now))) result }
+{
+    write_ground(out, at)?;
+    write_marks(out, at, act)
 }
 
 fn write_box_rest<W: Out>(out: &mut W, at: Corner, act: &Act) -> Result<(), WriteFault>
-    ensures written { Writes (W.Out.state out.old) (W.Out.state out.new) (spec.box_rest at.x at.y (act_is act.now)) result }
+    ensures written { Writes (W.Out.state out.old) (W.Out.state out.new)
+        (codes "</title>\n" ++ (shape_text (spec.marked at.x at.y (act_is act.now)) ++ codes "</g>\n")) result }
 {
-    out.write_all(b"</title></rect>\n")?;
-    write_marks(out, at, act)
+    write_title_end(out)?;
+    write_marked(out, at, act)?;
+    close_titled(out)
 }
 
 /// Writes the box of a processor that acted.
@@ -210,50 +196,57 @@ pub(crate) fn write_box<W: Out>(
     at: Corner,
     act: &Act,
 ) -> Result<(), WriteFault>
-    ensures written { Writes (W.Out.state out.old) (W.Out.state out.new) (spec.box layout.now at.x at.y (act_is act.now)) result }
+    ensures written { Writes (W.Out.state out.old) (W.Out.state out.new)
+        (shape_text (spec.box layout.now at.x at.y (act_is act.now))) result }
 {
-    write_ground(out, at)?;
+    open_titled(out)?;
     write_title(out, layout, act)?;
     write_box_rest(out, at, act)
 }
 
-// The word beside it.
-fn write_met_word<W: Out>(out: &mut W, x: usize, y: usize) -> Result<(), WriteFault>
-    ensures written { Writes (W.Out.state out.old) (W.Out.state out.new) (spec.met_word x y) result }
+// The outline itself.
+fn write_frame<W: Out>(out: &mut W, at: Corner) -> Result<(), WriteFault>
+    ensures written { Writes (W.Out.state out.old) (W.Out.state out.new) (shape_text (spec.frame at.x at.y)) result }
 {
-    let mut left = Buffer::new();
-    let mut down = Buffer::new();
-    out.write_parts(&[
-        b"<text x='",
-        left.format(x).as_bytes(),
-        b"' y='",
-        down.format(y).as_bytes(),
-        b"'>met</text>\n",
-    ])
+    let form = Form::Rectangle {
+        left: at.x as u128,
+        top: at.y as u128,
+        wide: 60,
+        tall: 18,
+    };
+    write_form(out, &form, &heavy())
 }
 
-// The outline itself.
-fn write_frame<W: Out>(out: &mut W, at: Corner, index: i64) -> Result<(), WriteFault>
-    ensures written { Writes (W.Out.state out.old) (W.Out.state out.new) (spec.frame at.x at.y index) result }
+/// Writes an outline, and the word in it.
+pub(crate) fn write_met_mark<W: Out>(out: &mut W, at: Corner) -> Result<(), WriteFault>
+    ensures written { Writes (W.Out.state out.old) (W.Out.state out.new) (shape_text (spec.met_mark at.x at.y)) result }
 {
-    let mut left = Buffer::new();
-    let mut top = Buffer::new();
+    write_frame(out, at)?;
+    write_note(out, at.x + 33, at.y + 13, b"met")
+}
+
+// What it says where it is pointed at.
+fn write_who_met<W: Out>(out: &mut W, index: i64) -> Result<(), WriteFault>
+    ensures written { Writes (W.Out.state out.old) (W.Out.state out.new) (words_text (spec.who_met index)) result }
+{
     let mut digits = Buffer::new();
-    out.write_parts(&[
-        b"<rect x='",
-        left.format(at.x).as_bytes(),
-        b"' y='",
-        top.format(at.y).as_bytes(),
-        b"' width='60' height='18' fill='none' stroke='#000000' stroke-width='3'><title>processor ",
-        digits.format(index).as_bytes(),
-        b" met</title></rect>\n",
-    ])
+    out.write_parts(&[b"processor ", digits.format(index).as_bytes(), b" met"])
+}
+
+fn write_outline_rest<W: Out>(out: &mut W, at: Corner) -> Result<(), WriteFault>
+    ensures written { Writes (W.Out.state out.old) (W.Out.state out.new)
+        (codes "</title>\n" ++ (shape_text (spec.met_mark at.x at.y) ++ codes "</g>\n")) result }
+{
+    write_title_end(out)?;
+    write_met_mark(out, at)?;
+    close_titled(out)
 }
 
 /// Writes the outline of a processor that met others, and that word in it.
 pub(crate) fn write_outline<W: Out>(out: &mut W, at: Corner, index: i64) -> Result<(), WriteFault>
-    ensures written { Writes (W.Out.state out.old) (W.Out.state out.new) (spec.outline at.x at.y index) result }
+    ensures written { Writes (W.Out.state out.old) (W.Out.state out.new) (shape_text (spec.outline at.x at.y index)) result }
 {
-    write_frame(out, at, index)?;
-    write_met_word(out, at.x + 33, at.y + 13)
+    open_titled(out)?;
+    write_who_met(out, index)?;
+    write_outline_rest(out, at)
 }

@@ -6,30 +6,39 @@ ghost use Rattle.journal.specs.Entries.{entry_is};
 ghost use Rattle.step_pictures.specs.Measures.{frame_is};
 ghost use Rattle.step_pictures.specs.Measures as measures;
 ghost use Rattle.step_pictures.specs.Picture as spec;
+ghost use Rattle.svg_texts.specs.Shapes.{picture_front, picture_text, shape_text};
 
 use crate::bands::write_columns;
 use crate::drawn::{count_drawn, first_drawn, last_drawn, last_number};
 use crate::foot::write_ending;
 use crate::frame::{Frame, Part};
-use crate::head::{write_head, write_opening};
+use crate::head::write_head;
 use crate::measure::{bands_end, bands_of, letters_of, picture_height, picture_width};
 use crate::rows::rows_of;
 use journal::Entry;
 use pram_trees::Layout;
+use svg_texts::{close_picture, open_picture};
 use text_out::{Out, WriteFault};
 
 // The opening of a picture of so many statements.
 fn write_front<W: Out>(out: &mut W, frame: &Frame<'_>, statements: usize) -> Result<(), WriteFault>
-    ensures written { Writes (W.Out.state out.old) (W.Out.state out.new) (spec.opening (frame_is frame.now) statements) result }
+    ensures written { Writes (W.Out.state out.old) (W.Out.state out.new) (picture_front spec.title
+        (measures.picture_width (measures.count_drawn statements))
+        (measures.picture_height (frame_is frame.now) (measures.count_drawn statements))) result }
 {
     let columns = count_drawn(statements);
-    write_opening(out, picture_width(columns), picture_height(frame, columns))
+    open_picture(
+        out,
+        b"a run, statement by statement",
+        picture_width(columns) as u128,
+        picture_height(frame, columns) as u128,
+    )
 }
 
 // The first columns, and the last ones.
 fn write_table<W: Out>(out: &mut W, frame: &Frame<'_>, entries: &[Entry]) -> Result<(), WriteFault>
     ensures written { Writes (W.Out.state out.old) (W.Out.state out.new)
-        (spec.table (frame_is frame.now) (map entry_is entries.now)) result }
+        (shape_text (spec.table (frame_is frame.now) (map entry_is entries.now))) result }
 {
     write_columns(out, frame, 0, 1, first_drawn(entries))?;
     write_columns(out, frame, 96, last_number(entries), last_drawn(entries))
@@ -45,20 +54,31 @@ fn foot_line(frame: &Frame<'_>, statements: usize) -> usize
 
 fn write_foot<W: Out>(out: &mut W, frame: &Frame<'_>, entries: &[Entry]) -> Result<(), WriteFault>
     ensures written { Writes (W.Out.state out.old) (W.Out.state out.new)
-        (spec.foot (frame_is frame.now) (map entry_is entries.now)) result }
+        (shape_text (spec.foot (frame_is frame.now) (map entry_is entries.now))) result }
 {
-    write_ending(out, frame.layout, foot_line(frame, entries.len()), entries)?;
-    out.write_all(b"</svg>\n")
+    write_ending(out, frame.layout, foot_line(frame, entries.len()), entries)
+}
+
+fn write_drawing<W: Out>(
+    out: &mut W,
+    frame: &Frame<'_>,
+    entries: &[Entry],
+) -> Result<(), WriteFault>
+    ensures written { Writes (W.Out.state out.old) (W.Out.state out.new)
+        (shape_text (spec.drawing (frame_is frame.now) (map entry_is entries.now))) result }
+{
+    write_head(out, frame.part, entries.len(), frame.rows.len())?;
+    write_table(out, frame, entries)?;
+    write_foot(out, frame, entries)
 }
 
 fn write_framed<W: Out>(out: &mut W, frame: &Frame<'_>, entries: &[Entry]) -> Result<(), WriteFault>
     ensures written { Writes (W.Out.state out.old) (W.Out.state out.new)
-        (spec.picture_of (frame_is frame.now) (map entry_is entries.now)) result }
+        (picture_text (spec.picture_of (frame_is frame.now) (map entry_is entries.now))) result }
 {
     write_front(out, frame, entries.len())?;
-    write_head(out, frame.part, entries.len(), frame.rows.len())?;
-    write_table(out, frame, entries)?;
-    write_foot(out, frame, entries)
+    write_drawing(out, frame, entries)?;
+    close_picture(out)
 }
 
 // The picture of a part of a run.
@@ -70,7 +90,7 @@ fn write_part<W: Out>(
     entries: &[Entry],
 ) -> Result<(), WriteFault>
     ensures written { Writes (W.Out.state out.old) (W.Out.state out.new)
-        (spec.picture layout.now text.now part (map entry_is entries.now)) result }
+        (picture_text (spec.picture layout.now text.now part (map entry_is entries.now))) result }
 {
     let rows = rows_of(entries);
     let letters = letters_of(text, entries);
@@ -112,7 +132,7 @@ pub fn write_excerpt<W: Out>(
     // Exactly the defined picture of this part of a run is written, by the program's text, or a beginning of it and
     // then a failure.
     ensures written { Writes (W.Out.state out.old) (W.Out.state out.new)
-        (spec.picture layout.now text.now (spec.part_of from whole) (map entry_is entries.now)) result }
+        (picture_text (spec.picture layout.now text.now (spec.part_of from whole) (map entry_is entries.now))) result }
 {
     let part = part_of(from, whole);
     write_part(out, layout, text, part, entries)

@@ -10,15 +10,16 @@ ghost use Rattle.step_pictures.specs.declared.frame.Part.{Part};
 ghost use Rattle.step_pictures.specs.Drawn.{Numbered, acting_drawn, acts_in, drawn, met_in, met_of, missing, place_of, rows_of};
 ghost use Rattle.step_pictures.specs.Marks.{box, outline};
 ghost use Rattle.step_pictures.specs.Measures.{Frame, column_left, frame_of, row_top, rows_top};
-ghost use Rattle.step_pictures.specs.Picture.{ending_of, foot_line, gap_text, picture};
-ghost use Rattle.step_pictures.specs.Standing.{StandsAt, StandsIn, column_of, top_of};
+ghost use Rattle.step_pictures.specs.Picture.{ending_of, foot_line, gap_words, picture, statements_with};
+ghost use Rattle.step_pictures.specs.Standing.{StandsAt, column_of, top_of};
+ghost use Rattle.svg_texts.specs.Shapes.{IsIn};
 
 /// Each statement that is drawn has a column, at a place that is no other's and within 1200 pixels: the 16 of a band stand beside one
 /// another, and the next band below.
 pub fn each_statement_has_a_column()
     // Each statement that is drawn has its column in the picture.
     ensures stands { (layout : List SharedEntry) (text : List ℕ) (part : Part) (es : List Entry) (j : ℕ) (d : Numbered) → StandsAt es j d →
-        StandsIn (column (frame_of layout text part es) (column_of layout text part es j d) d.entry) (picture layout text part es) }
+        IsIn (column (frame_of layout text part es) (column_of layout text part es j d) d.entry) (picture layout text part es).shape }
     // No two columns stand at one place.
     ensures one { (f : Frame) (i j : ℕ) → column_left i ≡ column_left j → rows_top f i ≡ rows_top f j → i ≡ j }
     // Each column stands within 1200 pixels.
@@ -31,12 +32,12 @@ pub fn each_processor_has_a_box()
     // A processor that acts in a statement that is drawn, and has a row, has a box in that row of the column.
     ensures stands { (layout : List SharedEntry) (text : List ℕ) (part : Part) (es : List Entry) (j : ℕ) (d : Numbered) (a : Act) (i : ℤ) →
         StandsAt es j d → Contains (acts_in d.entry) a → a.processor ≡ Some i → Contains (rows_of es) i →
-        StandsIn (box layout (column_left j) (row_top (top_of layout text es j) (place_of (rows_of es) i + 1)) a)
-        (picture layout text part es) }
+        IsIn (box layout (column_left j) (row_top (top_of layout text es j) (place_of (rows_of es) i + 1)) a)
+        (picture layout text part es).shape }
     // A statement outside pardo has its box in row 0 of its column.
     ensures outside { (layout : List SharedEntry) (text : List ℕ) (part : Part) (es : List Entry) (j : ℕ) (d : Numbered) (a : Act) →
         StandsAt es j d → Contains (acts_in d.entry) a → a.processor ≡ None →
-        StandsIn (box layout (column_left j) (row_top (top_of layout text es j) 0) a) (picture layout text part es) }
+        IsIn (box layout (column_left j) (row_top (top_of layout text es j) 0) a) (picture layout text part es).shape }
 {}
 
 /// No row is of an index that neither acts in a statement that is drawn nor met at the fault; rows ascend, each index once, and there are
@@ -57,7 +58,7 @@ pub fn each_row_has_its_name()
     // Each row has its index in front of it, in each band.
     ensures stands { (layout : List SharedEntry) (text : List ℕ) (part : Part) (es : List Entry) (j : ℕ) (d : Numbered) (i : ℤ) →
         StandsAt es j d → Contains (rows_of es) i →
-        StandsIn (label (label_line (top_of layout text es j) (place_of (rows_of es) i + 1)) i) (picture layout text part es) }
+        IsIn (label (label_line (top_of layout text es j) (place_of (rows_of es) i + 1)) i) (picture layout text part es).shape }
 {}
 
 /// The last statement is drawn, where alone a run faults; of those that met there, at most 64, each has a row, and in it an outline with
@@ -72,12 +73,12 @@ pub fn a_fault_is_drawn()
     // Each that met at a statement's fault and has a row has an outline in it.
     ensures outlined { (layout : List SharedEntry) (text : List ℕ) (part : Part) (es : List Entry) (j : ℕ) (d : Numbered) (i : ℤ) →
         StandsAt es j d → Contains (met_in d.entry) i → Contains (rows_of es) i →
-        StandsIn (outline (column_left j) (row_top (top_of layout text es j) (place_of (rows_of es) i + 1)) i)
-        (picture layout text part es) }
+        IsIn (outline (column_left j) (row_top (top_of layout text es j) (place_of (rows_of es) i + 1)) i)
+        (picture layout text part es).shape }
     // Below the bands stands what the fault was and who met.
     ensures told { (layout : List SharedEntry) (text : List ℕ) (part : Part) (es : List Entry) (e : Entry) →
-        StandsIn (ending_of layout (foot_line (frame_of layout text part (es ++ e ∷ [])) (length (es ++ e ∷ []))) e)
-        (picture layout text part (es ++ e ∷ [])) }
+        IsIn (ending_of layout (foot_line (frame_of layout text part (es ++ e ∷ [])) (length (es ++ e ∷ []))) e)
+        (picture layout text part (es ++ e ∷ [])).shape }
 {}
 
 /// Of more statements than are drawn it is told how many are not, and from which number to which; and below each column how many more
@@ -85,13 +86,13 @@ pub fn a_fault_is_drawn()
 pub fn what_is_left_out_is_told()
     // Where not all statements are drawn, it stands there how many are not, and from which to which.
     ensures statements { (layout : List SharedEntry) (text : List ℕ) (part : Part) (es : List Entry) → length (drawn es) < length es →
-        StandsIn (gap_text part (length es)) (picture layout text part es) }
+        IsIn (statements_with part (length es) (gap_words part (length es))) (picture layout text part es).shape }
     // Where not all statements are drawn, the number that stands there is that of all that aren't.
     ensures count { (es : List Entry) → length (drawn es) < length es → length (drawn es) + (length es - 112) ≡ length es }
     // Below each column stands how many of those that act in its statement have no row, where any has none.
     ensures processors { (layout : List SharedEntry) (text : List ℕ) (part : Part) (es : List Entry) (j : ℕ) (d : Numbered) →
         StandsAt es j d →
         0 < missing (rows_of es) (acts_in d.entry) →
-        StandsIn (more_at (column_left j) (row_top (top_of layout text es j) (length (rows_of es) + 1) + 13)
-        (missing (rows_of es) (acts_in d.entry))) (picture layout text part es) }
+        IsIn (more_at (column_left j) (row_top (top_of layout text es j) (length (rows_of es) + 1) + 13)
+        (missing (rows_of es) (acts_in d.entry))) (picture layout text part es).shape }
 {}

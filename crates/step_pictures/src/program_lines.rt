@@ -4,10 +4,11 @@ ghost use Rattle.std.specs.Prelude.{◌≡◌, ◌≤◌, ◌+◌, length, map};
 ghost use Rattle.text_out.specs.Out.{Writes};
 ghost use Rattle.journal.specs.Entries.{entry_is};
 ghost use Rattle.step_pictures.specs.ProgramLines as spec;
+ghost use Rattle.svg_texts.specs.Shapes.{shape_text, words_text};
 
-use itoa::Buffer;
+use crate::paints::open_code;
 use journal::Entry;
-use svg_texts::write_letters;
+use svg_texts::{close_text, write_letters};
 use text_out::{Out, WriteFault};
 use text_places::line_text;
 
@@ -23,7 +24,7 @@ pub(crate) fn code_of(text: &[u8], line: u32) -> &[u8]
 }
 
 fn write_letters_and_dots<W: Out>(out: &mut W, bytes: &[u8]) -> Result<(), WriteFault>
-    ensures written { Writes (W.Out.state out.old) (W.Out.state out.new) (spec.with_dots bytes.now) result }
+    ensures written { Writes (W.Out.state out.old) (W.Out.state out.new) (words_text (spec.with_dots bytes.now)) result }
 {
     write_letters(out, bytes)?;
     out.write_all(b"..")
@@ -31,7 +32,7 @@ fn write_letters_and_dots<W: Out>(out: &mut W, bytes: &[u8]) -> Result<(), Write
 
 // What is longer than a row is cut.
 fn write_cut<W: Out>(out: &mut W, bytes: &[u8]) -> Result<(), WriteFault>
-    ensures written { Writes (W.Out.state out.old) (W.Out.state out.new) (spec.cut bytes.now) result }
+    ensures written { Writes (W.Out.state out.old) (W.Out.state out.new) (words_text (spec.cut bytes.now)) result }
 {
     if bytes.len() > MOST_LETTERS {
         write_letters_and_dots(out, bytes.split_at(MOST_LETTERS - 2).0)
@@ -40,37 +41,23 @@ fn write_cut<W: Out>(out: &mut W, bytes: &[u8]) -> Result<(), WriteFault>
     }
 }
 
-fn write_turned<W: Out>(out: &mut W, x: usize, y: usize) -> Result<(), WriteFault>
-    ensures written { Writes (W.Out.state out.old) (W.Out.state out.new) (spec.turned x y) result }
-{
-    let mut left = Buffer::new();
-    let mut down = Buffer::new();
-    out.write_parts(&[
-        b"<text transform='translate(",
-        left.format(x).as_bytes(),
-        b" ",
-        down.format(y).as_bytes(),
-        b") rotate(-90)' font-family='monospace' font-size='11'>",
-    ])
-}
-
 // A row that reads upwards.
-fn write_upright<W: Out>(out: &mut W, x: usize, y: usize, bytes: &[u8]) -> Result<(), WriteFault>
-    ensures written { Writes (W.Out.state out.old) (W.Out.state out.new) (spec.upright x y bytes.now) result }
+fn write_code_row<W: Out>(out: &mut W, x: usize, y: usize, bytes: &[u8]) -> Result<(), WriteFault>
+    ensures written { Writes (W.Out.state out.old) (W.Out.state out.new) (shape_text (spec.code_row x y bytes.now)) result }
 {
-    write_turned(out, x, y)?;
+    open_code(out, x, y)?;
     write_cut(out, bytes)?;
-    out.write_all(b"</text>\n")
+    close_text(out)
 }
 
 // The second row, if there is one.
 fn write_more<W: Out>(out: &mut W, x: usize, y: usize, bytes: &[u8]) -> Result<(), WriteFault>
-    ensures written { Writes (W.Out.state out.old) (W.Out.state out.new) (spec.more_code x y bytes.now) result }
+    ensures written { Writes (W.Out.state out.old) (W.Out.state out.new) (shape_text (spec.more_code x y bytes.now)) result }
 {
     if bytes.is_empty() {
         out.write_all(b"")
     } else {
-        write_upright(out, x, y, bytes)
+        write_code_row(out, x, y, bytes)
     }
 }
 
@@ -103,9 +90,9 @@ pub(crate) fn write_code<W: Out>(
     bytes: &[u8],
 ) -> Result<(), WriteFault>
     requires near { x ≤ 2000 }
-    ensures written { Writes (W.Out.state out.old) (W.Out.state out.new) (spec.code_rows x y bytes.now) result }
+    ensures written { Writes (W.Out.state out.old) (W.Out.state out.new) (shape_text (spec.code_rows x y bytes.now)) result }
 {
-    write_upright(out, x + 24, y, first_row(bytes))?;
+    write_code_row(out, x + 24, y, first_row(bytes))?;
     write_more(out, x + 38, y, next_row(bytes))
 }
 

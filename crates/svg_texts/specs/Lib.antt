@@ -1,2 +1,4 @@
 pub mod Letters
-pub mod Standing
+pub mod Plain
+pub mod Shapes
+pub mod WellFormed

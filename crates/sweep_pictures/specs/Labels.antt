@@ -1,6 +1,10 @@
 -- The labels of a panel: its sizes below the axis, and its numbers above their marks. One that would touch the last one is left out.
 use Rattle.std.specs.Prelude.{ℕ, ◌+◌, ◌-◌, ◌*◌, max, nat_le, if◌then◌else◌, Bool, List}
-use Rattle.std.specs.Prelude.{[], ◌∷◌, ◌++◌, Option, Some, None, length, codes, decimal}
+use Rattle.std.specs.Prelude.{[], ◌∷◌, Option, Some, None, length, decimal}
+use Rattle.svg_texts.specs.declared.lettering.Anchor.TheVariants.{Middle}
+use Rattle.svg_texts.specs.declared.lettering.Face.TheVariants as face
+use Rattle.svg_texts.specs.Plain.{number}
+use Rattle.svg_texts.specs.Shapes.{Shape, Empty, Over}
 use Rattle.sweeps.specs.declared.size_row.Ending.{Ending}
 use Rattle.sweeps.specs.declared.size_row.Ending.TheVariants.{Ended, GoesOn, Faulted, Refused}
 use Rattle.sweeps.specs.declared.size_row.SizeRow.{SizeRow}
@@ -32,19 +36,18 @@ label_of Numbers f row = ending_label f row.size row.ending
 abbrev pub is_far : (last : ℕ) → Label → Bool
 is_far last l = nat_le (7 * length (decimal l.number) + 6) (max (l.x - last) (last - l.x))
 
-abbrev pub text_of : Label → List ℕ
-text_of l = codes "<text x='" ++ (decimal l.x ++ (codes "' y='" ++ (decimal l.y ++ (codes "' text-anchor='middle'>"
-    ++ (decimal l.number ++ codes "</text>\n")))))
+abbrev pub written : Label → Shape
+written l = number l.x l.y Middle face.Plain l.number
 
-abbrev pub label_text : (last : ℕ) → Option Label → List ℕ
-label_text last None = []
-label_text last (Some l) = if is_far last l then text_of l else []
+abbrev pub label_shape : (last : ℕ) → Option Label → Shape
+label_shape last None = Empty
+label_shape last (Some l) = if is_far last l then written l else Empty
 
 -- where the last one stands behind it
 abbrev pub last_of : (last : ℕ) → Option Label → ℕ
 last_of last None = last
 last_of last (Some l) = if is_far last l then l.x else last
 
-abbrev pub labels : Kind → Frame → (last : ℕ) → List SizeRow → List ℕ
-labels k f last [] = []
-labels k f last (row ∷ rows) = label_text last (label_of k f row) ++ labels k f (last_of last (label_of k f row)) rows
+abbrev pub labels : Kind → Frame → (last : ℕ) → List SizeRow → Shape
+labels k f last [] = Empty
+labels k f last (row ∷ rows) = Over (label_shape last (label_of k f row)) (labels k f (last_of last (label_of k f row)) rows)

@@ -1,6 +1,7 @@
 -- What a mark says where it is pointed at: `n 8 time 17`.
-use Rattle.std.specs.Prelude.{ℕ, List, [], ◌++◌, codes, decimal}
-use Rattle.svg_texts.specs.Letters.{letters}
+use Rattle.std.specs.Prelude.{ℕ, List, [], codes}
+use Rattle.svg_texts.specs.Plain.{numbered}
+use Rattle.svg_texts.specs.Shapes.{Words, Letters, Then}
 use Rattle.sweeps.specs.SweptTables.{number}
 use Rattle.sweeps.specs.declared.measure.Measure.{Measure}
 use Rattle.sweeps.specs.declared.measure.Measure.TheVariants.{Time, Work}
@@ -13,36 +14,29 @@ abbrev pub word : Measure → List ℕ
 word Time = codes " time "
 word Work = codes " work "
 
-abbrev pub told_text : (word : List ℕ) → ℕ → (how : List ℕ) → List ℕ
-told_text word n how = word ++ (decimal n ++ how)
+-- a number behind a word, and how the run came out
+abbrev pub told : (word : List ℕ) → ℕ → (how : List ℕ) → Words
+told word n how = Then (numbered word n) (Letters how)
 
 -- ` time 17`, and how the run came out, where it didn't end
-abbrev pub number_text : Measure → Counts → List ℕ → List ℕ
-number_text m c how = told_text (word m) (number m c) how
+abbrev pub number_words : Measure → Counts → List ℕ → Words
+number_words m c how = told (word m) (number m c) how
 
-abbrev pub fault_text : Measure → Counts → List ℕ → List ℕ
-fault_text m c fault = number_text m c (codes " ") ++ letters fault
+abbrev pub fault_words : Measure → Counts → List ℕ → Words
+fault_words m c fault = Then (number_words m c (codes " ")) (Letters fault)
 
-abbrev pub refusal_text : List ℕ → List ℕ
-refusal_text refusal = codes " " ++ letters refusal
+abbrev pub refusal_words : List ℕ → Words
+refusal_words refusal = Then (Letters (codes " ")) (Letters refusal)
 
-abbrev pub ending_text : Measure → Ending → List ℕ
-ending_text m (Ended c) = number_text m c []
-ending_text m (GoesOn c) = number_text m c (codes " goes on")
-ending_text m (Faulted c fault) = fault_text m c fault.items
-ending_text m (Refused refusal) = refusal_text refusal.items
+abbrev pub ending_words : Measure → Ending → Words
+ending_words m (Ended c) = number_words m c []
+ending_words m (GoesOn c) = number_words m c (codes " goes on")
+ending_words m (Faulted c fault) = fault_words m c fault.items
+ending_words m (Refused refusal) = refusal_words refusal.items
 
--- ` 8`
-abbrev pub size_text : ℕ → List ℕ
-size_text size = codes " " ++ decimal size
-
-abbrev pub row_text : Measure → SizeRow → List ℕ
-row_text m row = size_text row.size ++ ending_text m row.ending
+abbrev pub row_words : Measure → SizeRow → Words
+row_words m row = Then (numbered (codes " ") row.size) (ending_words m row.ending)
 
 -- `n 8 time 17`
-abbrev pub title_text : List ℕ → Measure → SizeRow → List ℕ
-title_text name m row = letters name ++ row_text m row
-
--- the title, and what begins before it
-abbrev pub titled : List ℕ → Measure → SizeRow → List ℕ
-titled name m row = codes "<g><title>" ++ (title_text name m row ++ codes "</title>")
+abbrev pub title_words : List ℕ → Measure → SizeRow → Words
+title_words name m row = Then (Letters name) (row_words m row)

@@ -2,11 +2,13 @@
 
 ghost use Rattle.std.specs.Prelude.{◌≡◌, ◌<◌, length, decimal};
 ghost use Rattle.text_out.specs.Out.{Writes};
+ghost use Rattle.svg_texts.specs.Shapes.{shape_text};
 ghost use Rattle.sweep_pictures.specs.Labels as spec;
 
 use crate::frame::Frame;
 use crate::measure::{number_of, x_of, y_of};
 use itoa::Buffer;
+use svg_texts::{Anchor, Face, write_number};
 use sweeps::{Ending, SizeRow};
 use text_out::{Out, WriteFault};
 
@@ -85,24 +87,20 @@ fn is_far(last: u64, label: &Label) -> bool
 }
 
 fn write_text<W: Out>(label: &Label, out: &mut W) -> Result<(), WriteFault>
-    ensures written { Writes (W.Out.state out.old) (W.Out.state out.new) (spec.text_of label.now) result }
+    ensures written { Writes (W.Out.state out.old) (W.Out.state out.new) (shape_text (spec.written label.now)) result }
 {
-    let mut across = Buffer::new();
-    let mut down = Buffer::new();
-    let mut digits = Buffer::new();
-    out.write_parts(&[
-        b"<text x='",
-        across.format(label.x).as_bytes(),
-        b"' y='",
-        down.format(label.y).as_bytes(),
-        b"' text-anchor='middle'>",
-        digits.format(label.number).as_bytes(),
-        b"</text>\n",
-    ])
+    write_number(
+        out,
+        label.x as u128,
+        label.y as u128,
+        Anchor::Middle,
+        Face::Plain,
+        label.number as u128,
+    )
 }
 
 fn write_far<W: Out>(last: u64, label: &Label, out: &mut W) -> Result<(), WriteFault>
-    ensures written { Writes (W.Out.state out.old) (W.Out.state out.new) (spec.label_text last (Some label.now)) result }
+    ensures written { Writes (W.Out.state out.old) (W.Out.state out.new) (shape_text (spec.label_shape last (Some label.now))) result }
 {
     if is_far(last, label) {
         write_text(label, out)
@@ -112,7 +110,7 @@ fn write_far<W: Out>(last: u64, label: &Label, out: &mut W) -> Result<(), WriteF
 }
 
 fn write_label<W: Out>(last: u64, label: Option<Label>, out: &mut W) -> Result<(), WriteFault>
-    ensures written { Writes (W.Out.state out.old) (W.Out.state out.new) (spec.label_text last label) result }
+    ensures written { Writes (W.Out.state out.old) (W.Out.state out.new) (shape_text (spec.label_shape last label)) result }
 {
     match label {
         None => Ok(()),
@@ -137,7 +135,7 @@ pub(crate) fn write_labels<W: Out>(
     rows: &[SizeRow],
     out: &mut W,
 ) -> Result<(), WriteFault>
-    ensures written { Writes (W.Out.state out.old) (W.Out.state out.new) (spec.labels kind frame 0 rows.now) result }
+    ensures written { Writes (W.Out.state out.old) (W.Out.state out.new) (shape_text (spec.labels kind frame 0 rows.now)) result }
 {
     let mut last = 0u64;
     for row in rows {

@@ -2,26 +2,14 @@
 
 ghost use Rattle.std.specs.Prelude.{◌≡◌};
 ghost use Rattle.text_out.specs.Out.{Writes};
+ghost use Rattle.svg_texts.specs.Shapes.{points_text, shape_text};
 ghost use Rattle.sweep_pictures.specs.Marks as spec;
 
 use crate::frame::Frame;
 use crate::measure::{mark_y, x_of};
-use itoa::Buffer;
+use svg_texts::{close_points, open_points, write_point};
 use sweeps::{Ending, SizeRow};
 use text_out::{Out, WriteFault};
-
-fn write_point<W: Out>(x: u64, y: u64, out: &mut W) -> Result<(), WriteFault>
-    ensures written { Writes (W.Out.state out.old) (W.Out.state out.new) (spec.point x y) result }
-{
-    let mut across = Buffer::new();
-    let mut down = Buffer::new();
-    out.write_parts(&[
-        across.format(x).as_bytes(),
-        b",",
-        down.format(y).as_bytes(),
-        b" ",
-    ])
-}
 
 fn write_ending_point<W: Out>(
     x: u64,
@@ -29,25 +17,25 @@ fn write_ending_point<W: Out>(
     ending: &Ending,
     out: &mut W,
 ) -> Result<(), WriteFault>
-    ensures written { Writes (W.Out.state out.old) (W.Out.state out.new) (spec.ending_point x y ending.now) result }
+    ensures written { Writes (W.Out.state out.old) (W.Out.state out.new) (points_text (spec.ending_point x y ending.now)) result }
 {
     match ending {
-        Ending::Ended(_) => write_point(x, y, out),
-        Ending::GoesOn(_) => write_point(x, y, out),
+        Ending::Ended(_) => write_point(out, x as u128, y as u128),
+        Ending::GoesOn(_) => write_point(out, x as u128, y as u128),
         Ending::Faulted(_, _) => Ok(()),
         Ending::Refused(_) => Ok(()),
     }
 }
 
 fn write_row_point<W: Out>(frame: Frame, row: &SizeRow, out: &mut W) -> Result<(), WriteFault>
-    ensures written { Writes (W.Out.state out.old) (W.Out.state out.new) (spec.row_point frame row.now) result }
+    ensures written { Writes (W.Out.state out.old) (W.Out.state out.new) (points_text (spec.row_point frame row.now)) result }
 {
     let y = mark_y(frame, &row.ending);
     write_ending_point(x_of(frame, row.size), y, &row.ending, out)
 }
 
 fn write_points<W: Out>(frame: Frame, rows: &[SizeRow], out: &mut W) -> Result<(), WriteFault>
-    ensures written { Writes (W.Out.state out.old) (W.Out.state out.new) (spec.points frame rows.now) result }
+    ensures written { Writes (W.Out.state out.old) (W.Out.state out.new) (points_text (spec.points frame rows.now)) result }
 {
     for row in rows {
         write_row_point(frame, row, out)?;
@@ -56,14 +44,14 @@ fn write_points<W: Out>(frame: Frame, rows: &[SizeRow], out: &mut W) -> Result<(
 }
 
 /// Writes the line through the circles, in the order of the rows.
-pub(crate) fn write_line<W: Out>(
+pub(crate) fn write_curve<W: Out>(
     frame: Frame,
     rows: &[SizeRow],
     out: &mut W,
 ) -> Result<(), WriteFault>
-    ensures written { Writes (W.Out.state out.old) (W.Out.state out.new) (spec.line_text frame rows.now) result }
+    ensures written { Writes (W.Out.state out.old) (W.Out.state out.new) (shape_text (spec.curve frame rows.now)) result }
 {
-    out.write_all(b"<polyline fill='none' stroke='#000000' points='")?;
+    open_points(out)?;
     write_points(frame, rows, out)?;
-    out.write_all(b"'/>\n")
+    close_points(out)
 }

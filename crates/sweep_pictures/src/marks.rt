@@ -2,11 +2,13 @@
 
 ghost use Rattle.std.specs.Prelude.{◌≡◌};
 ghost use Rattle.text_out.specs.Out.{Writes};
+ghost use Rattle.svg_texts.specs.Shapes.{shape_text};
 ghost use Rattle.sweep_pictures.specs.Marks as spec;
 
 use crate::frame::Frame;
 use crate::shapes::write_row_shape;
-use crate::titles::write_titled;
+use crate::titles::write_title;
+use svg_texts::{close_titled, open_titled, write_title_end};
 use sweeps::SizeRow;
 use text_out::{Out, WriteFault};
 
@@ -16,10 +18,13 @@ fn write_mark<W: Out>(
     row: &SizeRow,
     out: &mut W,
 ) -> Result<(), WriteFault>
-    ensures written { Writes (W.Out.state out.old) (W.Out.state out.new) (spec.mark name.now frame row.now) result }
+    ensures written { Writes (W.Out.state out.old) (W.Out.state out.new) (shape_text (spec.mark name.now frame row.now)) result }
 {
-    write_titled(name, frame.measure, row, out)?;
-    write_row_shape(frame, row, out)
+    open_titled(out)?;
+    write_title(name, frame.measure, row, out)?;
+    write_title_end(out)?;
+    write_row_shape(frame, row, out)?;
+    close_titled(out)
 }
 
 /// Writes the mark of each row.
@@ -29,7 +34,7 @@ pub(crate) fn write_marks<W: Out>(
     rows: &[SizeRow],
     out: &mut W,
 ) -> Result<(), WriteFault>
-    ensures written { Writes (W.Out.state out.old) (W.Out.state out.new) (spec.marks name.now frame rows.now) result }
+    ensures written { Writes (W.Out.state out.old) (W.Out.state out.new) (shape_text (spec.marks name.now frame rows.now)) result }
 {
     for row in rows {
         write_mark(name, frame, row, out)?;

@@ -1,38 +1,36 @@
 //! All of a picture.
 
-ghost use Rattle.std.specs.Prelude.{◌≡◌};
 ghost use Rattle.text_out.specs.Out.{Writes};
+ghost use Rattle.svg_texts.specs.Shapes.{picture_text, shape_text, words_text};
 ghost use Rattle.sweep_pictures.specs.Picture as spec;
 
 use crate::measure::{drawn, frame_of};
 use crate::panel::write_panel;
-use itoa::Buffer;
+use svg_texts::{
+    Anchor, Face, close_picture, close_text, open_label, open_picture, write_letters,
+    write_numbered,
+};
 use sweeps::{Measure, SizeRow};
 use text_out::{Out, WriteFault};
 
-fn write_opening<W: Out>(out: &mut W) -> Result<(), WriteFault>
-    ensures written { Writes (W.Out.state out.old) (W.Out.state out.new) (spec.opening) result }
+fn write_first_words<W: Out>(count: usize, out: &mut W) -> Result<(), WriteFault>
+    ensures written { Writes (W.Out.state out.old) (W.Out.state out.new) (words_text (spec.first_words count)) result }
 {
-    out.write_parts(&[
-        b"<svg xmlns='http://www.w3.org/2000/svg' version='1.1' width='760' height='500' font-family='sans-serif' font-size='12'>\n",
-        b"<rect x='0' y='0' width='760' height='500' fill='#ffffff'/>\n",
-    ])
+    write_numbered(out, b"64 of ", count as u128)?;
+    write_letters(out, b" sizes")
 }
 
 fn write_first<W: Out>(count: usize, out: &mut W) -> Result<(), WriteFault>
-    ensures written { Writes (W.Out.state out.old) (W.Out.state out.new) (spec.first_text count) result }
+    ensures written { Writes (W.Out.state out.old) (W.Out.state out.new) (shape_text (spec.first_label count)) result }
 {
-    let mut digits = Buffer::new();
-    out.write_parts(&[
-        b"<text x='168' y='20'>64 of ",
-        digits.format(count).as_bytes(),
-        b" sizes</text>\n",
-    ])
+    open_label(out, 168, 20, Anchor::Start, Face::Plain)?;
+    write_first_words(count, out)?;
+    close_text(out)
 }
 
 // That not all sizes are drawn.
 fn write_cut<W: Out>(count: usize, out: &mut W) -> Result<(), WriteFault>
-    ensures written { Writes (W.Out.state out.old) (W.Out.state out.new) (spec.cut_text count) result }
+    ensures written { Writes (W.Out.state out.old) (W.Out.state out.new) (shape_text (spec.cut count)) result }
 {
     if count > 64 {
         write_first(count, out)
@@ -50,18 +48,30 @@ fn write_measured<W: Out>(
     out: &mut W,
 ) -> Result<(), WriteFault>
     ensures written { Writes (W.Out.state out.old) (W.Out.state out.new)
-        (spec.panel name.now (spec.frame_of measure base rows.now) rows.now) result }
+        (shape_text (spec.panel name.now (spec.frame_of measure base rows.now) rows.now)) result }
 {
     write_panel(name, frame_of(measure, base, rows), rows, out)
 }
 
 // Time, and below it work.
 fn write_panels<W: Out>(name: &[u8], rows: &[SizeRow], out: &mut W) -> Result<(), WriteFault>
-    ensures written { Writes (W.Out.state out.old) (W.Out.state out.new) (spec.panels name.now rows.now) result }
+    ensures written { Writes (W.Out.state out.old) (W.Out.state out.new) (shape_text (spec.panels name.now rows.now)) result }
 {
     write_measured(name, Measure::Time, 220, rows, out)?;
-    write_measured(name, Measure::Work, 450, rows, out)?;
-    out.write_all(b"</svg>\n")
+    write_measured(name, Measure::Work, 450, rows, out)
+}
+
+// All of a picture of these rows of so many.
+fn write_shape<W: Out>(
+    name: &[u8],
+    count: usize,
+    rows: &[SizeRow],
+    out: &mut W,
+) -> Result<(), WriteFault>
+    ensures written { Writes (W.Out.state out.old) (W.Out.state out.new) (shape_text (spec.shape_of name.now count rows.now)) result }
+{
+    write_cut(count, out)?;
+    write_panels(name, rows, out)
 }
 
 // A picture of these rows of so many.
@@ -71,11 +81,11 @@ fn write_drawn<W: Out>(
     rows: &[SizeRow],
     out: &mut W,
 ) -> Result<(), WriteFault>
-    ensures written { Writes (W.Out.state out.old) (W.Out.state out.new) (spec.picture_of name.now count rows.now) result }
+    ensures written { Writes (W.Out.state out.old) (W.Out.state out.new) (picture_text (spec.picture_of name.now count rows.now)) result }
 {
-    write_opening(out)?;
-    write_cut(count, out)?;
-    write_panels(name, rows, out)
+    open_picture(out, b"What a program costs at several sizes", 760, 500)?;
+    write_shape(name, count, rows, out)?;
+    close_picture(out)
 }
 
 /// Writes a picture of what a program costs at several sizes, as SVG 1.1: its time against the size, and below it its work. From left to
@@ -90,7 +100,7 @@ pub fn write_sweep_picture<W: Out>(
     out: &mut W,
 ) -> Result<(), WriteFault>
     // Exactly the defined picture of these rows is written, or a beginning of it and then a failure.
-    ensures written { Writes (W.Out.state out.old) (W.Out.state out.new) (spec.picture name.now rows.now) result }
+    ensures written { Writes (W.Out.state out.old) (W.Out.state out.new) (picture_text (spec.picture name.now rows.now)) result }
 {
     write_drawn(name, rows.len(), drawn(rows), out)
 }

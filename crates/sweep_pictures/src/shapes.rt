@@ -1,60 +1,53 @@
 //! The shapes of marks.
 
-ghost use Rattle.std.specs.Prelude.{◌≡◌};
+ghost use Rattle.std.specs.Prelude.{◌-◌};
 ghost use Rattle.text_out.specs.Out.{Writes};
+ghost use Rattle.svg_texts.specs.declared.colour.Colour.TheVariants.{White};
+ghost use Rattle.svg_texts.specs.declared.form.Form.TheVariants as form;
+ghost use Rattle.svg_texts.specs.Plain.{outlined};
+ghost use Rattle.svg_texts.specs.Shapes.{Drawn, shape_text};
 ghost use Rattle.sweep_pictures.specs.Marks as spec;
 
 use crate::frame::Frame;
 use crate::measure::{mark_y, x_of};
-use itoa::Buffer;
+use svg_texts::{Colour, Form, write_line, write_outlined};
 use sweeps::{Ending, SizeRow};
 use text_out::{Out, WriteFault};
 
 // Full where a run ended, hollow where it goes on.
-fn write_circle<W: Out>(x: u64, y: u64, fill: &[u8], out: &mut W) -> Result<(), WriteFault>
-    ensures written { Writes (W.Out.state out.old) (W.Out.state out.new) (spec.circle x y fill.now) result }
+fn write_circle<W: Out>(x: u64, y: u64, colour: Colour, out: &mut W) -> Result<(), WriteFault>
+    ensures written { Writes (W.Out.state out.old) (W.Out.state out.new) (shape_text (Drawn (form.Circle x y) (outlined colour))) result }
 {
-    let mut across = Buffer::new();
-    let mut down = Buffer::new();
-    out.write_parts(&[
-        b"<circle cx='",
-        across.format(x).as_bytes(),
-        b"' cy='",
-        down.format(y).as_bytes(),
-        b"' r='4' stroke='#000000' fill='",
-        fill,
-        b"'/></g>\n",
-    ])
+    let form = Form::Circle {
+        x: x as u128,
+        y: y as u128,
+    };
+    write_outlined(out, &form, colour)
 }
 
 // Where it faulted.
 fn write_square<W: Out>(x: u64, y: u64, out: &mut W) -> Result<(), WriteFault>
-    ensures written { Writes (W.Out.state out.old) (W.Out.state out.new) (spec.square x y) result }
+    ensures written { Writes (W.Out.state out.old) (W.Out.state out.new)
+        (shape_text (Drawn (form.Rectangle (x - 4) (y - 4) 8 8) (outlined White))) result }
 {
-    let mut across = Buffer::new();
-    let mut down = Buffer::new();
-    out.write_parts(&[
-        b"<rect x='",
-        across.format(x.saturating_sub(4)).as_bytes(),
-        b"' y='",
-        down.format(y.saturating_sub(4)).as_bytes(),
-        b"' width='8' height='8' stroke='#000000' fill='#ffffff'/></g>\n",
-    ])
+    let (left, top) = (x.saturating_sub(4), y.saturating_sub(4));
+    let form = Form::Rectangle {
+        left: left as u128,
+        top: top as u128,
+        wide: 8,
+        tall: 8,
+    };
+    write_outlined(out, &form, Colour::White)
 }
 
 // Where there was none.
 fn write_cross<W: Out>(x: u64, y: u64, out: &mut W) -> Result<(), WriteFault>
-    ensures written { Writes (W.Out.state out.old) (W.Out.state out.new) (spec.cross x y) result }
+    ensures written { Writes (W.Out.state out.old) (W.Out.state out.new) (shape_text (spec.cross x y)) result }
 {
-    let mut across = Buffer::new();
-    let mut down = Buffer::new();
-    out.write_parts(&[
-        b"<path d='M",
-        across.format(x.saturating_sub(4)).as_bytes(),
-        b" ",
-        down.format(y.saturating_sub(4)).as_bytes(),
-        b"l8 8m0 -8l-8 8' stroke='#000000' fill='none'/></g>\n",
-    ])
+    let (left, top) = (x.saturating_sub(4) as u128, y.saturating_sub(4) as u128);
+    let (right, foot) = (x as u128 + 4, y as u128 + 4);
+    write_line(out, left, top, right, foot, Colour::Black)?;
+    write_line(out, right, top, left, foot, Colour::Black)
 }
 
 fn write_shape<W: Out>(
@@ -64,11 +57,11 @@ fn write_shape<W: Out>(
     ending: &Ending,
     out: &mut W,
 ) -> Result<(), WriteFault>
-    ensures written { Writes (W.Out.state out.old) (W.Out.state out.new) (spec.shape frame x y ending.now) result }
+    ensures written { Writes (W.Out.state out.old) (W.Out.state out.new) (shape_text (spec.shape frame x y ending.now)) result }
 {
     match ending {
-        Ending::Ended(_) => write_circle(x, y, b"#000000", out),
-        Ending::GoesOn(_) => write_circle(x, y, b"#ffffff", out),
+        Ending::Ended(_) => write_circle(x, y, Colour::Black, out),
+        Ending::GoesOn(_) => write_circle(x, y, Colour::White, out),
         Ending::Faulted(_, _) => write_square(x, y, out),
         Ending::Refused(_) => write_cross(x, u64::from(frame.base), out),
     }
@@ -80,7 +73,7 @@ pub(crate) fn write_row_shape<W: Out>(
     row: &SizeRow,
     out: &mut W,
 ) -> Result<(), WriteFault>
-    ensures written { Writes (W.Out.state out.old) (W.Out.state out.new) (spec.row_shape frame row.now) result }
+    ensures written { Writes (W.Out.state out.old) (W.Out.state out.new) (shape_text (spec.row_shape frame row.now)) result }
 {
     let y = mark_y(frame, &row.ending);
     write_shape(frame, x_of(frame, row.size), y, &row.ending, out)

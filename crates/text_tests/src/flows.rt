@@ -191,7 +191,7 @@ fn lines_for_subscripts_are_dashed(rt: HostRuntime) -> Result<(), Fail> {
     )?;
     assert!(rt;
         stands(
-            b"L368 334' stroke='#000000' stroke-width='1.5' stroke-dasharray='6 4'/>",
+            b"L368 334' fill='none' stroke='#000000' stroke-width='1.5' stroke-dasharray='6 4'/>",
             dashed.bytes()
         )
     );
@@ -205,7 +205,7 @@ fn lines_for_subscripts_are_dashed(rt: HostRuntime) -> Result<(), Fail> {
     )?;
     assert!(rt;
         stands(
-            b"L368 334' stroke='#000000' stroke-width='1.5'/>",
+            b"L368 334' fill='none' stroke='#000000' stroke-width='1.5'/>",
             full.bytes()
         )
     );

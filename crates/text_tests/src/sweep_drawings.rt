@@ -53,13 +53,13 @@ fn marks_stand_where_they_should(rt: HostRuntime) -> Result<(), Fail> {
     assert!(rt; stands(b"points='184,420 424,390 664,330 '", text));
     assert!(rt;
         stands(
-            b"<title>n 8 time 17</title><circle cx='424' cy='169' r='4' stroke='#000000' fill='#000000'/>",
+            b"<title>n 8 time 17</title>\n<circle cx='424' cy='169' r='4' fill='#000000' stroke='#000000' stroke-width='1'/>",
             text
         )
     );
     assert!(rt; stands(b"<text x='156' y='74' text-anchor='end'>50</text>", text));
     assert!(rt; stands(b"<text x='424' y='238' text-anchor='middle'>8</text>", text));
-    assert!(rt; !stands(b"sizes", text));
+    assert!(rt; !stands(b" sizes</text>", text));
     Ok(())
 }
 
@@ -85,22 +85,23 @@ fn other_endings_have_other_marks(rt: HostRuntime) -> Result<(), Fail> {
     let text = out.bytes();
     assert!(rt;
         stands(
-            b"<title>n 8 time 17 goes on</title><circle cx='344' cy='93' r='4' stroke='#000000' fill='#ffffff'/>",
+            b"<title>n 8 time 17 goes on</title>\n<circle cx='344' cy='93' r='4' fill='#ffffff' stroke='#000000' stroke-width='1'/>",
             text
         )
     );
     assert!(rt;
         stands(
-            b"<title>n 16 time 3 fault a&lt;b</title><rect x='500' y='194' width='8' height='8'",
+            b"<title>n 16 time 3 fault a&lt;b</title>\n<rect x='500' y='194' width='8' height='8' fill='#ffffff'",
             text
         )
     );
     assert!(rt;
         stands(
-            b"<title>n 32 refused ?</title><path d='M660 216l8 8m0 -8l-8 8'",
+            b"<title>n 32 refused ?</title>\n<path d='M660 216L668 224'",
             text
         )
     );
+    assert!(rt; stands(b"<path d='M668 216L660 224'", text));
     Ok(())
 }
 
@@ -119,13 +120,13 @@ fn great_numbers_and_no_rows(rt: HostRuntime) -> Result<(), Fail> {
     let out = picture(rt.alloc(), b"n", &rows)?;
     assert!(rt;
         stands(
-            b"<title>n 0 work 0</title><circle cx='184' cy='450'",
+            b"<title>n 0 work 0</title>\n<circle cx='184' cy='450'",
             out.bytes()
         )
     );
     assert!(rt;
         stands(
-            b"<title>n 18446744073709551615 work 18446744073709551615</title><circle cx='664' cy='312'",
+            b"<title>n 18446744073709551615 work 18446744073709551615</title>\n<circle cx='664' cy='312'",
             out.bytes()
         )
     );

@@ -1,10 +1,11 @@
 -- Columns, one behind the other, and the most words of all.
-use Rattle.std.proofs.Common.{◌≡◌, ℕ, zero, suc, ◌+◌, ◌-◌, ◌<◌, ◌≤◌, max, List, [], ◌∷◌, ◌++◌, length, drop, get_or, refl, ap}
+use Rattle.std.proofs.Common.{◌≡◌, ℕ, zero, suc, ◌+◌, ◌-◌, ◌<◌, ◌≤◌, max, List, [], ◌∷◌, length, drop, get_or, refl, ap}
 use Rattle.std.proofs.Common.{sym, ◌∙◌, arith}
 use Rattle.std.proofs.lemmas.List.{drop_all, drop_more, get_or-take, length-take}
 use Rattle.superstep_machine.specs.Trace.{Exchange, relation_of}
 use Rattle.exchange_counts.specs.CountedExchanges.{exchange_at, no_exchange}
 use Rattle.std.specs.Prelude.{Option}
+use Rattle.svg_texts.specs.Shapes.{Over}
 use Rattle.tracer.specs.Traced.{line_of}
 use Rattle.tracer.specs.Picture.{column, columns_from, drawn, most_words, workers_of}
 
@@ -20,14 +21,15 @@ few_drawn es i below = let long = length-take 200 es in omega (arith, below, lon
 pub columns_at : (workers most : ℕ) (lines : List ℕ) (es : List Exchange) (i : ℕ) (line : Option ℕ) → i < length (drawn es) →
     line ≡ line_of lines (i + 1) →
     columns_from workers most lines (i + 1) (drop i (drawn es)) ≡
-    column workers most (i + 1) line (exchange_at es (i + 1)) ++ columns_from workers most lines (i + 1 + 1) (drop (i + 1) (drawn es))
+    Over (column workers most (i + 1) line (exchange_at es (i + 1))) (columns_from workers most lines (i + 1 + 1) (drop (i + 1) (drawn
+    es)))
 columns_at workers most lines es i line below is =
     ap (columns_from workers most lines (i + 1)) (drop_more (drawn es) i no_exchange below)
-    ∙ ap (λ e. column workers most (i + 1) (line_of lines (i + 1)) e ++ columns_from workers most lines (i + 1 + 1)
-    (drop (i + 1) (drawn es)))
+    ∙ ap (λ e. Over (column workers most (i + 1) (line_of lines (i + 1)) e) (columns_from workers most lines (i + 1 + 1)
+    (drop (i + 1) (drawn es))))
     (same_exchange es i (few_drawn es i below))
-    ∙ ap (λ l. column workers most (i + 1) l (exchange_at es (i + 1)) ++ columns_from workers most lines (i + 1 + 1)
-    (drop (i + 1) (drawn es)))
+    ∙ ap (λ l. Over (column workers most (i + 1) l (exchange_at es (i + 1))) (columns_from workers most lines (i + 1 + 1)
+    (drop (i + 1) (drawn es))))
     (sym is)
 
 at_most : (es : List Exchange) (i : ℕ) → i < length es → relation_of (get_or es i no_exchange) ≤ most_words es
@@ -51,7 +53,8 @@ most_more es i now next h below all is more =
     let same = ap relation_of (same_exchange es i (few_drawn es i below)) in
     omega (arith, all, is, more, step, same)
 
-pub most_is : (es : List Exchange) (i now : ℕ) → length (drawn es) ≤ i → max now (most_words (drop i (drawn es))) ≡ most_words (drawn es) →
+pub most_is : (es : List Exchange) (i now : ℕ) → length (drawn es) ≤ i → max now (most_words (drop i (drawn es))) ≡ most_words (drawn es)
+    →
     now ≡ most_words (drawn es)
 most_is es i now end all = let none = ap most_words (drop_all i (drawn es) end) in omega (arith, all, none)
 

@@ -1,14 +1,18 @@
 //! The bars of a worker.
 
-ghost use Rattle.std.specs.Prelude.{◌≡◌, ◌≤◌, ◌<◌, ◌+◌, ◌-◌, ◌*◌, ◌^◌, length};
+ghost use Rattle.std.specs.Prelude.{◌≡◌, ◌≤◌, ◌<◌, ◌+◌, ◌-◌, ◌*◌, ◌^◌, codes, length};
 ghost use Rattle.text_out.specs.Out.{Writes};
 ghost use Rattle.exchange_counts.specs.CountedExchanges.{exchange_at};
 ghost use Rattle.superstep_machine.specs.Trace.{relation_of};
+ghost use Rattle.svg_texts.specs.declared.form.Form.TheVariants as form;
+ghost use Rattle.svg_texts.specs.Shapes.{Drawn, shape_text, words_text};
 ghost use Rattle.tracer.specs.Picture as spec;
 
-use crate::numbers::{Spot, write_number};
 use exchange_counts::Counts;
-use itoa::Buffer;
+use svg_texts::{
+    Anchor, Colour, Face, Fill, Form, Paint, Stroke, Weight, close_titled, open_titled,
+    write_filled, write_form, write_number, write_numbered, write_title_end,
+};
 use text_out::{Out, WriteFault};
 
 /// Where the axis stands.
@@ -46,14 +50,6 @@ fn bar_left(x: u128, worker: usize) -> u128
     x + 4 + 14 * worker as u128
 }
 
-// Where a bar stands, and how tall it is.
-#[derive(Clone, Copy, Debug)]
-struct Bar {
-    x: u128,
-    y: u128,
-    height: u128,
-}
-
 // What a worker sent, or received, for the text of its bar.
 #[derive(Clone, Copy, Debug)]
 struct Share {
@@ -61,70 +57,93 @@ struct Share {
     words: u64,
 }
 
-fn write_bar<W: Out>(
+fn write_share<W: Out>(out: &mut W, did: &[u8], share: Share) -> Result<(), WriteFault>
+    ensures written { Writes (W.Out.state out.old) (W.Out.state out.new)
+        (words_text (spec.share_words share.worker did.now share.words)) result }
+{
+    write_numbered(out, b"worker ", share.worker as u128)?;
+    write_numbered(out, did, share.words as u128)
+}
+
+/// Writes a form as words that were sent are painted.
+pub(crate) fn write_as_sent<W: Out>(out: &mut W, form: &Form) -> Result<(), WriteFault>
+    ensures written { Writes (W.Out.state out.old) (W.Out.state out.new) (shape_text (Drawn form.now spec.sent_paint)) result }
+{
+    write_filled(out, form, Colour::Blue)
+}
+
+/// Writes a form as words that were received are painted.
+pub(crate) fn write_as_received<W: Out>(out: &mut W, form: &Form) -> Result<(), WriteFault>
+    ensures written { Writes (W.Out.state out.old) (W.Out.state out.new) (shape_text (Drawn form.now spec.received_paint)) result }
+{
+    let paint = Paint {
+        fill: Fill::Striped,
+        stroke: Some(Stroke {
+            colour: Colour::Brown,
+            weight: Weight::Thin,
+            dashed: false,
+        }),
+    };
+    write_form(out, form, &paint)
+}
+
+// The bar of so many pixels at a height.
+fn bar_at(x: u128, y: u128, height: u128) -> Form
+    ensures { result ≡ form.Rectangle x y 12 height }
+{
+    Form::Rectangle {
+        left: x,
+        top: y,
+        wide: 12,
+        tall: height,
+    }
+}
+
+fn write_sent_at<W: Out>(out: &mut W, x: u128, height: u128, share: Share) -> Result<(), WriteFault>
+    requires low { height ≤ 100 }
+    ensures written { Writes (W.Out.state out.old) (W.Out.state out.new)
+        (shape_text (spec.bar x (214 - height) height spec.sent_paint (spec.share_words share.worker (codes " sent ") share.words)))
+        result }
+{
+    open_titled(out)?;
+    write_share(out, b" sent ", share)?;
+    write_title_end(out)?;
+    write_as_sent(out, &bar_at(x, AXIS - height, height))?;
+    close_titled(out)
+}
+
+fn write_received_at<W: Out>(
     out: &mut W,
-    bar: Bar,
-    paint: &[u8],
-    did: &[u8],
+    x: u128,
+    height: u128,
     share: Share,
 ) -> Result<(), WriteFault>
     ensures written { Writes (W.Out.state out.old) (W.Out.state out.new)
-        (spec.bar bar.x bar.y bar.height paint.now share.worker did.now share.words) result }
+        (shape_text (spec.bar x 214 height spec.received_paint (spec.share_words share.worker (codes " received ") share.words))) result }
 {
-    let mut x = Buffer::new();
-    let mut y = Buffer::new();
-    let mut height = Buffer::new();
-    let mut number = Buffer::new();
-    let mut count = Buffer::new();
-    out.write_parts(&[
-        b"<rect x='",
-        x.format(bar.x).as_bytes(),
-        b"' y='",
-        y.format(bar.y).as_bytes(),
-        b"' width='12' height='",
-        height.format(bar.height).as_bytes(),
-        b"' ",
-        paint,
-        b"><title>worker ",
-        number.format(share.worker).as_bytes(),
-        did,
-        count.format(share.words).as_bytes(),
-        b"</title></rect>\n",
-    ])
+    open_titled(out)?;
+    write_share(out, b" received ", share)?;
+    write_title_end(out)?;
+    write_as_received(out, &bar_at(x, AXIS, height))?;
+    close_titled(out)
 }
 
 fn write_sent_bar<W: Out>(out: &mut W, scale: Scale, share: Share) -> Result<(), WriteFault>
     requires words { share.words ≤ scale.most }
-    ensures written { Writes (W.Out.state out.old) (W.Out.state out.new) (spec.sent_bar scale.most scale.x share.worker
-        share.words) result }
+    ensures written { Writes (W.Out.state out.old) (W.Out.state out.new)
+        (shape_text (spec.sent_bar scale.most scale.x share.worker share.words)) result }
 {
     let height = bar_height(scale.most, share.words);
-    let bar = Bar {
-        x: bar_left(scale.x, share.worker),
-        y: AXIS - height,
-        height,
-    };
-    write_bar(out, bar, b"fill='#0072b2'", b" sent ", share)
+    write_sent_at(out, bar_left(scale.x, share.worker), height, share)
 }
 
 fn write_received_bar<W: Out>(out: &mut W, scale: Scale, share: Share) -> Result<(), WriteFault>
     requires words { share.words ≤ scale.most }
     ensures written { Writes (W.Out.state out.old) (W.Out.state out.new)
-        (spec.received_bar scale.most scale.x share.worker share.words) result }
+        (shape_text (spec.received_bar scale.most scale.x share.worker share.words)) result }
 {
     let height = bar_height(scale.most, share.words);
-    let bar = Bar {
-        x: bar_left(scale.x, share.worker),
-        y: AXIS,
-        height,
-    };
-    write_bar(
-        out,
-        bar,
-        b"fill='url(#received)' stroke='#b06000'",
-        b" received ",
-        share,
-    )
+    write_received_at(out, bar_left(scale.x, share.worker), height, share)
 }
 
 /// Writes the bars of what each worker sent in an exchange, from 1.
@@ -138,7 +157,7 @@ pub(crate) fn write_sent_bars<W: Out>(
     requires last { k ≤ length counts.now }
     requires most { relation_of (exchange_at counts.now k) ≤ scale.most }
     ensures written { Writes (W.Out.state out.old) (W.Out.state out.new)
-        (spec.sent_bars scale.most scale.x 0 (exchange_at counts.now k).sent) result }
+        (shape_text (spec.sent_bars scale.most scale.x 0 (exchange_at counts.now k).sent)) result }
 {
     let workers = counts.workers();
     'workers: for w in 0..workers {
@@ -162,7 +181,7 @@ pub(crate) fn write_received_bars<W: Out>(
     requires last { k ≤ length counts.now }
     requires most { relation_of (exchange_at counts.now k) ≤ scale.most }
     ensures written { Writes (W.Out.state out.old) (W.Out.state out.new)
-        (spec.received_bars scale.most scale.x 0 (exchange_at counts.now k).received) result }
+        (shape_text (spec.received_bars scale.most scale.x 0 (exchange_at counts.now k).received)) result }
 {
     let workers = counts.workers();
     'workers: for w in 0..workers {
@@ -178,18 +197,15 @@ pub(crate) fn write_received_bars<W: Out>(
 // A worker's number below its bars.
 fn write_worker_number<W: Out>(out: &mut W, x: u128, worker: usize) -> Result<(), WriteFault>
     requires near { x < 2 ^ 100 }
-    ensures written { Writes (W.Out.state out.old) (W.Out.state out.new) (spec.worker_number x worker) result }
+    ensures written { Writes (W.Out.state out.old) (W.Out.state out.new) (shape_text (spec.worker_number x worker)) result }
 {
-    let spot = Spot {
-        x: bar_left(x, worker) + 6,
-        y: 327,
-    };
     write_number(
         out,
-        spot,
-        b" font-size='10' text-anchor='middle'",
-        b"",
-        worker as u64,
+        bar_left(x, worker) + 6,
+        327,
+        Anchor::Middle,
+        Face::Small,
+        worker as u128,
     )
 }
 
@@ -200,7 +216,7 @@ pub(crate) fn write_worker_numbers<W: Out>(
     workers: usize,
 ) -> Result<(), WriteFault>
     requires near { x < 2 ^ 100 }
-    ensures written { Writes (W.Out.state out.old) (W.Out.state out.new) (spec.worker_numbers x 0 workers) result }
+    ensures written { Writes (W.Out.state out.old) (W.Out.state out.new) (shape_text (spec.worker_numbers x 0 workers)) result }
 {
     'workers: for w in 0..workers {
         write_worker_number(out, x, w)?;

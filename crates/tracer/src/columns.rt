@@ -5,13 +5,14 @@ ghost use Rattle.superstep_machine.specs.Trace.{relation_of};
 ghost use Rattle.text_out.specs.Out.{Writes};
 ghost use Rattle.superstep_machine.specs.Purposes.{purpose_is};
 ghost use Rattle.exchange_counts.specs.CountedExchanges.{exchange_at};
+ghost use Rattle.svg_texts.specs.Shapes.{shape_text};
 ghost use Rattle.tracer.specs.Picture as spec;
 
 use crate::bars::{Scale, write_received_bars, write_sent_bars, write_worker_numbers};
 use crate::exchange_line::kind_word;
-use crate::numbers::{Spot, write_number};
+use crate::numbers::write_named_number;
 use exchange_counts::{Counts, Purpose};
-use itoa::Buffer;
+use svg_texts::{Anchor, Colour, Face, Form, write_filled, write_label, write_number};
 use text_out::{Out, WriteFault};
 
 const LEFT: u128 = 168;
@@ -32,18 +33,42 @@ pub(crate) fn column_width(workers: usize) -> u128
 }
 
 // What stands behind a column.
-fn ground(purpose: Purpose) -> &'static [u8]
-    ensures { result.now ≡ spec.ground (purpose_is purpose) }
+fn ground(purpose: Purpose) -> Colour
+    ensures { result ≡ spec.ground (purpose_is purpose) }
 {
     match purpose {
-        Purpose::Send => b"#f2f2f2",
-        Purpose::Reply => b"#ffffff",
-        Purpose::Vote { destination: _ } => b"#e0e0e0",
-        Purpose::Close => b"#ffffff",
+        Purpose::Send => Colour::Pale,
+        Purpose::Reply => Colour::White,
+        Purpose::Vote { destination: _ } => Colour::Light,
+        Purpose::Close => Colour::White,
     }
 }
 
-// What is behind a column from x on; its number and its kind above the bars, and its h below them.
+// Its number and its kind above the bars, and its h below them.
+fn write_column_words<W: Out>(
+    out: &mut W,
+    x: u128,
+    k: usize,
+    purpose: Purpose,
+    h: u64,
+) -> Result<(), WriteFault>
+    requires near { x < 2 ^ 100 }
+    ensures written { Writes (W.Out.state out.old) (W.Out.state out.new)
+        (shape_text (spec.column_words x k (purpose_is purpose) h)) result }
+{
+    write_number(out, x + 4, 64, Anchor::Start, Face::Plain, k as u128)?;
+    write_label(
+        out,
+        x + 4,
+        78,
+        Anchor::Start,
+        Face::Plain,
+        kind_word(purpose),
+    )?;
+    write_named_number(out, x + 4, 344, b"h ", h)
+}
+
+// What is behind a column from x on, and its words.
 fn write_front<W: Out>(
     out: &mut W,
     x: u128,
@@ -53,51 +78,27 @@ fn write_front<W: Out>(
     h: u64,
 ) -> Result<(), WriteFault>
     requires near { x < 2 ^ 100 }
-    ensures written { Writes (W.Out.state out.old) (W.Out.state out.new) (spec.column_front x width k (purpose_is purpose) h) result }
+    ensures written { Writes (W.Out.state out.old) (W.Out.state out.new)
+        (shape_text (spec.column_front x width k (purpose_is purpose) h)) result }
 {
-    let mut left = Buffer::new();
-    let mut words_left = Buffer::new();
-    let mut wide = Buffer::new();
-    let mut number = Buffer::new();
-    let mut relation = Buffer::new();
-    let words = words_left.format(x + 4).as_bytes();
-    out.write_parts(&[
-        b"<rect x='",
-        left.format(x).as_bytes(),
-        b"' y='50' width='",
-        wide.format(width).as_bytes(),
-        b"' height='300' fill='",
-        ground(purpose),
-        b"'/>\n<text x='",
-        words,
-        b"' y='64'>",
-        number.format(k).as_bytes(),
-        b"</text>\n<text x='",
-        words,
-        b"' y='78'>",
-        kind_word(purpose),
-        b"</text>\n<text x='",
-        words,
-        b"' y='344'>h ",
-        relation.format(h).as_bytes(),
-        b"</text>\n",
-    ])
+    let behind = Form::Rectangle {
+        left: x,
+        top: 50,
+        wide: width,
+        tall: 300,
+    };
+    write_filled(out, &behind, ground(purpose))?;
+    write_column_words(out, x, k, purpose, h)
 }
 
 // The line of the statement that an exchange serves, where it is known.
 fn write_column_line<W: Out>(out: &mut W, x: u128, line: Option<u32>) -> Result<(), WriteFault>
     requires near { x < 2 ^ 100 }
-    ensures written { Writes (W.Out.state out.old) (W.Out.state out.new) (spec.column_line x line) result }
+    ensures written { Writes (W.Out.state out.old) (W.Out.state out.new) (shape_text (spec.column_line x line)) result }
 {
     match line {
         None => Ok(()),
-        Some(line) => write_number(
-            out,
-            Spot { x: x + 4, y: 92 },
-            b"",
-            b"line ",
-            u64::from(line),
-        ),
+        Some(line) => write_named_number(out, x + 4, 92, b"line ", line as u64),
     }
 }
 
@@ -114,7 +115,7 @@ fn write_head<W: Out>(
     requires first { 1 ≤ k }
     requires last { k ≤ length counts.now }
     ensures written { Writes (W.Out.state out.old) (W.Out.state out.new)
-        (spec.column_head x width k line (exchange_at counts.now k)) result }
+        (shape_text (spec.column_head x width k line (exchange_at counts.now k))) result }
 {
     let (purpose, h) = counts.exchange(k);
     write_front(out, x, width, k, purpose, h)?;
@@ -132,7 +133,7 @@ fn write_bars<W: Out>(
     requires last { k ≤ length counts.now }
     requires most { relation_of (exchange_at counts.now k) ≤ scale.most }
     ensures written { Writes (W.Out.state out.old) (W.Out.state out.new)
-        (spec.bars scale.most scale.x (exchange_at counts.now k)) result }
+        (shape_text (spec.bars scale.most scale.x (exchange_at counts.now k))) result }
 {
     write_sent_bars(out, counts, scale, k)?;
     write_received_bars(out, counts, scale, k)
@@ -149,7 +150,7 @@ fn write_body<W: Out>(
     requires last { k ≤ length counts.now }
     requires most { relation_of (exchange_at counts.now k) ≤ scale.most }
     ensures written { Writes (W.Out.state out.old) (W.Out.state out.new)
-        (spec.column_body scale.most scale.x (exchange_at counts.now k)) result }
+        (shape_text (spec.column_body scale.most scale.x (exchange_at counts.now k))) result }
 {
     let workers = counts.workers();
     write_bars(out, counts, scale, k)?;
@@ -179,7 +180,7 @@ pub(crate) fn write_column<W: Out>(
     requires few { k ≤ 200 }
     requires most { relation_of (exchange_at counts.now k) ≤ measure.most }
     ensures written { Writes (W.Out.state out.old) (W.Out.state out.new)
-        (spec.column measure.workers measure.most k line (exchange_at counts.now k)) result }
+        (shape_text (spec.column measure.workers measure.most k line (exchange_at counts.now k))) result }
 {
     let x = column_left(measure, k);
     let width = column_width(measure.workers);

@@ -2,14 +2,19 @@
 
 ghost use Rattle.std.specs.Prelude.{◌≡◌, ◌≤◌, ◌++◌, length};
 ghost use Rattle.text_out.specs.Out.{Writes};
+ghost use Rattle.svg_texts.specs.declared.form.Form.TheVariants as form;
+ghost use Rattle.svg_texts.specs.Shapes.{picture_text, shape_text, words_text};
 ghost use Rattle.tracer.specs.Picture as spec;
 
+use crate::bars::{write_as_received, write_as_sent};
 use crate::columns::{Measure, column_width, write_column};
 use crate::exchange_line::line_of;
 use crate::scale::write_scale;
 use exchange_counts::Counts;
-use itoa::Buffer;
-use svg_texts::write_letters;
+use svg_texts::{
+    Anchor, Face, Form, close_picture, close_text, open_label, open_picture, write_label,
+    write_letters, write_numbered,
+};
 use text_out::{Out, WriteFault};
 
 // No more exchanges are drawn.
@@ -54,21 +59,6 @@ fn picture_width(workers: usize, columns: usize) -> u128
     (180 + column_width(workers) * columns as u128).max(620)
 }
 
-// The opening of a picture of that width.
-fn write_opening<W: Out>(out: &mut W, width: u128) -> Result<(), WriteFault>
-    ensures written { Writes (W.Out.state out.old) (W.Out.state out.new) (spec.opening_text width) result }
-{
-    let mut digits = Buffer::new();
-    let wide = digits.format(width).as_bytes();
-    out.write_parts(&[
-        b"<svg xmlns='http://www.w3.org/2000/svg' version='1.1' width='",
-        wide,
-        b"' height='386' font-family='sans-serif' font-size='12'>\n<rect x='0' y='0' width='",
-        wide,
-        b"' height='386' fill='#ffffff'/>\n",
-    ])
-}
-
 // That not all exchanges are drawn.
 fn cut(exchanges: usize) -> &'static [u8]
     ensures { result.now ≡ spec.cut_text exchanges }
@@ -80,54 +70,72 @@ fn cut(exchanges: usize) -> &'static [u8]
     }
 }
 
+fn write_head_words<W: Out>(out: &mut W, workers: usize, exchanges: usize) -> Result<(), WriteFault>
+    ensures written { Writes (W.Out.state out.old) (W.Out.state out.new) (words_text (spec.head_words workers exchanges)) result }
+{
+    let ending = cut(exchanges);
+    write_numbered(out, b"workers ", workers as u128)?;
+    write_numbered(out, b", exchanges ", exchanges as u128)?;
+    write_letters(out, ending)
+}
+
 // How many workers and exchanges there were.
 fn write_head<W: Out>(out: &mut W, workers: usize, exchanges: usize) -> Result<(), WriteFault>
-    ensures written { Writes (W.Out.state out.old) (W.Out.state out.new) (spec.head_text workers exchanges) result }
+    ensures written { Writes (W.Out.state out.old) (W.Out.state out.new) (shape_text (spec.head workers exchanges)) result }
 {
-    let mut number = Buffer::new();
-    let mut digits = Buffer::new();
-    out.write_parts(&[
-        b"<text x='12' y='20'>workers ",
-        number.format(workers).as_bytes(),
-        b", exchanges ",
-        digits.format(exchanges).as_bytes(),
-        cut(exchanges),
-        b"</text>\n",
-    ])
+    open_label(out, 12, 20, Anchor::Start, Face::Plain)?;
+    write_head_words(out, workers, exchanges)?;
+    close_text(out)
+}
+
+// The square of a key.
+fn key_at(left: u128) -> Form
+    ensures { result ≡ form.Rectangle left 28 12 12 }
+{
+    Form::Rectangle {
+        left,
+        top: 28,
+        wide: 12,
+        tall: 12,
+    }
+}
+
+fn write_key_sent<W: Out>(out: &mut W) -> Result<(), WriteFault>
+    ensures written { Writes (W.Out.state out.old) (W.Out.state out.new) (shape_text spec.key_sent) result }
+{
+    write_as_sent(out, &key_at(12))?;
+    write_label(out, 28, 38, Anchor::Start, Face::Plain, b"words sent")
+}
+
+fn write_key_received<W: Out>(out: &mut W) -> Result<(), WriteFault>
+    ensures written { Writes (W.Out.state out.old) (W.Out.state out.new) (shape_text spec.key_received) result }
+{
+    write_as_received(out, &key_at(112))?;
+    write_label(out, 128, 38, Anchor::Start, Face::Plain, b"words received")
 }
 
 // Which bars are which.
 fn write_key<W: Out>(out: &mut W) -> Result<(), WriteFault>
-    ensures written { Writes (W.Out.state out.old) (W.Out.state out.new) spec.key_text result }
+    ensures written { Writes (W.Out.state out.old) (W.Out.state out.new) (shape_text spec.key) result }
 {
-    out.write_parts(&[
-        b"<defs><pattern id='received' width='4' height='4' patternUnits='userSpaceOnUse'><rect width='4' height='4' fill='#ffffff'/>",
-        b"<rect width='4' height='2' fill='#e69f00'/></pattern></defs>\n<rect x='12' y='28' width='12' height='12' fill='#0072b2'/>\n",
-        b"<text x='28' y='38'>words sent</text>\n",
-        b"<rect x='112' y='28' width='12' height='12' fill='url(#received)' stroke='#b06000'/>\n<text x='128' y='38'>words received</text>\n",
-        b"<text x='236' y='38'>h: the most words that one worker sent or received</text>\n",
-    ])
-}
-
-fn write_named_key<W: Out>(out: &mut W, workers: usize, exchanges: usize) -> Result<(), WriteFault>
-    ensures written { Writes (W.Out.state out.old) (W.Out.state out.new)
-        (spec.head_text workers exchanges ++ spec.key_text) result }
-{
-    write_head(out, workers, exchanges)?;
-    write_key(out)
+    write_key_sent(out)?;
+    write_key_received(out)?;
+    write_label(
+        out,
+        236,
+        38,
+        Anchor::Start,
+        Face::Plain,
+        b"h: the most words that one worker sent or received",
+    )
 }
 
 // What stands above the columns.
-fn write_above<W: Out>(
-    out: &mut W,
-    width: u128,
-    workers: usize,
-    exchanges: usize,
-) -> Result<(), WriteFault>
-    ensures written { Writes (W.Out.state out.old) (W.Out.state out.new) (spec.above width workers exchanges) result }
+fn write_above<W: Out>(out: &mut W, workers: usize, exchanges: usize) -> Result<(), WriteFault>
+    ensures written { Writes (W.Out.state out.old) (W.Out.state out.new) (shape_text (spec.above workers exchanges)) result }
 {
-    write_opening(out, width)?;
-    write_named_key(out, workers, exchanges)
+    write_head(out, workers, exchanges)?;
+    write_key(out)
 }
 
 // The columns of the exchanges that are drawn.
@@ -139,7 +147,7 @@ fn write_columns<W: Out>(
 ) -> Result<(), WriteFault>
     requires most { measure.most ≡ spec.most_words (spec.drawn counts.now) }
     ensures written { Writes (W.Out.state out.old) (W.Out.state out.new)
-        (spec.columns_from measure.workers measure.most lines.now 1 (spec.drawn counts.now)) result }
+        (shape_text (spec.columns_from measure.workers measure.most lines.now 1 (spec.drawn counts.now))) result }
 {
     'exchanges: for i in 0..drawn(counts) {
         write_column(out, counts, measure, i + 1, line_of(lines, i + 1))?;
@@ -147,29 +155,38 @@ fn write_columns<W: Out>(
     Ok(())
 }
 
-// How the run came out, and the end of the picture.
-fn write_outcome<W: Out>(out: &mut W, outcome: &[u8]) -> Result<(), WriteFault>
-    ensures written { Writes (W.Out.state out.old) (W.Out.state out.new) (spec.outcome_text outcome.now) result }
-{
-    out.write_all(b"<text x='12' y='372'>")?;
-    write_letters(out, outcome)?;
-    out.write_all(b"</text>\n</svg>\n")
-}
-
-// What stands around the columns, and below them.
-fn write_ending<W: Out>(
+// What stands around the columns, and how the run came out below them.
+fn write_around<W: Out>(
     out: &mut W,
     width: u128,
     most: u64,
     outcome: &[u8],
 ) -> Result<(), WriteFault>
-    ensures written { Writes (W.Out.state out.old) (W.Out.state out.new) (spec.ending_text width most outcome.now) result }
+    ensures written { Writes (W.Out.state out.old) (W.Out.state out.new) (shape_text (spec.around width most outcome.now)) result }
 {
     write_scale(out, width, most)?;
-    write_outcome(out, outcome)
+    write_label(out, 12, 372, Anchor::Start, Face::Plain, outcome)
 }
 
-// A picture of that width, and measured so.
+// All of a picture of that width, measured so.
+fn write_shape<W: Out>(
+    out: &mut W,
+    counts: &Counts,
+    lines: &[u32],
+    outcome: &[u8],
+    width: u128,
+    measure: Measure,
+) -> Result<(), WriteFault>
+    requires most { measure.most ≡ spec.most_words (spec.drawn counts.now) }
+    ensures written { Writes (W.Out.state out.old) (W.Out.state out.new)
+        (shape_text (spec.shape_of width measure.workers measure.most lines.now outcome.now counts.now)) result }
+{
+    let exchanges = counts.len();
+    write_above(out, measure.workers, exchanges)?;
+    write_columns(out, counts, lines, measure)?;
+    write_around(out, width, measure.most, outcome)
+}
+
 fn write_measured<W: Out>(
     out: &mut W,
     counts: &Counts,
@@ -180,12 +197,11 @@ fn write_measured<W: Out>(
 ) -> Result<(), WriteFault>
     requires most { measure.most ≡ spec.most_words (spec.drawn counts.now) }
     ensures written { Writes (W.Out.state out.old) (W.Out.state out.new)
-        (spec.picture_of width measure.workers measure.most lines.now outcome.now counts.now) result }
+        (picture_text (spec.picture_of width measure.workers measure.most lines.now outcome.now counts.now)) result }
 {
-    let exchanges = counts.len();
-    write_above(out, width, measure.workers, exchanges)?;
-    write_columns(out, counts, lines, measure)?;
-    write_ending(out, width, measure.most, outcome)
+    open_picture(out, b"The exchanges of a run", width, 386)?;
+    write_shape(out, counts, lines, outcome, width, measure)?;
+    close_picture(out)
 }
 
 /// Writes a picture of a run's exchanges, as SVG 1.1: a column for each of the first 200, with its number from 1, what it was for, the line
@@ -201,7 +217,8 @@ pub fn write_picture<W: Out>(
 ) -> Result<(), WriteFault>
     // Exactly the defined picture of these exchanges is written, with their lines and the outcome's text, or a
     // beginning of it and then a failure.
-    ensures written { Writes (W.Out.state out.old) (W.Out.state out.new) (spec.picture lines.now outcome.now counts.now) result }
+    ensures written { Writes (W.Out.state out.old) (W.Out.state out.new)
+        (picture_text (spec.picture lines.now outcome.now counts.now)) result }
 {
     let measure = Measure {
         workers: workers_of(counts),

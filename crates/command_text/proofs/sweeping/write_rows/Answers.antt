@@ -1,6 +1,7 @@
 use Rattle.std.proofs.Common.{List, ℕ, subst, sym}
 use Rattle.text_out.specs.Out.{Writes}
 use Rattle.sweeps.specs.declared.size_row.SizeRow.{SizeRow}
+use Rattle.svg_texts.specs.Shapes.{picture_text}
 use Rattle.sweep_pictures.specs.Picture.{picture}
 use Rattle.command_requests.specs.declared.form.Form.{Form}
 use Rattle.command_text.specs.Texts.{swept_text}
@@ -11,9 +12,10 @@ returns-in-Picture g c =
     let s = c.args.swept.now in
     let old = g.O.Out.state c.args.out.now in
     let new = g.O.Out.state c.write_sweep_picture.new.out in
-    let named = subst (λ (name : List ℕ). Writes old new (picture name c.deref.result.now) c.write_sweep_picture.result) c.as_slice.ensures
+    let named = subst (λ (name : List ℕ). Writes old new (picture_text (picture name c.deref.result.now)) c.write_sweep_picture.result)
+    c.as_slice.ensures
     c.write_sweep_picture.ensures.written in
-    let drawn = subst (λ (rows : List SizeRow). Writes old new (picture s.sweep.name rows) c.write_sweep_picture.result)
+    let drawn = subst (λ (rows : List SizeRow). Writes old new (picture_text (picture s.sweep.name rows)) c.write_sweep_picture.result)
     c.deref.ensures.value
     named in
     record {

@@ -1,4 +1,5 @@
 use Rattle.program_texts.specs.Status.{status_of}
+use Rattle.svg_texts.specs.Shapes.{picture_text}
 use Rattle.tracer.specs.Picture.{picture}
 use Rattle.command_facts.proofs.Writing.{cut_off, wrote}
 use Rattle.command_text.proofs.TracesWritten.{drawn_so}
@@ -12,7 +13,8 @@ returns-in_err-write_picture g c =
     let end = c.deref-2.result.now in
     record {
       written = drawn_so ends found.lines.items lines found.ends.items end found.counts _ _ c.from_residual.result c.deref.ensures.value
-          c.deref-2.ensures.value (cut_off ends (picture lines end found.counts) _ _ c.from_residual.result c.from_residual.ensures.1
+          c.deref-2.ensures.value (cut_off ends (picture_text (picture lines end found.counts)) _ _ c.from_residual.result
+          c.from_residual.ensures.1
           c.in_err-write_picture.ensures.written);
     }
 
@@ -24,6 +26,6 @@ returns g c =
     let end = c.deref-2.result.now in
     record {
       written = drawn_so ends found.lines.items lines found.ends.items end found.counts _ _ c.finish.result c.deref.ensures.value
-          c.deref-2.ensures.value (wrote ends _ (picture lines end found.counts) _ _ _ c.finish.result c.of.ensures
+          c.deref-2.ensures.value (wrote ends _ (picture_text (picture lines end found.counts)) _ _ _ c.finish.result c.of.ensures
           c.in_ok-write_picture.ensures.written c.finish.ensures.ok c.finish.ensures.failed);
     }

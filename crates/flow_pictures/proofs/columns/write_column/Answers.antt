@@ -1,16 +1,17 @@
-use Rattle.std.proofs.Common.{◌++◌, refl}
-use Rattle.text_out.proofs.Progress.{breaks_off, closes, goes_on, starts}
+use Rattle.std.proofs.Common.{refl, ◌++◌}
 use Rattle.journal.specs.Entries.{entry_is}
+use Rattle.svg_texts.specs.Shapes.{shape_text}
 use Rattle.flow_pictures.specs.Columns.{column_fault, heading}
 use Rattle.flow_pictures.specs.Drawing.{column_is}
-use Rattle.flow_pictures.specs.Texts.{marks_text}
+use Rattle.flow_pictures.specs.MarkShapes.{marks_shape}
+use Rattle.text_out.proofs.Progress.{breaks_off, closes, goes_on, starts}
 use Rattle.flow_pictures.proofs.columns.write_column.Goals as goal
 
 pub returns-in_err-write_heading : goal.returns-in_err-write_heading
 returns-in_err-write_heading g c =
-    let part1 = heading c.args.text.now c.args.column c.args.drawn.now.number (entry_is c.args.drawn.now.entry) in
-    let part2 = marks_text c.args.rows.now c.args.column (column_is c.args.drawn.now) in
-    let part3 = column_fault c.args.layout.now c.args.rows.now c.args.column (entry_is c.args.drawn.now.entry) in
+    let part1 = shape_text (heading c.args.text.now c.args.column c.args.drawn.now.number (entry_is c.args.drawn.now.entry)) in
+    let part2 = shape_text (marks_shape c.args.rows.now c.args.column (column_is c.args.drawn.now)) in
+    let part3 = shape_text (column_fault c.args.layout.now c.args.rows.now c.args.column (entry_is c.args.drawn.now.entry)) in
     record {
       written = breaks_off _ _ _ _ _ part1 (part2 ++ part3) c.from_residual.result _ c.from_residual.ensures.1 (starts _ _) refl
           c.in_err-write_heading.ensures.written;
@@ -18,9 +19,9 @@ returns-in_err-write_heading g c =
 
 pub returns-in_err-write_marks : goal.returns-in_err-write_marks
 returns-in_err-write_marks g c =
-    let part1 = heading c.args.text.now c.args.column c.args.drawn.now.number (entry_is c.args.drawn.now.entry) in
-    let part2 = marks_text c.args.rows.now c.args.column (column_is c.args.drawn.now) in
-    let part3 = column_fault c.args.layout.now c.args.rows.now c.args.column (entry_is c.args.drawn.now.entry) in
+    let part1 = shape_text (heading c.args.text.now c.args.column c.args.drawn.now.number (entry_is c.args.drawn.now.entry)) in
+    let part2 = shape_text (marks_shape c.args.rows.now c.args.column (column_is c.args.drawn.now)) in
+    let part3 = shape_text (column_fault c.args.layout.now c.args.rows.now c.args.column (entry_is c.args.drawn.now.entry)) in
     let after1 = goes_on _ _ _ _ _ part1 (part2 ++ part3) (starts _ _) refl c.in_ok-write_heading.ensures.written in
     record {
       written = breaks_off _ _ _ _ _ part2 part3 c.from_residual-in_err-write_marks.result _ c.from_residual-in_err-write_marks.ensures.1
@@ -29,9 +30,9 @@ returns-in_err-write_marks g c =
 
 pub returns : goal.returns
 returns g c =
-    let part1 = heading c.args.text.now c.args.column c.args.drawn.now.number (entry_is c.args.drawn.now.entry) in
-    let part2 = marks_text c.args.rows.now c.args.column (column_is c.args.drawn.now) in
-    let part3 = column_fault c.args.layout.now c.args.rows.now c.args.column (entry_is c.args.drawn.now.entry) in
+    let part1 = shape_text (heading c.args.text.now c.args.column c.args.drawn.now.number (entry_is c.args.drawn.now.entry)) in
+    let part2 = shape_text (marks_shape c.args.rows.now c.args.column (column_is c.args.drawn.now)) in
+    let part3 = shape_text (column_fault c.args.layout.now c.args.rows.now c.args.column (entry_is c.args.drawn.now.entry)) in
     let after1 = goes_on _ _ _ _ _ part1 (part2 ++ part3) (starts _ _) refl c.in_ok-write_heading.ensures.written in
     let after2 = goes_on _ _ _ _ _ part2 part3 after1 refl c.in_ok-write_marks.ensures.written in
     record {

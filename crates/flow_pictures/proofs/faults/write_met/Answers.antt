@@ -1,6 +1,7 @@
 use Rattle.std.proofs.Common.{ℕ, List, ◌<◌, arith, length, subst, sym}
 use Rattle.std.proofs.lemmas.Grind.{common_steps}
 use Rattle.text_out.specs.Out.{Writes}
+use Rattle.svg_texts.specs.Shapes.{shape_text}
 use Rattle.flow_pictures.proofs.ColumnLists.{some_named}
 use Rattle.flow_pictures.proofs.faults.write_met.Goals as goal
 
@@ -10,5 +11,5 @@ returns-else-is_empty g c =
     record {
       written = subst (λ (t : List ℕ). Writes (g.W.Out.state c.args.out.now) (g.W.Out.state c.write_some_met.new.out) t
           c.write_some_met.result)
-          (sym (some_named c.args.y c.args.met.now some)) c.write_some_met.ensures.written;
+          (λ i. shape_text (sym (some_named c.args.y c.args.met.now some) i)) c.write_some_met.ensures.written;
     }

@@ -3,7 +3,8 @@ use Rattle.flow_pictures.specs.Choice.{acts_in}
 use Rattle.flow_pictures.specs.Laws.{cells, statements}
 use Rattle.flow_pictures.specs.Marks.{arrow_by}
 use Rattle.flow_pictures.proofs.Carriers.{arrow_is}
-use Rattle.flow_pictures.proofs.Standing.{arrow_among, arrow_stands, line_is_carried}
+use Rattle.flow_pictures.proofs.InPicture.{arrow_is_drawn}
+use Rattle.flow_pictures.proofs.Standing.{arrow_among, line_is_carried}
 use Rattle.flow_pictures.proofs.flow_laws.lines_come_from_reads.Goals as goal
 
 pub returns-clause-line : goal.returns-clause-line
@@ -13,7 +14,7 @@ returns-clause-line c = λ only aside es from to i p a source cell at one read i
     (arrow_is (cells only es from to) (1 + i) (aside p.1) (acts_in p.1) a source cell one read is row_from row_to)
 
 pub returns-clause-drawn : goal.returns-clause-drawn
-returns-clause-drawn c = arrow_stands
+returns-clause-drawn c = arrow_is_drawn
 
 pub returns-clause-carried : goal.returns-clause-carried
 returns-clause-carried c = λ only aside es from to l one. line_is_carried aside (cells only es from to) 1 (statements es from to) l one

@@ -1,5 +1,5 @@
-use Rattle.flow_pictures.proofs.Shaped.{rows_were_touched, shapes_are_so, the_picture_is_its_shapes}
+use Rattle.flow_pictures.proofs.Shaped.{facts_are_so, rows_were_touched, the_picture_is_its_shapes}
 use Rattle.flow_pictures.proofs.flow_laws.the_picture_is_its_shapes.Goals as goal
 
 pub returns : goal.returns
-returns c = record { whole = the_picture_is_its_shapes; so = shapes_are_so; touched = rows_were_touched }
+returns c = record { whole = the_picture_is_its_shapes; so = facts_are_so; touched = rows_were_touched }

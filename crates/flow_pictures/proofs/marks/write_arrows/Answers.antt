@@ -5,12 +5,12 @@ use Rattle.text_out.proofs.Progress.{goes_on, stops}
 use Rattle.flow_pictures.proofs.Kept.{all_kept_at}
 use Rattle.journal.specs.Entries.{act_is}
 use Rattle.flow_pictures.specs.Marks.{arrows_to, writes}
-use Rattle.flow_pictures.specs.Texts.{arrow_text}
+use Rattle.flow_pictures.specs.MarkShapes.{arrow_shape}
 use Rattle.flow_pictures.proofs.marks.write_arrows.Goals as goal
 
 pub returns-in_err-write_arrows_if : goal.returns-in_err-write_arrows_if
 returns-in_err-write_arrows_if g c =
-    let at = all_kept_at (arrow_text c.args.rows.now) (arrows_to c.args.rows.now c.args.column c.args.aside.now
+    let at = all_kept_at (arrow_shape c.args.rows.now) (arrows_to c.args.rows.now c.args.column c.args.aside.now
     (map act_is c.args.acts.now)) (writes (map act_is c.args.acts.now)) c.args.rows.now c.loop-to.to-index _ c.loop-to-test.true
     (get_or_default c.args.rows.now c.loop-to.to-index _ _ c.loop-to-test.true) in
     record {
@@ -20,7 +20,7 @@ returns-in_err-write_arrows_if g c =
 
 pub loop-to-preserved : goal.loop-to-preserved
 loop-to-preserved g c =
-    let at = all_kept_at (arrow_text c.args.rows.now) (arrows_to c.args.rows.now c.args.column c.args.aside.now
+    let at = all_kept_at (arrow_shape c.args.rows.now) (arrows_to c.args.rows.now c.args.column c.args.aside.now
     (map act_is c.args.acts.now)) (writes (map act_is c.args.acts.now)) c.args.rows.now c.loop-to.to-index _ c.loop-to-test.true
     (get_or_default c.args.rows.now c.loop-to.to-index _ _ c.loop-to-test.true) in
     goes_on _ _ _ _ _ _ _ c.loop-to.invariant at c.in_ok-write_arrows_if.ensures.written

@@ -6,12 +6,12 @@ use Rattle.flow_pictures.proofs.Kept.{kept_at}
 use Rattle.std.specs.Prelude.{Some}
 use Rattle.journal.specs.Entries.{act_is}
 use Rattle.flow_pictures.specs.Marks.{arrow_by, carries}
-use Rattle.flow_pictures.specs.Texts.{arrow_text}
+use Rattle.flow_pictures.specs.MarkShapes.{arrow_shape}
 use Rattle.flow_pictures.proofs.marks.write_arrows_to.Goals as goal
 
 pub returns-in_err-write_arrow_if : goal.returns-in_err-write_arrow_if
 returns-in_err-write_arrow_if g c =
-    let at = kept_at (arrow_text c.args.rows.now) (arrow_by c.args.column c.args.aside.now (map act_is c.args.acts.now) c.args.to)
+    let at = kept_at (arrow_shape c.args.rows.now) (arrow_by c.args.column c.args.aside.now (map act_is c.args.acts.now) c.args.to)
     (λ from. carries (map act_is c.args.acts.now) from (Some c.args.to)) c.args.rows.now c.loop-from.from-index _ c.loop-from-test.true
     (get_or_default c.args.rows.now c.loop-from.from-index _ _ c.loop-from-test.true) in
     record {
@@ -21,7 +21,7 @@ returns-in_err-write_arrow_if g c =
 
 pub loop-from-preserved : goal.loop-from-preserved
 loop-from-preserved g c =
-    let at = kept_at (arrow_text c.args.rows.now) (arrow_by c.args.column c.args.aside.now (map act_is c.args.acts.now) c.args.to)
+    let at = kept_at (arrow_shape c.args.rows.now) (arrow_by c.args.column c.args.aside.now (map act_is c.args.acts.now) c.args.to)
     (λ from. carries (map act_is c.args.acts.now) from (Some c.args.to)) c.args.rows.now c.loop-from.from-index _ c.loop-from-test.true
     (get_or_default c.args.rows.now c.loop-from.from-index _ _ c.loop-from-test.true) in
     goes_on _ _ _ _ _ _ _ c.loop-from.invariant at c.in_ok-write_arrow_if.ensures.written

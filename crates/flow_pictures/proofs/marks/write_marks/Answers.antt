@@ -1,7 +1,8 @@
 use Rattle.std.proofs.Common.{ℕ, List, subst}
 use Rattle.text_out.specs.Out.{Writes}
+use Rattle.svg_texts.specs.Shapes.{shape_text}
 use Rattle.flow_pictures.specs.Marks.{value_in}
-use Rattle.flow_pictures.specs.Texts.{marks_of}
+use Rattle.flow_pictures.specs.MarkShapes.{marks_of}
 use Rattle.flow_pictures.proofs.marks.write_marks.Goals as goal
 
 pub returns : goal.returns
@@ -9,6 +10,7 @@ returns g c =
     let acts = c.acts_in-acts.ensures in
     record {
       written = subst (λ (t : List ℕ). Writes (g.W.Out.state c.args.out.now) (g.W.Out.state c.write_acts.new.out) t c.write_acts.result)
-          (λ i. marks_of c.args.rows.now c.args.column (c.deref.ensures.value i) (value_in (acts i) (c.deref-2.ensures.value i)) (acts i))
+          (λ i. shape_text (marks_of c.args.rows.now c.args.column (c.deref.ensures.value i)
+          (value_in (acts i) (c.deref-2.ensures.value i)) (acts i)))
           c.write_acts.ensures.written;
     }

@@ -5,12 +5,12 @@ use Rattle.text_out.proofs.Progress.{goes_on, stops}
 use Rattle.flow_pictures.proofs.Kept.{kept_at}
 use Rattle.journal.specs.Entries.{act_is}
 use Rattle.flow_pictures.specs.Marks.{node, value_in, writes}
-use Rattle.flow_pictures.specs.Texts.{node_text}
+use Rattle.flow_pictures.specs.MarkShapes.{node_shape}
 use Rattle.flow_pictures.proofs.marks.write_nodes.Goals as goal
 
 pub returns-in_err-write_node_if : goal.returns-in_err-write_node_if
 returns-in_err-write_node_if g c =
-    let at = kept_at (node_text c.args.rows.now) (node c.args.column (value_in (map act_is c.args.acts.now) c.args.written.now))
+    let at = kept_at (node_shape c.args.rows.now) (node c.args.column (value_in (map act_is c.args.acts.now) c.args.written.now))
     (writes (map act_is c.args.acts.now)) c.args.rows.now c.loop-cell.cell-index _ c.loop-cell-test.true
     (get_or_default c.args.rows.now c.loop-cell.cell-index _ _ c.loop-cell-test.true) in
     record {
@@ -20,7 +20,7 @@ returns-in_err-write_node_if g c =
 
 pub loop-cell-preserved : goal.loop-cell-preserved
 loop-cell-preserved g c =
-    let at = kept_at (node_text c.args.rows.now) (node c.args.column (value_in (map act_is c.args.acts.now) c.args.written.now))
+    let at = kept_at (node_shape c.args.rows.now) (node c.args.column (value_in (map act_is c.args.acts.now) c.args.written.now))
     (writes (map act_is c.args.acts.now)) c.args.rows.now c.loop-cell.cell-index _ c.loop-cell-test.true
     (get_or_default c.args.rows.now c.loop-cell.cell-index _ _ c.loop-cell-test.true) in
     goes_on _ _ _ _ _ _ _ c.loop-cell.invariant at c.in_ok-write_node_if.ensures.written

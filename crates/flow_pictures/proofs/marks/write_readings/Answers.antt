@@ -6,12 +6,12 @@ use Rattle.flow_pictures.proofs.Kept.{kept_at}
 use Rattle.std.specs.Prelude.{None}
 use Rattle.journal.specs.Entries.{act_is}
 use Rattle.flow_pictures.specs.Marks.{carries, reading}
-use Rattle.flow_pictures.specs.Texts.{reading_text}
+use Rattle.flow_pictures.specs.MarkShapes.{reading_shape}
 use Rattle.flow_pictures.proofs.marks.write_readings.Goals as goal
 
 pub returns-in_err-write_reading_if : goal.returns-in_err-write_reading_if
 returns-in_err-write_reading_if g c =
-    let at = kept_at (reading_text c.args.rows.now) (reading c.args.column) (λ cell. carries (map act_is c.args.acts.now) cell None)
+    let at = kept_at (reading_shape c.args.rows.now) (reading c.args.column) (λ cell. carries (map act_is c.args.acts.now) cell None)
     c.args.rows.now c.loop-cell.cell-index _ c.loop-cell-test.true (get_or_default c.args.rows.now c.loop-cell.cell-index _ _
     c.loop-cell-test.true) in
     record {
@@ -21,7 +21,7 @@ returns-in_err-write_reading_if g c =
 
 pub loop-cell-preserved : goal.loop-cell-preserved
 loop-cell-preserved g c =
-    let at = kept_at (reading_text c.args.rows.now) (reading c.args.column) (λ cell. carries (map act_is c.args.acts.now) cell None)
+    let at = kept_at (reading_shape c.args.rows.now) (reading c.args.column) (λ cell. carries (map act_is c.args.acts.now) cell None)
     c.args.rows.now c.loop-cell.cell-index _ c.loop-cell-test.true (get_or_default c.args.rows.now c.loop-cell.cell-index _ _
     c.loop-cell-test.true) in
     goes_on _ _ _ _ _ _ _ c.loop-cell.invariant at c.in_ok-write_reading_if.ensures.written

@@ -1,14 +1,16 @@
 use Rattle.std.proofs.Common.{drop, map}
 use Rattle.text_out.proofs.Progress.{Progress}
-use Rattle.std.specs.List.{filter, flat_map}
+use Rattle.std.specs.List.{filter}
 use Rattle.std.specs.Prelude.{None}
+use Rattle.svg_texts.specs.Shapes.{shape_text}
 use Rattle.journal.specs.Entries.{act_is}
 use Rattle.flow_pictures.specs.Marks.{carries, reading}
-use Rattle.flow_pictures.specs.Texts.{reading_text}
+use Rattle.flow_pictures.specs.MarkShapes.{each, reading_shape}
 use Rattle.flow_pictures.proofs.marks.write_readings.Given as goal
 
 abbrev pub invariant-loop-cell : goal.invariant-loop-cell
 invariant-loop-cell g l = Progress (g.W.Out.state l.fn.out) (g.W.Out.state l.out)
-    (flat_map (reading_text l.fn.rows) (map (reading l.fn.column) (filter (λ cell. carries (map act_is l.fn.acts) cell None) l.fn.rows)))
-    (flat_map (reading_text l.fn.rows) (map (reading l.fn.column) (filter (λ cell. carries (map act_is l.fn.acts) cell None)
-    (drop l.cell-index l.fn.rows))))
+    (shape_text (each (reading_shape l.fn.rows) (map (reading l.fn.column) (filter (λ cell. carries (map act_is l.fn.acts) cell None)
+    l.fn.rows))))
+    (shape_text (each (reading_shape l.fn.rows) (map (reading l.fn.column) (filter (λ cell. carries (map act_is l.fn.acts) cell None)
+    (drop l.cell-index l.fn.rows)))))

@@ -1,5 +1,6 @@
 use Rattle.std.proofs.Common.{◌∙◌, ℕ, List, ap, map, subst}
 use Rattle.text_out.specs.Out.{Writes}
+use Rattle.svg_texts.specs.Shapes.{picture_text}
 use Rattle.flow_pictures.specs.Cells.{rows_and_next}
 use Rattle.flow_pictures.specs.Drawing.{column_is, drawing_is, entries_of}
 use Rattle.flow_pictures.specs.Picture.{picture_of}
@@ -11,6 +12,6 @@ returns g c =
     ∙ ap (λ cs. rows_and_next c.args.only.now (entries_of (map column_is cs))) c.deref.ensures.value in
     record {
       written = subst (λ (t : List ℕ). Writes (g.W.Out.state c.args.out.now) (g.W.Out.state c.write_found.new.out) t c.write_found.result)
-          (λ i. picture_of c.args.layout.now c.args.text.now c.args.only.now (drawing_is c.args.drawing.now) (found i))
+          (λ i. picture_text (picture_of c.args.layout.now c.args.text.now c.args.only.now (drawing_is c.args.drawing.now) (found i)))
           c.write_found.ensures.written;
     }

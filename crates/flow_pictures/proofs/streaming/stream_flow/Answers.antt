@@ -1,5 +1,6 @@
 use Rattle.std.proofs.Common.{◌≡◌, ◌∙◌, ap, subst}
 use Rattle.text_out.specs.Out.{StopsIn, with_bytes}
+use Rattle.svg_texts.specs.Shapes.{picture_text}
 use Rattle.flow_pictures.specs.Drawing.{drawing_is}
 use Rattle.flow_pictures.specs.Picture.{picture}
 use Rattle.flow_pictures.proofs.streaming.stream_flow.Goals as goal
@@ -10,7 +11,8 @@ returns-in-Ok-write_flow-clause-written g c =
     let only = c.args.only.now in
     let shows = ap (λ l. picture l text only (drawing_is c.in-Ok.drawing)) c.layout-2.ensures
     ∙ c.in-Ok.ensures.drawn c.args.program.now.layout text only in
-    subst (λ t. g.W.Out.state c.write_flow.new.out ≡ with_bytes (g.W.Out.state c.args.out.now) t) shows c.in-Ok-write_flow.ensures.written
+    subst (λ t. g.W.Out.state c.write_flow.new.out ≡ with_bytes (g.W.Out.state c.args.out.now) t) (λ i. picture_text (shows i))
+    c.in-Ok-write_flow.ensures.written
 
 pub returns-in-Err-clause-written : goal.returns-in-Err-clause-written
 returns-in-Err-clause-written g c =
@@ -20,5 +22,6 @@ returns-in-Err-clause-written g c =
     ∙ c.in-Ok.ensures.drawn c.args.program.now.layout text only in (
       c.in-Ok.outcome,
       c.in-Ok.ensures.outcome,
-      subst (λ t. StopsIn (g.W.Out.state c.args.out.now) (g.W.Out.state c.write_flow.new.out) t) shows c.in-Err.ensures.written,
+      subst (λ t. StopsIn (g.W.Out.state c.args.out.now) (g.W.Out.state c.write_flow.new.out) t) (λ i. picture_text (shows i))
+          c.in-Err.ensures.written,
     )

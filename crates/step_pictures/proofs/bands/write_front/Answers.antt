@@ -1,5 +1,6 @@
-use Rattle.std.proofs.Common.{ℕ, List, subst}
+use Rattle.std.proofs.Common.{ℕ, List, ap, subst}
 use Rattle.text_out.specs.Out.{Writes}
+use Rattle.svg_texts.specs.Shapes.{shape_text}
 use Rattle.step_pictures.specs.Measures.{frame_is}
 use Rattle.step_pictures.proofs.ColumnTexts.{front_here}
 use Rattle.step_pictures.proofs.bands.write_front.Goals as goal
@@ -8,6 +9,6 @@ pub returns-then-before-eq0 : goal.returns-then-before-eq0
 returns-then-before-eq0 g c = record {
   written = subst (λ (t : List ℕ). Writes (g.W.Out.state c.args.out.now) (g.W.Out.state c.write_band_front.new.out) t
       c.write_band_front.result)
-      (front_here (frame_is c.args.frame.now) c.args.before c.rows_top.result c.if-before-eq0.true c.rows_top.ensures.top)
+      (ap shape_text (front_here (frame_is c.args.frame.now) c.args.before c.rows_top.result c.if-before-eq0.true c.rows_top.ensures.top))
       c.write_band_front.ensures.written;
 }

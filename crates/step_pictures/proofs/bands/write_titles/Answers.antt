@@ -1,16 +1,26 @@
-use Rattle.std.proofs.Common.{List, subst, ℕ, ◌++◌, ◌∙◌}
+use Rattle.std.proofs.Common.{refl}
+use Rattle.std.proofs.Common.{◌+◌}
 use Rattle.std.specs.Prelude.{codes}
-use Rattle.text_out.specs.Out.{Writes}
+use Rattle.svg_texts.specs.Shapes.{shape_text}
+use Rattle.step_pictures.specs.Bands.{axes}
+use Rattle.step_pictures.specs.Paints.{note}
+use Rattle.text_out.proofs.Progress.{breaks_off, closes, goes_on, starts}
 use Rattle.step_pictures.proofs.bands.write_titles.Goals as goal
+
+pub returns-in_err-write_axes : goal.returns-in_err-write_axes
+returns-in_err-write_axes g c =
+    let part1 = shape_text (axes c.args.top) in
+    let part2 = shape_text (note 12 (c.args.top + 13) (codes "outside")) in
+    record {
+      written = breaks_off _ _ _ _ _ part1 part2 c.from_residual.result _ c.from_residual.ensures.1 (starts _ _) refl
+          c.in_err-write_axes.ensures.written;
+    }
 
 pub returns : goal.returns
 returns g c =
-    let upper = c.as_bytes.ensures.value ∙ c.format.ensures.text in
-    let lower = c.as_bytes-2.ensures.value ∙ c.format-2.ensures.text in
-    let first = c.as_bytes-3.ensures.value ∙ c.format-3.ensures.text in
+    let part1 = shape_text (axes c.args.top) in
+    let part2 = shape_text (note 12 (c.args.top + 13) (codes "outside")) in
+    let after1 = goes_on _ _ _ _ _ part1 part2 (starts _ _) refl c.in_ok-write_axes.ensures.written in
     record {
-      written = subst (λ (t : List ℕ). Writes (g.W.Out.state c.args.out.now) (g.W.Out.state c.write_parts.new.self) t c.write_parts.result)
-          (λ i. codes "<text x='12' y='" ++ (upper i ++ (codes "' font-weight='bold'>statement</text>\n<text x='12' y='" ++
-          (lower i ++ (codes "' font-weight='bold'>processor</text>\n<text x='12' y='" ++ (first i ++ (codes "'>outside</text>\n")))))))
-          c.write_parts.ensures.written;
+      written = closes _ _ _ _ _ c.write_note.result after1 c.write_note.ensures.written;
     }

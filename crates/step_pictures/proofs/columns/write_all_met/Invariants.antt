@@ -1,10 +1,11 @@
 use Rattle.std.proofs.Common.{drop}
 use Rattle.text_out.proofs.Progress.{Progress}
 use Rattle.step_pictures.specs.Columns.{all_met}
+use Rattle.svg_texts.specs.Shapes.{shape_text}
 use Rattle.step_pictures.specs.Measures.{column_is}
 use Rattle.step_pictures.proofs.columns.write_all_met.Given as goal
 
 abbrev pub invariant-loop-index : goal.invariant-loop-index
 invariant-loop-index g l =
-    Progress (g.W.Out.state l.fn.out) (g.W.Out.state l.out) (all_met l.fn.rows (column_is l.fn.at) l.fn.met)
-    (all_met l.fn.rows (column_is l.fn.at) (drop l.index-index l.fn.met))
+    Progress (g.W.Out.state l.fn.out) (g.W.Out.state l.out) (shape_text (all_met l.fn.rows (column_is l.fn.at) l.fn.met))
+    (shape_text (all_met l.fn.rows (column_is l.fn.at) (drop l.index-index l.fn.met)))

@@ -1,6 +1,7 @@
 use Rattle.std.proofs.Common.{ℕ, List, ◌∙◌, ap, rules, subst, w64, FitsSigned}
 use Rattle.std.proofs.lemmas.Int.{to_z-of_z}
 use Rattle.text_out.specs.Out.{Writes}
+use Rattle.svg_texts.specs.Shapes.{shape_text}
 use Rattle.step_pictures.specs.Columns.{met_at}
 use Rattle.step_pictures.specs.Drawn.{place_of}
 use Rattle.step_pictures.specs.Measures.{column_is}
@@ -13,5 +14,5 @@ returns g c =
     let at = c.place_of.ensures.value ∙ ap (place_of c.args.rows.now) index in
     record {
       written = subst (λ (t : List ℕ). Writes (g.W.Out.state c.args.out.now) (g.W.Out.state c.write_met_at.new.out) t c.write_met_at.result)
-          (λ i. met_at c.args.rows.now (column_is c.args.at) (at i) (index i)) c.write_met_at.ensures.written;
+          (λ i. shape_text (met_at c.args.rows.now (column_is c.args.at) (at i) (index i))) c.write_met_at.ensures.written;
     }

@@ -1,19 +1,24 @@
-use Rattle.std.proofs.Common.{List, subst, ℕ, ◌++◌, ◌∙◌}
-use Rattle.std.specs.Prelude.{codes}
-use Rattle.text_out.specs.Out.{Writes}
+use Rattle.std.proofs.Common.{refl}
+use Rattle.svg_texts.specs.Shapes.{shape_text}
+use Rattle.step_pictures.specs.Columns.{line_number, number}
+use Rattle.step_pictures.specs.Measures.{column_is}
+use Rattle.text_out.proofs.Progress.{breaks_off, closes, goes_on, starts}
 use Rattle.step_pictures.proofs.columns.write_numbers.Goals as goal
+
+pub returns-in_err-write_statement_number : goal.returns-in_err-write_statement_number
+returns-in_err-write_statement_number g c =
+    let part1 = shape_text (number (column_is c.args.at)) in
+    let part2 = shape_text (line_number (column_is c.args.at) c.args.line) in
+    record {
+      written = breaks_off _ _ _ _ _ part1 part2 c.from_residual.result _ c.from_residual.ensures.1 (starts _ _) refl
+          c.in_err-write_statement_number.ensures.written;
+    }
 
 pub returns : goal.returns
 returns g c =
-    let x = c.as_bytes-from.ensures.value ∙ c.format.ensures.text in
-    let upper = c.as_bytes.ensures.value ∙ c.format-2.ensures.text in
-    let number = c.as_bytes-2.ensures.value ∙ c.format-3.ensures.text in
-    let lower = c.as_bytes-3.ensures.value ∙ c.format-4.ensures.text in
-    let line = c.as_bytes-4.ensures.value ∙ c.format-5.ensures.text in
+    let part1 = shape_text (number (column_is c.args.at)) in
+    let part2 = shape_text (line_number (column_is c.args.at) c.args.line) in
+    let after1 = goes_on _ _ _ _ _ part1 part2 (starts _ _) refl c.in_ok-write_statement_number.ensures.written in
     record {
-      written = subst (λ (t : List ℕ). Writes (g.W.Out.state c.args.out.now) (g.W.Out.state c.write_parts.new.self) t c.write_parts.result)
-          (λ i. codes "<text x='" ++ (x i ++ (codes "' y='" ++
-          (upper i ++ (codes "'>" ++ (number i ++ (codes "</text>\n<text x='" ++
-          (x i ++ (codes "' y='" ++ (lower i ++ (codes "'>line " ++ (line i ++ (codes "</text>\n")))))))))))))
-          c.write_parts.ensures.written;
+      written = closes _ _ _ _ _ c.write_line_number.result after1 c.write_line_number.ensures.written;
     }

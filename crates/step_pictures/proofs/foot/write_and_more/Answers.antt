@@ -1,12 +1,24 @@
-use Rattle.std.proofs.Common.{List, subst, ℕ, ◌++◌, ◌∙◌}
+use Rattle.std.proofs.Common.{refl}
 use Rattle.std.specs.Prelude.{codes}
-use Rattle.text_out.specs.Out.{Writes}
+use Rattle.svg_texts.specs.Plain.{numbered}
+use Rattle.svg_texts.specs.Shapes.{words_text}
+use Rattle.text_out.proofs.Progress.{breaks_off, closes, goes_on, starts}
 use Rattle.step_pictures.proofs.foot.write_and_more.Goals as goal
+
+pub returns-in_err-write_numbered : goal.returns-in_err-write_numbered
+returns-in_err-write_numbered g c =
+    let part1 = words_text (numbered (codes " and ") c.args.count) in
+    let part2 = codes " more" in
+    record {
+      written = breaks_off _ _ _ _ _ part1 part2 c.from_residual.result _ c.from_residual.ensures.1 (starts _ _) refl
+          c.in_err-write_numbered.ensures.written;
+    }
 
 pub returns : goal.returns
 returns g c =
-    let n = c.as_bytes.ensures.value ∙ c.format.ensures.text in
+    let part1 = words_text (numbered (codes " and ") c.args.count) in
+    let part2 = codes " more" in
+    let after1 = goes_on _ _ _ _ _ part1 part2 (starts _ _) refl c.in_ok-write_numbered.ensures.written in
     record {
-      written = subst (λ (t : List ℕ). Writes (g.W.Out.state c.args.out.now) (g.W.Out.state c.write_parts.new.self) t c.write_parts.result)
-          (λ i. codes " and " ++ (n i ++ (codes " more"))) c.write_parts.ensures.written;
+      written = closes _ _ _ _ _ c.write_all.result after1 c.write_all.ensures.written;
     }

@@ -1,27 +1,40 @@
-use Rattle.std.proofs.Common.{◌++◌, codes, refl}
-use Rattle.text_out.proofs.Progress.{breaks_off, closes, goes_on, starts}
+use Rattle.std.proofs.Common.{refl, ◌++◌}
+use Rattle.std.specs.Prelude.{codes}
+use Rattle.svg_texts.specs.Letters.{letters}
 use Rattle.program_texts.specs.Shown.{fault_text}
+use Rattle.svg_texts.specs.Shapes.{text_front}
+use Rattle.step_pictures.specs.Paints.{plain}
+use Rattle.text_out.proofs.Progress.{breaks_off, closes, goes_on, starts}
 use Rattle.step_pictures.proofs.foot.write_fault_line.Goals as goal
 
-pub returns-in_err-write_line_front : goal.returns-in_err-write_line_front
-returns-in_err-write_line_front g c =
+pub returns-in_err-open_plain : goal.returns-in_err-open_plain
+returns-in_err-open_plain g c =
+    let part1 = text_front 12 c.args.y plain in
+    let part2 = letters (fault_text c.args.layout.now c.args.fault.now) in
+    let part3 = codes "</text>\n" in
     record {
-      written = breaks_off _ _ _ _ _ _ (fault_text c.args.layout.now c.args.fault.now ++ codes "</text>\n") c.from_residual.result _
-          c.from_residual.ensures.1 (starts _ _) (refl) c.in_err-write_line_front.ensures.written;
+      written = breaks_off _ _ _ _ _ part1 (part2 ++ part3) c.from_residual.result _ c.from_residual.ensures.1 (starts _ _) refl
+          c.in_err-open_plain.ensures.written;
     }
 
-pub returns-in_err-write_fault_text : goal.returns-in_err-write_fault_text
-returns-in_err-write_fault_text g c =
-    let after_1 = goes_on _ _ _ _ _ _ (fault_text c.args.layout.now c.args.fault.now ++ codes "</text>\n") (starts _ _) (refl)
-    c.in_ok-write_line_front.ensures.written in
+pub returns-in_err-write_fault_letters : goal.returns-in_err-write_fault_letters
+returns-in_err-write_fault_letters g c =
+    let part1 = text_front 12 c.args.y plain in
+    let part2 = letters (fault_text c.args.layout.now c.args.fault.now) in
+    let part3 = codes "</text>\n" in
+    let after1 = goes_on _ _ _ _ _ part1 (part2 ++ part3) (starts _ _) refl c.in_ok-open_plain.ensures.written in
     record {
-      written = breaks_off _ _ _ _ _ _ (codes "</text>\n") c.from_residual-in_err-write_fault_text.result _
-          c.from_residual-in_err-write_fault_text.ensures.1 after_1 (refl) c.in_err-write_fault_text.ensures.written;
+      written = breaks_off _ _ _ _ _ part2 part3 c.from_residual-in_err-write_fault_letters.result _
+          c.from_residual-in_err-write_fault_letters.ensures.1 after1 refl c.in_err-write_fault_letters.ensures.written;
     }
 
 pub returns : goal.returns
 returns g c =
-    let after_1 = goes_on _ _ _ _ _ _ (fault_text c.args.layout.now c.args.fault.now ++ codes "</text>\n") (starts _ _) (refl)
-    c.in_ok-write_line_front.ensures.written in
-    let after_2 = goes_on _ _ _ _ _ _ (codes "</text>\n") after_1 (refl) c.in_ok-write_fault_text.ensures.written in
-    record { written = closes _ _ _ _ _ c.write_all.result after_2 c.write_all.ensures.written }
+    let part1 = text_front 12 c.args.y plain in
+    let part2 = letters (fault_text c.args.layout.now c.args.fault.now) in
+    let part3 = codes "</text>\n" in
+    let after1 = goes_on _ _ _ _ _ part1 (part2 ++ part3) (starts _ _) refl c.in_ok-open_plain.ensures.written in
+    let after2 = goes_on _ _ _ _ _ part2 part3 after1 refl c.in_ok-write_fault_letters.ensures.written in
+    record {
+      written = closes _ _ _ _ _ c.close_text.result after2 c.close_text.ensures.written;
+    }

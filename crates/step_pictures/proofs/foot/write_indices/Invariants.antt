@@ -1,8 +1,10 @@
 use Rattle.std.proofs.Common.{drop}
 use Rattle.text_out.proofs.Progress.{Progress}
-use Rattle.step_pictures.specs.Picture.{indices_text}
+use Rattle.svg_texts.specs.Shapes.{words_text}
+use Rattle.step_pictures.specs.Picture.{indices_words}
 use Rattle.step_pictures.proofs.foot.write_indices.Given as goal
 
 abbrev pub invariant-loop-index : goal.invariant-loop-index
 invariant-loop-index g l =
-    Progress (g.W.Out.state l.fn.out) (g.W.Out.state l.out) (indices_text l.fn.indices) (indices_text (drop l.index-index l.fn.indices))
+    Progress (g.W.Out.state l.fn.out) (g.W.Out.state l.out) (words_text (indices_words l.fn.indices)) (words_text (indices_words (drop
+    l.index-index l.fn.indices)))

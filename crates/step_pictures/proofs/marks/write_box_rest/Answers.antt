@@ -1,18 +1,39 @@
-use Rattle.std.proofs.Common.{refl}
-use Rattle.text_out.proofs.Progress.{breaks_off, closes, goes_on, starts}
+use Rattle.std.proofs.Common.{refl, ◌++◌}
+use Rattle.std.specs.Prelude.{codes}
 use Rattle.journal.specs.Entries.{act_is}
-use Rattle.step_pictures.specs.Marks.{marks}
+use Rattle.svg_texts.specs.Shapes.{shape_text}
+use Rattle.step_pictures.specs.Marks.{marked}
+use Rattle.text_out.proofs.Progress.{breaks_off, closes, goes_on, starts}
 use Rattle.step_pictures.proofs.marks.write_box_rest.Goals as goal
 
-pub returns-in_err-write_all : goal.returns-in_err-write_all
-returns-in_err-write_all g c =
+pub returns-in_err-write_title_end : goal.returns-in_err-write_title_end
+returns-in_err-write_title_end g c =
+    let part1 = codes "</title>\n" in
+    let part2 = shape_text (marked c.args.at.x c.args.at.y (act_is c.args.act.now)) in
+    let part3 = codes "</g>\n" in
     record {
-      written = breaks_off _ _ _ _ _ _ (marks c.args.at.x c.args.at.y (act_is c.args.act.now)) c.from_residual.result _
-          c.from_residual.ensures.1 (starts _ _) refl c.in_err-write_all.ensures.written;
+      written = breaks_off _ _ _ _ _ part1 (part2 ++ part3) c.from_residual.result _ c.from_residual.ensures.1 (starts _ _) refl
+          c.in_err-write_title_end.ensures.written;
+    }
+
+pub returns-in_err-write_marked : goal.returns-in_err-write_marked
+returns-in_err-write_marked g c =
+    let part1 = codes "</title>\n" in
+    let part2 = shape_text (marked c.args.at.x c.args.at.y (act_is c.args.act.now)) in
+    let part3 = codes "</g>\n" in
+    let after1 = goes_on _ _ _ _ _ part1 (part2 ++ part3) (starts _ _) refl c.in_ok-write_title_end.ensures.written in
+    record {
+      written = breaks_off _ _ _ _ _ part2 part3 c.from_residual-in_err-write_marked.result _
+          c.from_residual-in_err-write_marked.ensures.1 after1 refl c.in_err-write_marked.ensures.written;
     }
 
 pub returns : goal.returns
 returns g c =
-    let after_1 = goes_on _ _ _ _ _ _ (marks c.args.at.x c.args.at.y (act_is c.args.act.now)) (starts _ _) refl
-    c.in_ok-write_all.ensures.written in
-    record { written = closes _ _ _ _ _ c.write_marks.result after_1 c.write_marks.ensures.written }
+    let part1 = codes "</title>\n" in
+    let part2 = shape_text (marked c.args.at.x c.args.at.y (act_is c.args.act.now)) in
+    let part3 = codes "</g>\n" in
+    let after1 = goes_on _ _ _ _ _ part1 (part2 ++ part3) (starts _ _) refl c.in_ok-write_title_end.ensures.written in
+    let after2 = goes_on _ _ _ _ _ part2 part3 after1 refl c.in_ok-write_marked.ensures.written in
+    record {
+      written = closes _ _ _ _ _ c.close_titled.result after2 c.close_titled.ensures.written;
+    }

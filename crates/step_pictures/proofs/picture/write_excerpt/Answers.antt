@@ -1,6 +1,7 @@
 use Rattle.std.proofs.Common.{List, ap, map, subst, ℕ}
 use Rattle.text_out.specs.Out.{Writes}
 use Rattle.journal.specs.Entries.{entry_is}
+use Rattle.svg_texts.specs.Shapes.{picture_text}
 use Rattle.step_pictures.specs.declared.frame.Part.{Part}
 use Rattle.step_pictures.specs.Picture.{picture}
 use Rattle.step_pictures.proofs.picture.write_excerpt.Goals as goal
@@ -10,5 +11,6 @@ returns g c =
     let es = map entry_is c.args.entries.now in
     record {
       written = subst (λ (t : List ℕ). Writes (g.W.Out.state c.args.out.now) (g.W.Out.state c.write_part.new.out) t c.write_part.result)
-          (ap (λ (part : Part). picture c.args.layout.now c.args.text.now part es) c.part_of-part.ensures) c.write_part.ensures.written;
+          (ap (λ (part : Part). picture_text (picture c.args.layout.now c.args.text.now part es)) c.part_of-part.ensures)
+          c.write_part.ensures.written;
     }

@@ -1,5 +1,6 @@
 use Rattle.std.proofs.Common.{subst}
 use Rattle.text_out.specs.Out.{Writes}
+use Rattle.svg_texts.specs.Shapes.{shape_text}
 use Rattle.sweep_pictures.specs.declared.frame.Frame.{Frame}
 use Rattle.sweep_pictures.specs.Picture.{panel}
 use Rattle.sweep_pictures.proofs.picture.write_measured.Goals as goal
@@ -7,7 +8,8 @@ use Rattle.sweep_pictures.proofs.picture.write_measured.Goals as goal
 pub returns : goal.returns
 returns g c = record {
   written = subst
-      (λ (f : Frame). Writes (g.W.Out.state c.args.out.now) (g.W.Out.state c.write_panel.new.out) (panel c.args.name.now f c.args.rows.now)
+      (λ (f : Frame). Writes (g.W.Out.state c.args.out.now) (g.W.Out.state c.write_panel.new.out) (shape_text (panel c.args.name.now f
+      c.args.rows.now))
       c.write_panel.result)
       c.frame_of.ensures c.write_panel.ensures.written;
 }

@@ -1,14 +1,15 @@
-use Rattle.std.proofs.Common.{ℕ, List, ◌++◌, ◌∙◌, ap, subst}
-use Rattle.std.specs.Prelude.{codes, decimal}
+use Rattle.std.proofs.Common.{ℕ, List, subst}
 use Rattle.text_out.specs.Out.{Writes}
+use Rattle.svg_texts.specs.declared.colour.Colour.TheVariants.{White}
+use Rattle.svg_texts.specs.declared.form.Form.TheVariants as form
+use Rattle.svg_texts.specs.Plain.{outlined}
+use Rattle.svg_texts.specs.Shapes.{Drawn, shape_text}
 use Rattle.sweep_pictures.proofs.shapes.write_square.Goals as goal
 
 pub returns : goal.returns
-returns g c =
-    let x = c.as_bytes.ensures.value ∙ c.format.ensures.text ∙ ap decimal c.saturating_sub.ensures in
-    let y = c.as_bytes-2.ensures.value ∙ c.format-2.ensures.text ∙ ap decimal c.saturating_sub-2.ensures in
-    record {
-      written = subst (λ (t : List ℕ). Writes (g.W.Out.state c.args.out.now) (g.W.Out.state c.write_parts.new.self) t c.write_parts.result)
-          (λ i. codes "<rect x='" ++ (x i ++ (codes "' y='" ++ (y i ++ (codes
-          "' width='8' height='8' stroke='#000000' fill='#ffffff'/></g>\n"))))) c.write_parts.ensures.written;
-    }
+returns g c = record {
+  written = subst (λ (t : List ℕ). Writes (g.W.Out.state c.args.out.now) (g.W.Out.state c.write_outlined.new.out) t
+      c.write_outlined.result)
+      (λ i. shape_text (Drawn (form.Rectangle (c.saturating_sub-left.ensures i) (c.saturating_sub-top.ensures i) 8 8) (outlined White)))
+      c.write_outlined.ensures.written;
+}

@@ -1,7 +1,8 @@
-use Rattle.std.proofs.Common.{◌<◌, length, arith}
+use Rattle.std.proofs.Common.{ap, ◌<◌, length, arith}
 use Rattle.text_out.proofs.Writing.{writes_stopped}
 use Rattle.text_out.proofs.Progress.{goes_on, stops}
 use Rattle.exchange_counts.specs.CountedExchanges.{exchange_at}
+use Rattle.svg_texts.specs.Shapes.{shape_text}
 use Rattle.tracer.proofs.BarTexts.{sent_at, sent_fits}
 use Rattle.tracer.proofs.bars.write_sent_bars.Goals as goal
 
@@ -22,8 +23,9 @@ returns-in_err-write_sent_bar g c =
     let below : c.workers.w < length e.sent = omega (arith, as_many, test) in
     record {
       written = writes_stopped _ _ _ c.from_residual.result _ c.from_residual.ensures.1
-          (stops _ _ _ _ _ _ _ c.workers.invariant.progress (sent_at c.args.scale.most c.args.scale.x c.workers.w e.sent c.sent.result below
-          c.sent.ensures)
+          (stops _ _ _ _ _ _ _ c.workers.invariant.progress (ap shape_text (sent_at c.args.scale.most c.args.scale.x c.workers.w e.sent
+          c.sent.result below
+          c.sent.ensures))
           c.in_err-write_sent_bar.ensures.written);
     }
 
@@ -35,6 +37,6 @@ workers-preserved g c =
     let below : c.workers.w < length e.sent = omega (arith, as_many, test) in
     record {
       progress = goes_on _ _ _ _ _ _ _ c.workers.invariant.progress
-          (sent_at c.args.scale.most c.args.scale.x c.workers.w e.sent c.sent.result below c.sent.ensures)
+          (ap shape_text (sent_at c.args.scale.most c.args.scale.x c.workers.w e.sent c.sent.result below c.sent.ensures))
           c.in_ok-write_sent_bar.ensures.written;
     }

@@ -1,24 +1,29 @@
-use Rattle.std.proofs.Common.{ℕ, List, ◌++◌, ◌∙◌, subst}
-use Rattle.std.specs.Prelude.{codes}
-use Rattle.text_out.specs.Out.{Writes}
+use Rattle.std.proofs.Common.{◌++◌, sym}
+use Rattle.superstep_machine.specs.Purposes.{purpose_is}
+use Rattle.svg_texts.specs.declared.form.Form.TheVariants.{Rectangle}
+use Rattle.svg_texts.specs.Plain.{filled}
+use Rattle.svg_texts.specs.Shapes.{Drawn, shape_text}
+use Rattle.tracer.specs.Picture.{column_words, ground}
+use Rattle.text_out.proofs.Progress.{breaks_off, closes, goes_on, starts}
 use Rattle.tracer.proofs.columns.write_front.Goals as goal
+
+pub returns-in_err-write_filled : goal.returns-in_err-write_filled
+returns-in_err-write_filled g c =
+    let part1 = shape_text (Drawn (Rectangle c.args.x 50 c.args.width 300) (filled (ground (purpose_is c.args.purpose)))) in
+    let part2 = shape_text (column_words c.args.x c.args.k (purpose_is c.args.purpose) c.args.h) in
+    record {
+      written = breaks_off _ _ _ _ _ (shape_text (Drawn (Rectangle c.args.x 50 c.args.width 300) (filled c.ground.result))) part2
+          c.from_residual.result _ c.from_residual.ensures.1 (starts _ _) (λ i. shape_text (Drawn (Rectangle c.args.x 50 c.args.width 300)
+          (filled (sym c.ground.ensures i))) ++ part2) c.in_err-write_filled.ensures.written;
+    }
 
 pub returns : goal.returns
 returns g c =
-    let words = c.as_bytes-words.ensures.value ∙ c.format.ensures.text in
-    let left = c.as_bytes.ensures.value ∙ c.format-2.ensures.text in
-    let wide = c.as_bytes-2.ensures.value ∙ c.format-3.ensures.text in
-    let number = c.as_bytes-3.ensures.value ∙ c.format-4.ensures.text in
-    let relation = c.as_bytes-4.ensures.value ∙ c.format-5.ensures.text in
-    let ground = c.ground.ensures in
-    let kind = c.kind_word.ensures in
+    let part1 = shape_text (Drawn (Rectangle c.args.x 50 c.args.width 300) (filled (ground (purpose_is c.args.purpose)))) in
+    let part2 = shape_text (column_words c.args.x c.args.k (purpose_is c.args.purpose) c.args.h) in
+    let after1 = goes_on _ _ _ _ _ (shape_text (Drawn (Rectangle c.args.x 50 c.args.width 300) (filled c.ground.result))) part2 (starts _
+    _) (λ i. shape_text (Drawn (Rectangle c.args.x 50 c.args.width 300) (filled (sym c.ground.ensures i))) ++ part2)
+    c.in_ok-write_filled.ensures.written in
     record {
-      written = subst (λ (t : List ℕ). Writes (g.W.Out.state c.args.out.now) (g.W.Out.state c.write_parts.new.self) t c.write_parts.result)
-          (λ i. codes "<rect x='" ++ (left i ++ (codes "' y='50' width='" ++
-          (wide i ++ (codes "' height='300' fill='" ++
-          (ground i ++ (codes "'/>\n<text x='" ++ (words i ++
-          (codes "' y='64'>" ++ (number i ++ (codes "</text>\n<text x='" ++
-          (words i ++ (codes "' y='78'>" ++ (kind i ++
-          (codes "</text>\n<text x='" ++ (words i ++ (codes "' y='344'>h " ++ (relation i ++ (codes "</text>\n")))))))))))))))))))
-          c.write_parts.ensures.written;
+      written = closes _ _ _ _ _ c.write_column_words.result after1 c.write_column_words.ensures.written;
     }

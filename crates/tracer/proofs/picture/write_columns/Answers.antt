@@ -1,6 +1,7 @@
-use Rattle.std.proofs.Common.{◌<◌, length, arith}
+use Rattle.std.proofs.Common.{ap, ◌<◌, length, arith}
 use Rattle.text_out.proofs.Writing.{writes_stopped}
 use Rattle.text_out.proofs.Progress.{goes_on, stops}
+use Rattle.svg_texts.specs.Shapes.{shape_text}
 use Rattle.tracer.specs.Picture.{drawn}
 use Rattle.tracer.proofs.ColumnTexts.{column_fits, columns_at}
 use Rattle.tracer.proofs.picture.write_columns.Goals as goal
@@ -23,8 +24,9 @@ returns-in_err-write_column g c =
     record {
       written = writes_stopped _ _ _ c.from_residual.result _ c.from_residual.ensures.1
           (stops _ _ _ _ _ _ _ c.exchanges.invariant.progress
-          (columns_at c.args.measure.workers c.args.measure.most c.args.lines.now c.args.counts.now c.exchanges.i c.line_of.result below
-          c.line_of.ensures) c.in_err-write_column.ensures.written);
+          (ap shape_text (columns_at c.args.measure.workers c.args.measure.most c.args.lines.now c.args.counts.now c.exchanges.i
+          c.line_of.result below
+          c.line_of.ensures)) c.in_err-write_column.ensures.written);
     }
 
 pub exchanges-preserved : goal.exchanges-preserved
@@ -34,6 +36,7 @@ exchanges-preserved g c =
     let below : c.exchanges.i < length (drawn c.args.counts.now) = omega (arith, test, long) in
     record {
       progress = goes_on _ _ _ _ _ _ _ c.exchanges.invariant.progress
-          (columns_at c.args.measure.workers c.args.measure.most c.args.lines.now c.args.counts.now c.exchanges.i c.line_of.result below
-          c.line_of.ensures) c.in_ok-write_column.ensures.written;
+          (ap shape_text (columns_at c.args.measure.workers c.args.measure.most c.args.lines.now c.args.counts.now c.exchanges.i
+          c.line_of.result below
+          c.line_of.ensures)) c.in_ok-write_column.ensures.written;
     }

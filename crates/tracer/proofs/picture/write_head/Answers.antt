@@ -1,15 +1,41 @@
-use Rattle.std.proofs.Common.{ℕ, List, ◌++◌, ◌∙◌, subst}
+use Rattle.std.proofs.Common.{refl, ◌++◌}
 use Rattle.std.specs.Prelude.{codes}
-use Rattle.text_out.specs.Out.{Writes}
+use Rattle.svg_texts.specs.declared.lettering.Anchor.TheVariants.{Start}
+use Rattle.svg_texts.specs.declared.lettering.Face.TheVariants as face
+use Rattle.svg_texts.specs.Plain.{lettered}
+use Rattle.svg_texts.specs.Shapes.{text_front, words_text}
+use Rattle.tracer.specs.Picture.{head_words}
+use Rattle.text_out.proofs.Progress.{breaks_off, closes, goes_on, starts}
 use Rattle.tracer.proofs.picture.write_head.Goals as goal
+
+pub returns-in_err-open_label : goal.returns-in_err-open_label
+returns-in_err-open_label g c =
+    let part1 = text_front 12 20 (lettered Start face.Plain) in
+    let part2 = words_text (head_words c.args.workers c.args.exchanges) in
+    let part3 = codes "</text>\n" in
+    record {
+      written = breaks_off _ _ _ _ _ part1 (part2 ++ part3) c.from_residual.result _ c.from_residual.ensures.1 (starts _ _) refl
+          c.in_err-open_label.ensures.written;
+    }
+
+pub returns-in_err-write_head_words : goal.returns-in_err-write_head_words
+returns-in_err-write_head_words g c =
+    let part1 = text_front 12 20 (lettered Start face.Plain) in
+    let part2 = words_text (head_words c.args.workers c.args.exchanges) in
+    let part3 = codes "</text>\n" in
+    let after1 = goes_on _ _ _ _ _ part1 (part2 ++ part3) (starts _ _) refl c.in_ok-open_label.ensures.written in
+    record {
+      written = breaks_off _ _ _ _ _ part2 part3 c.from_residual-in_err-write_head_words.result _
+          c.from_residual-in_err-write_head_words.ensures.1 after1 refl c.in_err-write_head_words.ensures.written;
+    }
 
 pub returns : goal.returns
 returns g c =
-    let number = c.as_bytes.ensures.value ∙ c.format.ensures.text in
-    let digits = c.as_bytes-2.ensures.value ∙ c.format-2.ensures.text in
-    let cut = c.cut.ensures in
+    let part1 = text_front 12 20 (lettered Start face.Plain) in
+    let part2 = words_text (head_words c.args.workers c.args.exchanges) in
+    let part3 = codes "</text>\n" in
+    let after1 = goes_on _ _ _ _ _ part1 (part2 ++ part3) (starts _ _) refl c.in_ok-open_label.ensures.written in
+    let after2 = goes_on _ _ _ _ _ part2 part3 after1 refl c.in_ok-write_head_words.ensures.written in
     record {
-      written = subst (λ (t : List ℕ). Writes (g.W.Out.state c.args.out.now) (g.W.Out.state c.write_parts.new.self) t c.write_parts.result)
-          (λ i. codes "<text x='12' y='20'>workers " ++
-          (number i ++ (codes ", exchanges " ++ (digits i ++ (cut i ++ (codes "</text>\n")))))) c.write_parts.ensures.written;
+      written = closes _ _ _ _ _ c.close_text.result after2 c.close_text.ensures.written;
     }

@@ -1,44 +1,41 @@
-use Rattle.std.proofs.Common.{refl, ◌++◌, sym}
-use Rattle.tracer.specs.Picture.{above, columns_from, drawn, ending_text}
+use Rattle.std.proofs.Common.{refl, ◌++◌}
+use Rattle.std.specs.Prelude.{codes}
+use Rattle.svg_texts.specs.Shapes.{Letters, picture_front, shape_text}
+use Rattle.tracer.specs.Picture.{shape_of, title}
 use Rattle.text_out.proofs.Progress.{breaks_off, closes, goes_on, starts}
 use Rattle.tracer.proofs.picture.write_measured.Goals as goal
 
-pub returns-in_err-write_above : goal.returns-in_err-write_above
-returns-in_err-write_above g c =
-    let part1 = above c.args.width c.args.measure.workers c.len-exchanges.result in
-    let part2 = columns_from c.args.measure.workers c.args.measure.most c.args.lines.now 1 (drawn c.args.counts.now) in
-    let part3 = ending_text c.args.width c.args.measure.most c.args.outcome.now in
+pub returns-in_err-open_picture : goal.returns-in_err-open_picture
+returns-in_err-open_picture g c =
+    let part1 = picture_front (Letters title) c.args.width 386 in
+    let part2 = shape_text (shape_of c.args.width c.args.measure.workers c.args.measure.most c.args.lines.now c.args.outcome.now
+    c.args.counts.now) in
+    let part3 = codes "</svg>\n" in
     record {
-      written = breaks_off _ _ _ _ _ part1 (part2 ++ part3) c.from_residual.result _ c.from_residual.ensures.1 (starts _ _)
-          (λ i. above c.args.width c.args.measure.workers (sym c.len-exchanges.ensures i) ++
-          (columns_from c.args.measure.workers c.args.measure.most c.args.lines.now 1 (drawn c.args.counts.now) ++ ending_text c.args.width
-          c.args.measure.most c.args.outcome.now)) c.in_err-write_above.ensures.written;
+      written = breaks_off _ _ _ _ _ part1 (part2 ++ part3) c.from_residual.result _ c.from_residual.ensures.1 (starts _ _) refl
+          c.in_err-open_picture.ensures.written;
     }
 
-pub returns-in_err-write_columns : goal.returns-in_err-write_columns
-returns-in_err-write_columns g c =
-    let part1 = above c.args.width c.args.measure.workers c.len-exchanges.result in
-    let part2 = columns_from c.args.measure.workers c.args.measure.most c.args.lines.now 1 (drawn c.args.counts.now) in
-    let part3 = ending_text c.args.width c.args.measure.most c.args.outcome.now in
-    let after1 = goes_on _ _ _ _ _ part1 (part2 ++ part3) (starts _ _) (λ i. above c.args.width c.args.measure.workers
-    (sym c.len-exchanges.ensures i) ++ (columns_from c.args.measure.workers c.args.measure.most c.args.lines.now 1
-    (drawn c.args.counts.now) ++ ending_text c.args.width c.args.measure.most c.args.outcome.now))
-    c.in_ok-write_above.ensures.written in
+pub returns-in_err-write_shape : goal.returns-in_err-write_shape
+returns-in_err-write_shape g c =
+    let part1 = picture_front (Letters title) c.args.width 386 in
+    let part2 = shape_text (shape_of c.args.width c.args.measure.workers c.args.measure.most c.args.lines.now c.args.outcome.now
+    c.args.counts.now) in
+    let part3 = codes "</svg>\n" in
+    let after1 = goes_on _ _ _ _ _ part1 (part2 ++ part3) (starts _ _) refl c.in_ok-open_picture.ensures.written in
     record {
-      written = breaks_off _ _ _ _ _ part2 part3 c.from_residual-in_err-write_columns.result _
-          c.from_residual-in_err-write_columns.ensures.1 after1 refl c.in_err-write_columns.ensures.written;
+      written = breaks_off _ _ _ _ _ part2 part3 c.from_residual-in_err-write_shape.result _ c.from_residual-in_err-write_shape.ensures.1
+          after1 refl c.in_err-write_shape.ensures.written;
     }
 
 pub returns : goal.returns
 returns g c =
-    let part1 = above c.args.width c.args.measure.workers c.len-exchanges.result in
-    let part2 = columns_from c.args.measure.workers c.args.measure.most c.args.lines.now 1 (drawn c.args.counts.now) in
-    let part3 = ending_text c.args.width c.args.measure.most c.args.outcome.now in
-    let after1 = goes_on _ _ _ _ _ part1 (part2 ++ part3) (starts _ _) (λ i. above c.args.width c.args.measure.workers
-    (sym c.len-exchanges.ensures i) ++ (columns_from c.args.measure.workers c.args.measure.most c.args.lines.now 1
-    (drawn c.args.counts.now) ++ ending_text c.args.width c.args.measure.most c.args.outcome.now))
-    c.in_ok-write_above.ensures.written in
-    let after2 = goes_on _ _ _ _ _ part2 part3 after1 refl c.in_ok-write_columns.ensures.written in
+    let part1 = picture_front (Letters title) c.args.width 386 in
+    let part2 = shape_text (shape_of c.args.width c.args.measure.workers c.args.measure.most c.args.lines.now c.args.outcome.now
+    c.args.counts.now) in
+    let part3 = codes "</svg>\n" in
+    let after1 = goes_on _ _ _ _ _ part1 (part2 ++ part3) (starts _ _) refl c.in_ok-open_picture.ensures.written in
+    let after2 = goes_on _ _ _ _ _ part2 part3 after1 refl c.in_ok-write_shape.ensures.written in
     record {
-      written = closes _ _ _ _ _ c.write_ending.result after2 c.write_ending.ensures.written;
+      written = closes _ _ _ _ _ c.close_picture.result after2 c.close_picture.ensures.written;
     }

@@ -1,22 +1,37 @@
-use Rattle.std.proofs.Common.{refl}
-use Rattle.tracer.specs.Picture.{axes, ticks}
+use Rattle.std.proofs.Common.{refl, ◌++◌}
+use Rattle.svg_texts.specs.Shapes.{shape_text}
+use Rattle.tracer.specs.Picture.{axes, ticks, titles}
 use Rattle.text_out.proofs.Progress.{breaks_off, closes, goes_on, starts}
 use Rattle.tracer.proofs.scale.write_scale.Goals as goal
 
 pub returns-in_err-write_axes : goal.returns-in_err-write_axes
 returns-in_err-write_axes g c =
-    let part1 = axes c.args.width in
-    let part2 = ticks c.args.most in
+    let part1 = shape_text (axes c.args.width) in
+    let part2 = shape_text titles in
+    let part3 = shape_text (ticks c.args.most) in
     record {
-      written = breaks_off _ _ _ _ _ part1 part2 c.from_residual.result _ c.from_residual.ensures.1 (starts _ _) refl
+      written = breaks_off _ _ _ _ _ part1 (part2 ++ part3) c.from_residual.result _ c.from_residual.ensures.1 (starts _ _) refl
           c.in_err-write_axes.ensures.written;
+    }
+
+pub returns-in_err-write_titles : goal.returns-in_err-write_titles
+returns-in_err-write_titles g c =
+    let part1 = shape_text (axes c.args.width) in
+    let part2 = shape_text titles in
+    let part3 = shape_text (ticks c.args.most) in
+    let after1 = goes_on _ _ _ _ _ part1 (part2 ++ part3) (starts _ _) refl c.in_ok-write_axes.ensures.written in
+    record {
+      written = breaks_off _ _ _ _ _ part2 part3 c.from_residual-in_err-write_titles.result _
+          c.from_residual-in_err-write_titles.ensures.1 after1 refl c.in_err-write_titles.ensures.written;
     }
 
 pub returns : goal.returns
 returns g c =
-    let part1 = axes c.args.width in
-    let part2 = ticks c.args.most in
-    let after1 = goes_on _ _ _ _ _ part1 part2 (starts _ _) refl c.in_ok-write_axes.ensures.written in
+    let part1 = shape_text (axes c.args.width) in
+    let part2 = shape_text titles in
+    let part3 = shape_text (ticks c.args.most) in
+    let after1 = goes_on _ _ _ _ _ part1 (part2 ++ part3) (starts _ _) refl c.in_ok-write_axes.ensures.written in
+    let after2 = goes_on _ _ _ _ _ part2 part3 after1 refl c.in_ok-write_titles.ensures.written in
     record {
-      written = closes _ _ _ _ _ c.write_ticks.result after1 c.write_ticks.ensures.written;
+      written = closes _ _ _ _ _ c.write_ticks.result after2 c.write_ticks.ensures.written;
     }

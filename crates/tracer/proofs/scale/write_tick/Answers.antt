@@ -1,15 +1,27 @@
-use Rattle.std.proofs.Common.{ℕ, List, ◌++◌, ◌∙◌, subst}
-use Rattle.std.specs.Prelude.{codes}
-use Rattle.text_out.specs.Out.{Writes}
+use Rattle.std.proofs.Common.{refl}
+use Rattle.std.proofs.Common.{◌+◌}
+use Rattle.svg_texts.specs.declared.colour.Colour.TheVariants.{Black}
+use Rattle.svg_texts.specs.declared.lettering.Anchor.TheVariants.{End}
+use Rattle.svg_texts.specs.declared.lettering.Face.TheVariants as face
+use Rattle.svg_texts.specs.Plain.{line, number}
+use Rattle.svg_texts.specs.Shapes.{shape_text}
+use Rattle.text_out.proofs.Progress.{breaks_off, closes, goes_on, starts}
 use Rattle.tracer.proofs.scale.write_tick.Goals as goal
+
+pub returns-in_err-write_line : goal.returns-in_err-write_line
+returns-in_err-write_line g c =
+    let part1 = shape_text (line 163 c.args.y 168 c.args.y Black) in
+    let part2 = shape_text (number 158 (c.args.y + 4) End face.Plain c.args.number) in
+    record {
+      written = breaks_off _ _ _ _ _ part1 part2 c.from_residual.result _ c.from_residual.ensures.1 (starts _ _) refl
+          c.in_err-write_line.ensures.written;
+    }
 
 pub returns : goal.returns
 returns g c =
-    let mark = c.as_bytes.ensures.value ∙ c.format.ensures.text in
-    let foot = c.as_bytes-2.ensures.value ∙ c.format-2.ensures.text in
-    let number = c.as_bytes-3.ensures.value ∙ c.format-3.ensures.text in
+    let part1 = shape_text (line 163 c.args.y 168 c.args.y Black) in
+    let part2 = shape_text (number 158 (c.args.y + 4) End face.Plain c.args.number) in
+    let after1 = goes_on _ _ _ _ _ part1 part2 (starts _ _) refl c.in_ok-write_line.ensures.written in
     record {
-      written = subst (λ (t : List ℕ). Writes (g.W.Out.state c.args.out.now) (g.W.Out.state c.write_parts.new.self) t c.write_parts.result)
-          (λ i. codes "<path d='M163 " ++ (mark i ++ (codes "H168' stroke='#000000'/>\n<text x='158' y='" ++ (foot i
-          ++ (codes "' text-anchor='end'>" ++ (number i ++ (codes "</text>\n"))))))) c.write_parts.ensures.written;
+      written = closes _ _ _ _ _ c.write_number.result after1 c.write_number.ensures.written;
     }

@@ -1,4 +1,0 @@
-//! Pictures are well formed.
-#![tactic(auto)]
-
-pub mod laws;

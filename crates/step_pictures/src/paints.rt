@@ -1,0 +1,93 @@
+//! How forms are painted, and how letters look.
+
+ghost use Rattle.std.specs.Prelude.{◌≡◌};
+ghost use Rattle.step_pictures.specs.Paints as spec;
+ghost use Rattle.svg_texts.specs.Shapes.{shape_text, text_front};
+ghost use Rattle.text_out.specs.Out.{Writes};
+
+use svg_texts::{
+    Anchor, Colour, Face, Fill, Lettering, Paint, Stroke, Weight, open_label, open_text,
+    write_label, write_text,
+};
+use text_out::{Out, WriteFault};
+
+/// A heavy line around what stands behind it.
+pub(crate) fn heavy() -> Paint
+    ensures { result ≡ spec.heavy }
+{
+    Paint {
+        fill: Fill::Hollow,
+        stroke: Some(Stroke {
+            colour: Colour::Black,
+            weight: Weight::Heavy,
+            dashed: false,
+        }),
+    }
+}
+
+fn white() -> Lettering
+    ensures { result ≡ spec.white }
+{
+    Lettering {
+        anchor: Anchor::Start,
+        face: Face::Plain,
+        ink: Some(Colour::White),
+        upwards: false,
+    }
+}
+
+fn upright() -> Lettering
+    ensures { result ≡ spec.upright }
+{
+    Lettering {
+        anchor: Anchor::Start,
+        face: Face::Code,
+        ink: None,
+        upwards: true,
+    }
+}
+
+/// Begins a text of plain letters.
+pub(crate) fn open_plain<W: Out>(out: &mut W, x: usize, y: usize) -> Result<(), WriteFault>
+    ensures written { Writes (W.Out.state out.old) (W.Out.state out.new) (text_front x y spec.plain) result }
+{
+    open_label(out, x as u128, y as u128, Anchor::Start, Face::Plain)
+}
+
+/// Writes plain letters.
+pub(crate) fn write_note<W: Out>(
+    out: &mut W,
+    x: usize,
+    y: usize,
+    what: &[u8],
+) -> Result<(), WriteFault>
+    ensures written { Writes (W.Out.state out.old) (W.Out.state out.new) (shape_text (spec.note x y what.now)) result }
+{
+    write_label(out, x as u128, y as u128, Anchor::Start, Face::Plain, what)
+}
+
+/// Writes white letters.
+pub(crate) fn write_white<W: Out>(
+    out: &mut W,
+    x: usize,
+    y: usize,
+    what: &[u8],
+) -> Result<(), WriteFault>
+    ensures written { Writes (W.Out.state out.old) (W.Out.state out.new) (shape_text (spec.white_note x y what.now)) result }
+{
+    write_text(out, x as u128, y as u128, &white(), what)
+}
+
+/// Begins a row of a program's text, which reads upwards.
+pub(crate) fn open_code<W: Out>(out: &mut W, x: usize, y: usize) -> Result<(), WriteFault>
+    ensures written { Writes (W.Out.state out.old) (W.Out.state out.new) (text_front x y spec.upright) result }
+{
+    open_text(out, x as u128, y as u128, &upright())
+}
+
+/// Writes the title of an axis.
+pub(crate) fn write_axis<W: Out>(out: &mut W, y: usize, what: &[u8]) -> Result<(), WriteFault>
+    ensures written { Writes (W.Out.state out.old) (W.Out.state out.new) (shape_text (spec.axis y what.now)) result }
+{
+    write_label(out, 12, y as u128, Anchor::Start, Face::Bold, what)
+}
