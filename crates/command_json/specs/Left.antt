@@ -79,8 +79,8 @@ IsFoundInTime _ old new = new ≡ old
 pub data LeavesFound (words : List (List ℕ)) (f : Found) (out out_new err err_new : OutState) : Status → Type 0 where
   Told : (s : Settled) (text : List ℕ) → f ≡ found.Settled s → IsJsonOf s text → out_new ≡ with_bytes out text
       → IsFoundInTime s err err_new → LeavesFound words f out out_new err err_new (status_of_found s)
-  CutOff : (s : Settled) (why : Stop) → f ≡ found.Settled s → WritesFound s out out_new (Err why) → IsRefusalSaid words why about.Nothing err err_new
-      → LeavesFound words f out out_new err err_new status.Refused
+  CutOff : (s : Settled) (why : Stop) → f ≡ found.Settled s → WritesFound s out out_new (Err why)
+      → IsRefusalSaid words why about.Nothing err err_new → LeavesFound words f out out_new err err_new status.Refused
   -- a run is told statement by statement as it goes: the outcome is that of the program, and it gives the status
   ToldAsItRan : (s : FoundSteps) (o : Outcome) (text : List ℕ) → f ≡ found.Stepped s → IsOutcomeOf s o → IsJson (all_facts s o) text
       → out_new ≡ with_bytes out text → IsTimeTold o s.words err err_new → LeavesFound words f out out_new err err_new (status_of o)

@@ -45,7 +45,8 @@ wanted given.Size = codes "NAME=VALUE, once for each size that the program decla
 wanted given.Sweep = codes "NAME=SIZES for a size that the program declares, 1 to 1000 of them, as n=4,8,16 or n=4..64*2 or n=10..50+10"
 wanted given.Format = codes "text or json, or csv with --sweep, or gnu with check"
 wanted given.Show = codes "names of shared declarations of the program, as a,b"
-wanted given.Only = codes "names that the program declares, as a,b: of cells alone with --flow and compare, and with compare of both programs, or output"
+wanted given.Only = (codes "names that the program declares, as a,b: of cells alone with --flow and compare, and with compare of "
+    ++ codes "both programs, or output")
 wanted given.Bsp = codes "G,L, two numbers from 0 to 4294967295"
 wanted given.Subject = codes "a refusal, as E6, a fault, as read-conflict, a command, language or options"
 
@@ -59,19 +60,23 @@ value_sentence g word = codes "invalid `" ++ (letters word ++ wanted_text g)
 -- an option that a command wants, in the place of others; of any other word nothing
 abbrev pub command_sentence : (word : List ℕ) → List ℕ
 command_sentence word =
-    if same_text word (codes "--input") then codes "`compare` wants `--input`, `--cells` with `--values`, `--permutations`, or `--random` with `--count`, and one of these alone\n"
-    else if same_text word (codes "--cells") then codes "`explore` wants `--cells` with `--values`, or `--permutations` in their place; `compare` takes `--cells` with `--random` too\n"
+    if same_text word (codes "--input") then (codes "`compare` wants `--input`, `--cells` with `--values`, `--permutations`, or "
+    ++ codes "`--random` with `--count`, and one of these alone\n")
+    else if same_text word (codes "--cells") then (codes "`explore` wants `--cells` with `--values`, or `--permutations` in their "
+    ++ codes "place; `compare` takes `--cells` with `--random` too\n")
     else if same_text word (codes "--values") then codes "`--values` goes with `--cells` alone\n"
     else if same_text word (codes "--count") then codes "`--count` goes with `--random` alone\n"
     else if same_text word (codes "--permutations") then codes "`--permutations` goes with none of `--cells`, `--values` and `--random`\n"
-    else if same_text word (codes "--listing") then codes "`export` wants a FILE, or `--listing` in its place, which goes without `--size`\n"
+    else if same_text word (codes "--listing") then (codes "`export` wants a FILE, or `--listing` in its place, which goes without "
+    ++ codes "`--size`\n")
     else []
 
 -- an option that doesn't go with others of the call
 abbrev pub option_sentence : (word : List ℕ) → List ℕ
 option_sentence word =
     if same_text word (codes "--memory") then codes "`--memory` goes with neither `--input` nor `--random`\n"
-    else if same_text word (codes "--random") then codes "`--random` goes with neither `--input` nor `--memory`, and with `compare` it wants `--count`\n"
+    else if same_text word (codes "--random") then (codes "`--random` goes with neither `--input` nor `--memory`, and with "
+    ++ codes "`compare` it wants `--count`\n")
     else if same_text word (codes "--seed") then codes "`--seed` goes with `--random` alone\n"
     else if same_text word (codes "--quiet") then codes "`--quiet` doesn't go with `--show`\n"
     else if same_text word (codes "--html") then codes "`--html` goes with neither `--svg` nor another `--format` than text\n"

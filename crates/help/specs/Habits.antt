@@ -1,5 +1,5 @@
 -- What a token that can't stand at its place would be in another language, and what is said of it.
-use Rattle.std.specs.Prelude.{ℕ, Bool, true, false, ◌&&◌, ◌||◌, not, if◌then◌else◌, List, [], ◌∷◌, Option, Some, None, codes}
+use Rattle.std.specs.Prelude.{ℕ, Bool, true, false, ◌&&◌, ◌||◌, not, if◌then◌else◌, List, [], ◌∷◌, ◌++◌, Option, Some, None, codes}
 use Rattle.std.specs.Option.{option_or}
 use Rattle.pram_model.specs.Names.{is_one_of}
 use Rattle.pram_tokens.specs.declared.token.Binary.{Binary}
@@ -34,7 +34,8 @@ habit_text habit.Keyword = codes " is a keyword, and no name"
 habit_text habit.Word = codes " is no word of the language: a statement is an assignment, print, while, if or for"
 habit_text habit.Capitals = codes " is a name here: keywords have small letters"
 habit_text habit.In = codes " can't stand here: a loop is \"for i := 1 to 8 do\", and a pardo \"for 1 <= i <= 8 pardo\""
-habit_text habit.Semicolon = codes " can't stand here: there is none behind \"begin\", \"do\", \"then\", \"else\", \"pardo\" or \"end\", and no two in a row"
+habit_text habit.Semicolon = (codes " can't stand here: there is none behind \"begin\", \"do\", \"then\", \"else\", \"pardo\" or "
+    ++ codes "\"end\", and no two in a row")
 habit_text habit.Range = codes " can't stand here: a pardo is written \"for 1 <= i <= 8 pardo\""
 habit_text habit.Value = codes " can't stand here: a declaration has no value, and all begin with 0"
 habit_text habit.Bounds = codes " can't stand here: an array has a first and a last subscript, as a[1..8]"

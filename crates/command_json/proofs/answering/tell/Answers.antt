@@ -15,6 +15,6 @@ returns-in-Ok g c =
 
 pub returns-in-Err : goal.returns-in-Err
 returns-in-Err g c = record {
-  leaves = CutOff c.args.found.now c.in-Err.stop refl c.in-Err.ensures.written (told_alone (IsRefusalSaid (map string_bytes c.args.words.now)) c.from.result
-      c.in-Err.stop _ _ c.from.ensures c.report.ensures.told);
+  leaves = CutOff c.args.found.now c.in-Err.stop refl c.in-Err.ensures.written
+      (told_alone (IsRefusalSaid (map string_bytes c.args.words.now)) c.from.result c.in-Err.stop _ _ c.from.ensures c.report.ensures.told);
 }
