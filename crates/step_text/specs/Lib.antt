@@ -11,3 +11,4 @@ pub mod Streams
 pub mod RowLaws
 pub mod StreamLaws
 pub mod Streamed
+pub mod Stops

@@ -1,5 +1,9 @@
 //! Why the steps of a run are not written to the end.
 
+ghost use Rattle.std.specs.Prelude.{◌≡◌};
+ghost use Rattle.step_text.specs.Stops.{stop_of};
+
+use program_texts::{Refusal, Stop};
 use thiserror::Error;
 
 /// Why the steps of a run are not written to the end.
@@ -14,4 +18,16 @@ pub enum StreamFailure {
     /// E17: the writer failed.
     #[error("E17 WriteFailed")]
     WriteFailed,
+}
+
+impl<'a> From<StreamFailure> for Stop<'a> {
+    ghost from_gives = { λ failure stop. stop ≡ stop_of failure };
+
+    fn from(failure: StreamFailure) -> Stop<'a> {
+        match failure {
+            StreamFailure::InputTooLong => Stop::Refused(Refusal::InputTooLong),
+            StreamFailure::OutOfMemory => Stop::Refused(Refusal::OutOfMemory),
+            StreamFailure::WriteFailed => Stop::WriteFailed,
+        }
+    }
 }
