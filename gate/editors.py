@@ -2,7 +2,7 @@
 """The files for editors and the shell, and the man page, beside the keywords, the program's commands and its options.
 
 editors.py           compares them; and with the table of options, crates/command_words/src/options.rt, the options of
-                     which the texts of explanations, command_requests and the rest of command_words speak
+                     which the texts of help, command_requests and the rest of command_words speak
 editors.py --write   writes what is made of that table (gate/options.py): of man/pramc.1 the synopsis and the options,
                      and of completions/pramc.bash the commands, their options and their values. Then it compares
 """
@@ -54,7 +54,7 @@ def subjects():
     """The words that have an explanation: numbers of refusals, kinds of faults, commands and the rest."""
     numbers = re.findall(r'Number::\w+ => "([EP]\d+)"', source("program_texts/src/number.rt"))
     kinds = re.findall(r'Kind::\w+ => "([^"]+)"', source("program_texts/src/outcome_text.rt"))
-    return [*numbers, *kinds, *re.findall(r'Subject::\w+ => "([^"]+)"', source("explanations/src/subject.rt"))]
+    return [*numbers, *kinds, *re.findall(r'Subject::\w+ => "([^"]+)"', source("help/src/explained/subject.rt"))]
 
 
 def alternatives(text):
@@ -134,7 +134,7 @@ def refusing():
 
 def explained():
     """The options that the text of each command names, and that of all options."""
-    text = "".join(source(f"explanations/src/{it}.rt") for it in ("commands", "scopes", "workers", "overviews"))
+    text = "".join(source(f"help/src/explained/{it}.rt") for it in ("commands", "scopes", "workers", "overviews"))
     texts = dict(re.findall(r'const (\w+): .*?\*b"(.*?)";', text, re.S))
     for name, several in commands().items():
         if several:
@@ -181,7 +181,7 @@ def main():
         "editors/textmate": textmate,
         "man/pramc.1": manual,
         "completions/pramc.bash": completions,
-        "explanations": explained,
+        "help": explained,
         "command_requests": requests,
         "command_words": refusing,
     }

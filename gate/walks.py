@@ -50,7 +50,7 @@ class Walk:
     apart: tuple = ()
 
 
-SUBJECT = Enum("Subject", "explanations", "subject")
+SUBJECT = Enum("Subject", "help", "explained/subject")
 WALKS = {
     "Remainder": Walk(
         (

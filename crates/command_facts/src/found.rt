@@ -10,7 +10,7 @@ use comparing::{Comparison, UnderRules};
 use costs::Cost;
 use diagnoses::Source;
 use exchange_counts::Counts;
-use explanations::Subject;
+use help::Subject;
 use memory_texts::Choice;
 use pram_check::Program;
 use scopes::Findings;

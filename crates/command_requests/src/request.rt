@@ -7,7 +7,7 @@ use crate::pair_words::PairWords;
 use crate::scope_words::ScopeWords;
 use crate::step_words::StepWords;
 use crate::trace_words::TraceWords;
-use explanations::Subject;
+use help::Subject;
 use memory_texts::Choice;
 use run_options::{Options, Reserve};
 

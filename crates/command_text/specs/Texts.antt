@@ -16,7 +16,7 @@ use Rattle.memory_texts.specs.Chosen.{shown_by}
 use Rattle.write_rules.specs.Verdict.{verdict_of}
 use Rattle.program_texts.specs.Shown.{line}
 use Rattle.diagnoses.specs.Sources.{text_in}
-use Rattle.explanations.specs.Explained.{explanation}
+use Rattle.help.specs.Explained.{explanation}
 use Rattle.comparing.specs.RulesText.{comparison_text}
 use Rattle.comparing.specs.Found as pairs
 use Rattle.comparing.specs.ComparisonText as pair_texts

@@ -15,7 +15,7 @@ use crate::scope_reading::scope_words;
 use clap::ArgMatches;
 use clap::error::ErrorKind;
 use command_requests::{ProgramFile, Request, SizeWord, SweepWords, Verb, asks_for_version};
-use explanations::subject_of;
+use help::subject_of;
 use program_texts::{Refusal, Stop};
 use std::alloc::{AllocError, Global};
 

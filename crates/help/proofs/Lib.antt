@@ -13,3 +13,4 @@ pub mod Together
 pub mod OpenBlocks
 pub mod OneHint
 pub mod Single
+pub mod Subjects

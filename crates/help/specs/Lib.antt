@@ -15,3 +15,4 @@ pub mod Hints
 pub mod OpenBlocks
 pub mod Messages
 pub mod GnuLines
+pub mod Explained

@@ -1,10 +1,11 @@
-//! What helps a reader whose text is refused: the name that was meant, what could stand there, and a message that says so.
+//! What helps a reader: the name that was meant, what could stand there, and what refusals, faults, commands and options are.
 #![tactic(auto)]
 
 mod asking;
 mod blocks;
 mod bound;
 mod choice;
+mod explained;
 mod gnu;
 mod habit;
 mod hint;
@@ -29,6 +30,8 @@ pub use asking::choices_behind;
 pub use blocks::{Block, open_blocks};
 pub use bound::bound_in;
 pub use choice::Choice;
+pub use explained::explanation::write_explanation;
+pub use explained::subject::{Subject, subject_of};
 pub use gnu::write_gnu;
 pub use habit::{Habit, habit_text};
 pub use hint::Hint;

@@ -2,10 +2,10 @@
 use Rattle.std.proofs.Common.{ℕ, ◌<◌, List, arith, slice_index_or}
 use Rattle.pram_values.specs.declared.kind.Kind.TheVariants as kind
 use Rattle.program_texts.specs.declared.number.Number.TheVariants as number
-use Rattle.explanations.specs.declared.subject.Subject.{Subject}
-use Rattle.explanations.specs.declared.subject.Subject.TheVariants as subject
-use Rattle.explanations.specs.declared.subject.TheConstants.{SUBJECTS}
-use Rattle.explanations.specs.Explained.{Names, NamesNothing}
+use Rattle.help.specs.declared.explained.subject.Subject.{Subject}
+use Rattle.help.specs.declared.explained.subject.Subject.TheVariants as subject
+use Rattle.help.specs.declared.explained.subject.TheConstants.{SUBJECTS}
+use Rattle.help.specs.Explained.{Names, NamesNothing}
 
 abbrev pub subject_at : ℕ → Subject
 subject_at k = slice_index_or SUBJECTS k (subject.Refusal number.NotAscii)

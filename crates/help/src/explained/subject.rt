@@ -1,7 +1,7 @@
 //! What is explained.
 
 ghost use Rattle.std.specs.Prelude.{◌≡◌, IfSome, None};
-ghost use Rattle.explanations.specs.Explained.{Names, NamesNothing, subject_word};
+ghost use Rattle.help.specs.Explained.{Names, NamesNothing, subject_word};
 
 use pram_values::Kind;
 use program_texts::{Number, kind_word};

@@ -1,6 +1,6 @@
 use Rattle.std.proofs.Common.{arith}
-use Rattle.explanations.proofs.Subjects.{none_of_all}
-use Rattle.explanations.proofs.subject.subject_of.Goals as goal
+use Rattle.help.proofs.Subjects.{none_of_all}
+use Rattle.help.proofs.explained.subject.subject_of.Goals as goal
 
 -- all have been looked at
 pub returns-clause-none : goal.returns-clause-none

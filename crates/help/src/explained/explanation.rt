@@ -2,23 +2,25 @@
 
 ghost use Rattle.std.specs.Prelude.{◌≡◌};
 ghost use Rattle.text_out.specs.Out.{Writes};
-ghost use Rattle.explanations.specs.Explained as spec;
-ghost use Rattle.explanations.specs.Explained.{explanation};
+ghost use Rattle.help.specs.Explained as spec;
+ghost use Rattle.help.specs.Explained.{explanation};
 
-use crate::commands::{CHECK, COST, EXPAND, EXPLAIN, MEANING, PLAN, RULES, STEPS};
-use crate::faults::{
+use crate::explained::commands::{CHECK, COST, EXPAND, EXPLAIN, MEANING, PLAN, RULES, STEPS};
+use crate::explained::faults::{
     DIVIDE_BY_ZERO, OUT_OF_RANGE, OVERFLOW, READ_CONFLICT, TOO_WIDE, WRITE_CONFLICT,
 };
-use crate::names::{ASSIGNED_LOOP_VARIABLE, DOUBLE_NAME, LIMIT, UNKNOWN_NAME, WRONG_KIND};
-use crate::overviews::{EVERYTHING, LANGUAGE, OPTIONS};
-use crate::runs::{
+use crate::explained::names::{
+    ASSIGNED_LOOP_VARIABLE, DOUBLE_NAME, LIMIT, UNKNOWN_NAME, WRONG_KIND,
+};
+use crate::explained::overviews::{EVERYTHING, LANGUAGE, OPTIONS};
+use crate::explained::runs::{
     BAD_LISTING, BAD_MAP, BAD_WORKERS, COMMAND_LINE, INPUT_TOO_LONG, NOT_VERIFIED, OUT_OF_MEMORY,
     OUT_OF_RESERVE, UNREADABLE_FILE, WRITE_FAILED,
 };
-use crate::scopes::{COMPARE, EXPLORE, EXPORT};
-use crate::subject::Subject;
-use crate::texts::{BAD_SIZE, BAD_TOKEN, NOT_ASCII, SYNTAX, TEXT_TOO_LONG, TOO_DEEP};
-use crate::workers::{EXEC, RUN, TRACE};
+use crate::explained::scopes::{COMPARE, EXPLORE, EXPORT};
+use crate::explained::subject::Subject;
+use crate::explained::texts::{BAD_SIZE, BAD_TOKEN, NOT_ASCII, SYNTAX, TEXT_TOO_LONG, TOO_DEEP};
+use crate::explained::workers::{EXEC, RUN, TRACE};
 use pram_values::Kind;
 use program_texts::Number;
 use text_out::{Out, WriteFault};

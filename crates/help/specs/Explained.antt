@@ -7,17 +7,17 @@ use Rattle.program_texts.specs.declared.number.Number.{Number}
 use Rattle.program_texts.specs.declared.number.Number.TheVariants as number
 use Rattle.program_texts.specs.Numbers.{code}
 use Rattle.program_texts.specs.Shown.{kind_text}
-use Rattle.explanations.specs.declared.subject.Subject.{Subject}
-use Rattle.explanations.specs.declared.subject.Subject.TheVariants as subject
-use Rattle.explanations.specs.declared.texts.TheConstants.{NOT_ASCII, TEXT_TOO_LONG, BAD_TOKEN, SYNTAX, TOO_DEEP, BAD_SIZE}
-use Rattle.explanations.specs.declared.names.TheConstants.{UNKNOWN_NAME, DOUBLE_NAME, WRONG_KIND, ASSIGNED_LOOP_VARIABLE, LIMIT}
-use Rattle.explanations.specs.declared.runs.TheConstants.{INPUT_TOO_LONG, BAD_MAP, BAD_WORKERS, NOT_VERIFIED, BAD_LISTING}
-use Rattle.explanations.specs.declared.runs.TheConstants.{OUT_OF_MEMORY, WRITE_FAILED, OUT_OF_RESERVE, COMMAND_LINE, UNREADABLE_FILE}
-use Rattle.explanations.specs.declared.faults.TheConstants.{OVERFLOW, DIVIDE_BY_ZERO, OUT_OF_RANGE, TOO_WIDE, READ_CONFLICT, WRITE_CONFLICT}
-use Rattle.explanations.specs.declared.commands.TheConstants.{CHECK, PLAN, MEANING, COST, STEPS, RULES, EXPAND, EXPLAIN}
-use Rattle.explanations.specs.declared.scopes.TheConstants.{COMPARE, EXPLORE, EXPORT}
-use Rattle.explanations.specs.declared.workers.TheConstants.{RUN, TRACE, EXEC}
-use Rattle.explanations.specs.declared.overviews.TheConstants.{LANGUAGE, OPTIONS, EVERYTHING}
+use Rattle.help.specs.declared.explained.subject.Subject.{Subject}
+use Rattle.help.specs.declared.explained.subject.Subject.TheVariants as subject
+use Rattle.help.specs.declared.explained.texts.TheConstants.{NOT_ASCII, TEXT_TOO_LONG, BAD_TOKEN, SYNTAX, TOO_DEEP, BAD_SIZE}
+use Rattle.help.specs.declared.explained.names.TheConstants.{UNKNOWN_NAME, DOUBLE_NAME, WRONG_KIND, ASSIGNED_LOOP_VARIABLE, LIMIT}
+use Rattle.help.specs.declared.explained.runs.TheConstants.{INPUT_TOO_LONG, BAD_MAP, BAD_WORKERS, NOT_VERIFIED, BAD_LISTING}
+use Rattle.help.specs.declared.explained.runs.TheConstants.{OUT_OF_MEMORY, WRITE_FAILED, OUT_OF_RESERVE, COMMAND_LINE, UNREADABLE_FILE}
+use Rattle.help.specs.declared.explained.faults.TheConstants.{OVERFLOW, DIVIDE_BY_ZERO, OUT_OF_RANGE, TOO_WIDE, READ_CONFLICT, WRITE_CONFLICT}
+use Rattle.help.specs.declared.explained.commands.TheConstants.{CHECK, PLAN, MEANING, COST, STEPS, RULES, EXPAND, EXPLAIN}
+use Rattle.help.specs.declared.explained.scopes.TheConstants.{COMPARE, EXPLORE, EXPORT}
+use Rattle.help.specs.declared.explained.workers.TheConstants.{RUN, TRACE, EXEC}
+use Rattle.help.specs.declared.explained.overviews.TheConstants.{LANGUAGE, OPTIONS, EVERYTHING}
 
 -- the number of a refusal, the name of a fault, a command, or a word of its own; everything has none
 abbrev pub subject_word : Subject → List ℕ
