@@ -4,7 +4,7 @@ use Rattle.std.specs.Prelude.{Result, Ok, Err, IsErrAnd}
 use Rattle.pram_model.specs.Layout.{SharedEntry}
 use Rattle.text_out.specs.Out.{OutState, StopsIn, with_bytes}
 use Rattle.text_out.proofs.Writing.{stops_behind, writes_then}
-use Rattle.json_lines.specs.Lines.{IsJson}
+use Rattle.json_texts.specs.Lines.{IsJson}
 use Rattle.json_texts.specs.OutcomeFacts.{outcome_facts}
 use Rattle.json_texts.specs.StreamLaws.{json_behind}
 use Rattle.json_texts.specs.Streamed.{HasStreamedJson, StopsInFirst, WroteFirstJson, WroteJson}

@@ -3,7 +3,7 @@ use Rattle.std.specs.Prelude.{◌≡◌, ◌⊎◌, ℕ, List, [], ◌∷◌, Op
 use Rattle.superstep_machine.specs.Trace.{Exchange}
 use Rattle.tracer.specs.Cost.{bsp_cost, in_128_bits}
 use Rattle.serde_json.specs.Data.{Data}
-use Rattle.json_lines.specs.Lines.{IsJson}
+use Rattle.json_texts.specs.Lines.{IsJson}
 use Rattle.text_out.specs.Out.{OutState, StopsIn, with_bytes}
 use Rattle.write_rules.specs.Verdict.{verdict_of}
 use Rattle.program_texts.specs.declared.from_text.Refusal.TheVariants as refusal

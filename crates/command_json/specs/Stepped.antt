@@ -1,7 +1,7 @@
 -- How a run that is told statement by statement is told as JSON as it goes.
 use Rattle.std.specs.Prelude.{◌≡◌, ℕ, List, [], ◌∷◌, ◌++◌, Result, Ok, Err}
 use Rattle.serde_json.specs.Data.{Data}
-use Rattle.json_lines.specs.Lines.{IsJson}
+use Rattle.json_texts.specs.Lines.{IsJson}
 use Rattle.text_out.specs.Out.{OutState, StopsIn, with_bytes}
 use Rattle.write_rules.specs.Verdict.{verdict_of}
 use Rattle.write_rules.specs.declared.outcome.Outcome.{Outcome}

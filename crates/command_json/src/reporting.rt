@@ -3,7 +3,7 @@
 ghost use Rattle.std.specs.Prelude.{◌∷◌, [], IfOk, map};
 ghost use Rattle.std.specs.String.{string_bytes};
 ghost use Rattle.text_out.specs.Out.{Writes};
-ghost use Rattle.json_lines.specs.Lines.{IsJson};
+ghost use Rattle.json_texts.specs.Lines.{IsJson};
 ghost use Rattle.json_texts.specs.MessageFacts.{refusal_facts};
 ghost use Rattle.help.specs.Messages.{message_is};
 ghost use Rattle.diagnoses.specs.RefusedLines.{stop_as_it_stands};

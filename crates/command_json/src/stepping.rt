@@ -1,7 +1,7 @@
 //! Runs of a program that are told statement by statement as they go.
 
 ghost use Rattle.std.specs.Prelude.{◌≡◌, ◌≤◌, ◌∷◌, [], IfErr, IfOk, OnOk, length, string_bytes};
-ghost use Rattle.json_lines.specs.Lines.{IsJson};
+ghost use Rattle.json_texts.specs.Lines.{IsJson};
 ghost use Rattle.pram_model.specs.Layout.{total_size};
 ghost use Rattle.json_texts.specs.Streamed.{WroteJson};
 ghost use Rattle.command_facts.specs.Found.{IsOutcomeOf, entries_of};

@@ -2,7 +2,7 @@
 
 ghost use Rattle.std.specs.Prelude.{◌≡◌, ◌∷◌, [], IfOk, IfErr};
 ghost use Rattle.std.specs.String.{string_bytes};
-ghost use Rattle.json_lines.specs.Lines.{IsJson};
+ghost use Rattle.json_texts.specs.Lines.{IsJson};
 ghost use Rattle.comparing.specs.Found as pairs;
 ghost use Rattle.scopes.specs.Found.{found_is};
 ghost use Rattle.json_texts.specs.ExplorationFacts.{exploration_facts};

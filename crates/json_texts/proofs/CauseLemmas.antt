@@ -2,7 +2,7 @@
 use Rattle.std.proofs.Common.{◌≡◌, ◌<◌, ◌≤◌, ℕ, zero, suc, ℤ, List, [], ◌∷◌, arith, length, refl, ap, ◌∙◌}
 use Rattle.std.specs.Prelude.{IfSome, OnOk, Result, Ok, Err, slice_get}
 use Rattle.serde_json.specs.Data.{Members}
-use Rattle.json_lines.specs.Facts.{with_fields}
+use Rattle.json_texts.specs.Facts.{with_fields}
 use Rattle.pram_model.specs.Layout.{SharedEntry, subscripts}
 use Rattle.json_texts.specs.CauseFacts.{array_fields, beyond_fields}
 

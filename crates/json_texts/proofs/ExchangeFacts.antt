@@ -1,8 +1,8 @@
 -- The exchanges, one by one, and that what is told of them can be read.
 use Rattle.std.proofs.Common.{◌≡◌, ◌∙◌, ◌<◌, ◌+◌, ◌-◌, ◌∷◌, List, ℕ, ◌++◌, Option, None, Some, ap, arith, codes, drop, get_or, length, lit≤}
 use Rattle.std.proofs.lemmas.List.{drop_more}
-use Rattle.json_lines.specs.Small.{IsReadable}
-use Rattle.json_lines.proofs.Small.{HasSmall, has_all, small_count, small_counts, small_large, small_object, small_word, smaller}
+use Rattle.json_texts.specs.Small.{IsReadable}
+use Rattle.json_texts.proofs.Small.{HasSmall, has_all, small_count, small_counts, small_large, small_object, small_word, smaller}
 use Rattle.superstep_machine.specs.Trace.{Exchange, relation_of}
 use Rattle.write_rules.specs.Verdict.{Verdict}
 use Rattle.exchange_counts.specs.CountedExchanges.{exchange_at, no_exchange}

@@ -1,8 +1,8 @@
 -- That what is told of every input of a scope can be read.
 use Rattle.std.proofs.Common.{ℕ, ℤ, List, [], ◌∷◌, ◌++◌, codes, lit≤, map}
 use Rattle.std.specs.Prelude.{Option, Some, None}
-use Rattle.json_lines.specs.Small.{IsReadable, IsSmall}
-use Rattle.json_lines.proofs.Small.{HasSmall, has_all, small_large, small_list, small_map, small_object, small_values, smaller}
+use Rattle.json_texts.specs.Small.{IsReadable, IsSmall}
+use Rattle.json_texts.proofs.Small.{HasSmall, has_all, small_large, small_list, small_map, small_object, small_values, smaller}
 use Rattle.pram_model.specs.Layout.{SharedEntry}
 use Rattle.scopes.specs.Firsts.{Met}
 use Rattle.scopes.specs.Found.{Found}

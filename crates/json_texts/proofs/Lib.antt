@@ -1,3 +1,5 @@
+pub mod Json
+pub mod Small
 pub mod CauseLemmas
 pub mod DeclarationFacts
 pub mod HeldLocals

@@ -1,6 +1,6 @@
 -- One entry that passes, and its line.
 use Rattle.std.proofs.Common.{◌≡◌, ◌∙◌, ℕ, Bool, true, false, List, [], ◌∷◌, ◌++◌, ap, append-nil, if◌then◌else◌, inl, inr, sym, subst}
-use Rattle.json_lines.specs.Lines.{IsJson}
+use Rattle.json_texts.specs.Lines.{IsJson}
 use Rattle.text_out.specs.Out.{OutState}
 use Rattle.text_out.specs.Printing.{Printing, Prints, printing}
 use Rattle.journal.specs.Entries.{Entry}

@@ -2,9 +2,9 @@
 use Rattle.std.proofs.Common.{ℕ, suc, List, [], ◌∷◌, ◌++◌, Option, Some, None, map}
 use Rattle.std.specs.Prelude.{codes}
 use Rattle.serde_json.specs.Data.{Data}
-use Rattle.json_lines.specs.Facts.{letters}
-use Rattle.json_lines.specs.Small.{IsReadable, IsSmall}
-use Rattle.json_lines.proofs.Small.{AreSmall, HasSmall, has_all, small_count, small_letters, small_list, small_map, small_object}
+use Rattle.json_texts.specs.Facts.{letters}
+use Rattle.json_texts.specs.Small.{IsReadable, IsSmall}
+use Rattle.json_texts.proofs.Small.{AreSmall, HasSmall, has_all, small_count, small_letters, small_list, small_map, small_object}
 use Rattle.program_texts.specs.declared.stop.Stop.{Stop}
 use Rattle.help.specs.declared.message.Other.{Other}
 use Rattle.help.specs.declared.message.Point.{Point}

@@ -1,10 +1,10 @@
 -- That what is told of two programs on the same inputs can be read.
 use Rattle.std.proofs.Common.{ℕ, ◌-◌, nat_lt, Bool, true, false, ℤ, List, [], ◌∷◌, codes, length, lit≤}
 use Rattle.std.specs.Prelude.{Option, Some, None, if◌then◌else◌}
-use Rattle.json_lines.specs.Facts.{large}
-use Rattle.json_lines.specs.Small.{IsReadable, IsSmall}
-use Rattle.json_lines.proofs.Small.{HasSmall, has_all, small_large, small_letters, small_object, small_value, small_values, small_word}
-use Rattle.json_lines.proofs.Small.{smaller}
+use Rattle.json_texts.specs.Facts.{large}
+use Rattle.json_texts.specs.Small.{IsReadable, IsSmall}
+use Rattle.json_texts.proofs.Small.{HasSmall, has_all, small_large, small_letters, small_object, small_value, small_values, small_word}
+use Rattle.json_texts.proofs.Small.{smaller}
 use Rattle.pram_model.specs.Layout.{SharedEntry}
 use Rattle.comparing.specs.Found.{Differing, Found}
 use Rattle.comparing.specs.declared.difference.Difference.{Difference}

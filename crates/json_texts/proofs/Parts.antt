@@ -3,7 +3,7 @@ use Rattle.std.proofs.Common.{◌≡◌, ◌∙◌, ℕ, Bool, true, false, List
 use Rattle.std.proofs.Common.{sym}
 use Rattle.pram_model.specs.Layout.{SharedEntry}
 use Rattle.pram_trees.specs.Program.{ProgramTree}
-use Rattle.json_lines.specs.Lines.{IsJson}
+use Rattle.json_texts.specs.Lines.{IsJson}
 use Rattle.json_texts.specs.StepFacts.{steps_from}
 use Rattle.text_out.specs.Out.{OutState, with_bytes}
 use Rattle.text_out.specs.Printing.{Printing, Prints, printing}

@@ -1,12 +1,12 @@
 -- What is told can be read: it has no float, and nests five levels at most.
 use Rattle.std.proofs.Common.{ℕ, ◌+◌, List, [], ◌∷◌, ◌++◌, length, lit≤, map, arith, refl}
 use Rattle.std.specs.Prelude.{Bool, true, false, ℤ, Option, Some, None, codes, slice_get}
-use Rattle.json_lines.specs.Facts.{Field, count, list, object_of, value}
+use Rattle.json_texts.specs.Facts.{Field, count, list, object_of, value}
 use Rattle.serde_json.specs.Data.{Data}
 use Rattle.std.specs.List.{flat_map}
-use Rattle.json_lines.specs.Small.{IsReadable, IsSmall}
-use Rattle.json_lines.proofs.Small.{AreSmall, HasSmall, has_all, small_count, small_flag, small_large, small_letters}
-use Rattle.json_lines.proofs.Small.{small_list, small_map, small_object, small_value, small_values, small_word, smaller}
+use Rattle.json_texts.specs.Small.{IsReadable, IsSmall}
+use Rattle.json_texts.proofs.Small.{AreSmall, HasSmall, has_all, small_count, small_flag, small_large, small_letters}
+use Rattle.json_texts.proofs.Small.{small_list, small_map, small_object, small_value, small_values, small_word, smaller}
 use Rattle.pram_model.specs.Layout.{SharedEntry, subscripts}
 use Rattle.pram_model.specs.declared.rule.Rule.{Rule}
 use Rattle.pram_check.specs.Checked.{Checked}

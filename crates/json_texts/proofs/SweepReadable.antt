@@ -1,7 +1,7 @@
 -- That what is told of a sweep can be read.
 use Rattle.std.proofs.Common.{ℕ, List, ◌∷◌, ◌++◌, codes, lit≤}
-use Rattle.json_lines.specs.Small.{IsReadable}
-use Rattle.json_lines.proofs.Small.{HasSmall, has_all, small_count, small_large, small_letters, small_object, small_word, smaller}
+use Rattle.json_texts.specs.Small.{IsReadable}
+use Rattle.json_texts.proofs.Small.{HasSmall, has_all, small_count, small_large, small_letters, small_object, small_word, smaller}
 use Rattle.sweeps.specs.declared.growth.Growth.{Growth}
 use Rattle.sweeps.specs.declared.growth.Growth.TheVariants.{Formula as ByFormula, Doubling, Nothing}
 use Rattle.sweeps.specs.declared.growths.Growths.{Growths}

@@ -1,7 +1,7 @@
 -- What JSON says of an accepted program.
 use Rattle.std.specs.Prelude.{List, [], ◌∷◌, true, codes}
 use Rattle.serde_json.specs.Data.{Data}
-use Rattle.json_lines.specs.Facts.{Field, count, flag, object_of, word}
+use Rattle.json_texts.specs.Facts.{Field, count, flag, object_of, word}
 use Rattle.pram_model.specs.Layout.{total_size}
 use Rattle.pram_model.specs.Rules.{rule_word}
 use Rattle.pram_check.specs.Checked.{Checked}

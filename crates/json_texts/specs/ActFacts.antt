@@ -1,7 +1,7 @@
 -- What JSON says of what processors did in a statement.
 use Rattle.std.specs.Prelude.{ℕ, ℤ, List, [], ◌∷◌, Option, Some, None, codes, map}
 use Rattle.serde_json.specs.Data.{Data, null}
-use Rattle.json_lines.specs.Facts.{count, letters, list, object_of, value}
+use Rattle.json_texts.specs.Facts.{count, letters, list, object_of, value}
 use Rattle.pram_model.specs.Layout.{SharedEntry}
 use Rattle.program_texts.specs.Shown.{cell_text}
 use Rattle.journal.specs.declared.reading.Reading.{Reading}

@@ -1,7 +1,7 @@
 -- What JSON says of why a statement faults.
 use Rattle.std.specs.Prelude.{ℕ, ℤ, List, [], ◌∷◌, Option, Some, None, codes, map, slice_get}
 use Rattle.serde_json.specs.Data.{Data}
-use Rattle.json_lines.specs.Facts.{Field, count, letters, list, object_of, value, values}
+use Rattle.json_texts.specs.Facts.{Field, count, letters, list, object_of, value, values}
 use Rattle.pram_model.specs.Layout.{SharedEntry, subscripts}
 use Rattle.pram_printer.specs.Spelling.{binary_text, prefix_text}
 use Rattle.write_rules.specs.declared.write.Write.{Write}

@@ -1,7 +1,7 @@
 -- What JSON says of the costs of a run.
 use Rattle.std.specs.Prelude.{ℕ, List, [], ◌∷◌, ◌++◌, Bool, true, false, Option, Some, None, codes, map}
 use Rattle.serde_json.specs.Data.{Data}
-use Rattle.json_lines.specs.Facts.{Field, count, large, list, object_of}
+use Rattle.json_texts.specs.Facts.{Field, count, large, list, object_of}
 use Rattle.pram_model.specs.Layout.{SharedEntry}
 use Rattle.write_rules.specs.Verdict.{Verdict, Ended, Faulted, GoesOn}
 use Rattle.costs.specs.declared.cost.Cost.{Cost}

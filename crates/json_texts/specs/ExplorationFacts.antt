@@ -1,7 +1,7 @@
 -- What JSON says of what is found on every input of a scope.
 use Rattle.std.specs.Prelude.{ℕ, ℤ, List, [], ◌∷◌, ◌++◌, Option, Some, None, codes, map}
 use Rattle.serde_json.specs.Data.{Data}
-use Rattle.json_lines.specs.Facts.{Field, large, list, object_of, values}
+use Rattle.json_texts.specs.Facts.{Field, large, list, object_of, values}
 use Rattle.pram_model.specs.Layout.{SharedEntry}
 use Rattle.scopes.specs.Firsts.{Met}
 use Rattle.scopes.specs.Found.{Found}

@@ -1,3 +1,7 @@
+pub mod Facts
+pub mod Lines
+pub mod Shown
+pub mod Small
 pub mod OutcomeFacts
 pub mod AcceptedFacts
 pub mod RefusalFacts

@@ -1,7 +1,7 @@
 -- What JSON says of a refusal and of its message.
 use Rattle.std.specs.Prelude.{ℕ, List, [], ◌∷◌, ◌++◌, Option, Some, None, codes, map}
 use Rattle.serde_json.specs.Data.{Data}
-use Rattle.json_lines.specs.Facts.{Field, count, letters, list, object_of}
+use Rattle.json_texts.specs.Facts.{Field, count, letters, list, object_of}
 use Rattle.program_texts.specs.declared.stop.Stop.{Stop}
 use Rattle.help.specs.declared.message.Other.{Other}
 use Rattle.help.specs.declared.message.Point.{Point}

@@ -1,7 +1,7 @@
 -- What JSON says of an outcome.
 use Rattle.std.specs.Prelude.{ℤ, List, [], ◌∷◌, Option, Some, None, codes, if◌then◌else◌, map}
 use Rattle.serde_json.specs.Data.{Data}
-use Rattle.json_lines.specs.Facts.{Field, count, letters, list, object_of, value, values, word}
+use Rattle.json_texts.specs.Facts.{Field, count, letters, list, object_of, value, values, word}
 use Rattle.memory_texts.specs.Chosen.{chosen, is_chosen}
 use Rattle.memory_texts.specs.declared.choice.Choice.{Choice}
 use Rattle.memory_texts.specs.declared.choice.Choice.TheVariants.{All}

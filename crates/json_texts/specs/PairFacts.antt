@@ -1,7 +1,7 @@
 -- What JSON says of what is found of two programs on the same inputs.
 use Rattle.std.specs.Prelude.{ℕ, ◌-◌, nat_lt, if◌then◌else◌, ℤ, List, [], ◌∷◌, ◌++◌, Option, Some, None, codes, length, map}
 use Rattle.serde_json.specs.Data.{Data}
-use Rattle.json_lines.specs.Facts.{Field, large, letters, object_of, value, values, word}
+use Rattle.json_texts.specs.Facts.{Field, large, letters, object_of, value, values, word}
 use Rattle.pram_model.specs.Layout.{SharedEntry}
 use Rattle.program_texts.specs.Shown.{cell_text}
 use Rattle.comparing.specs.Found.{Differing, Found}

@@ -1,7 +1,7 @@
 -- What JSON says of a refusal.
 use Rattle.std.specs.Prelude.{ℕ, List, [], ◌∷◌, ◌++◌, Option, Some, None, codes, length}
 use Rattle.serde_json.specs.Data.{Data}
-use Rattle.json_lines.specs.Facts.{Field, count, object_of, word}
+use Rattle.json_texts.specs.Facts.{Field, count, object_of, word}
 use Rattle.pram_names.specs.declared.fault.Limit.{Limit}
 use Rattle.pram_names.specs.declared.fault.Spot.{Spot}
 use Rattle.pram_names.specs.declared.fault.Spot.TheVariants as spot

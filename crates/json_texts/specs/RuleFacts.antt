@@ -1,7 +1,7 @@
 -- What JSON says of a program under each of the five rules.
 use Rattle.std.specs.Prelude.{ℕ, Bool, true, List, [], ◌∷◌, ◌++◌, codes, map}
 use Rattle.serde_json.specs.Data.{Data}
-use Rattle.json_lines.specs.Facts.{Field, flag, list, object_of, word}
+use Rattle.json_texts.specs.Facts.{Field, flag, list, object_of, word}
 use Rattle.pram_model.specs.Layout.{SharedEntry}
 use Rattle.pram_model.specs.Rules.{rule_word}
 use Rattle.pram_model.specs.declared.rule.Rule.{Rule}

@@ -1,7 +1,7 @@
 -- What JSON says of a sweep over sizes.
 use Rattle.std.specs.Prelude.{ℕ, ◌||◌, if◌then◌else◌, List, [], ◌∷◌, ◌++◌, codes, map}
 use Rattle.serde_json.specs.Data.{Data}
-use Rattle.json_lines.specs.Facts.{Field, count, large, letters, object_of, word}
+use Rattle.json_texts.specs.Facts.{Field, count, large, letters, object_of, word}
 use Rattle.sweeps.specs.declared.growth.Growth.{Growth}
 use Rattle.sweeps.specs.GrowthText.{growth_words, is_told}
 use Rattle.sweeps.specs.declared.growths.Growths.{Growths}

@@ -2,7 +2,7 @@
 use Rattle.std.specs.Prelude.{ℕ, ◌+◌, ◌-◌, List, [], ◌∷◌, ◌++◌, Option, Some, None, codes}
 use Rattle.std.specs.List.{slice_get}
 use Rattle.serde_json.specs.Data.{Data}
-use Rattle.json_lines.specs.Facts.{Field, count, counts, large, object_of, word}
+use Rattle.json_texts.specs.Facts.{Field, count, counts, large, object_of, word}
 use Rattle.superstep_machine.specs.Run.{Purpose, Sends, Replies, Votes, Closes}
 use Rattle.superstep_machine.specs.Trace.{Exchange, relation_of}
 use Rattle.write_rules.specs.Verdict.{Verdict, Ended, Faulted, GoesOn}

@@ -1,12 +1,12 @@
 //! Accepted programs.
 
 ghost use Rattle.std.specs.Prelude.{◌≡◌, ◌∷◌, [], IfOk, OnOk, string_bytes};
-ghost use Rattle.json_lines.specs.Facts.{with_fields};
-ghost use Rattle.json_lines.specs.Lines.{IsJson};
-ghost use Rattle.json_lines.specs.Shown.{shown};
+ghost use Rattle.json_texts.specs.Facts.{with_fields};
+ghost use Rattle.json_texts.specs.Lines.{IsJson};
+ghost use Rattle.json_texts.specs.Shown.{shown};
 ghost use Rattle.json_texts.specs.AcceptedFacts as spec;
 
-use json_lines::{Object, Value, line_of};
+use crate::{Object, Value, line_of};
 use pram_check::Program;
 use std::alloc::{AllocError, Global};
 

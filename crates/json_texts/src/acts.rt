@@ -2,14 +2,15 @@
 
 ghost use Rattle.std.specs.Prelude.{◌≡◌, IfOk, map};
 ghost use Rattle.serde_json.specs.View.{view};
-ghost use Rattle.json_lines.specs.Facts.{letters};
+ghost use Rattle.json_texts.specs.Facts.{letters};
 ghost use Rattle.program_texts.specs.Shown as texts;
 ghost use Rattle.journal.specs.Entries.{act_is};
 ghost use Rattle.json_texts.specs.ActFacts as spec;
 
 use crate::fault::cell_text;
+use crate::values::value_of;
+use crate::{Object, Value};
 use journal::{Act, Reading};
-use json_lines::{Object, Value, value_of};
 use pram_trees::Layout;
 use std::alloc::{AllocError, Global};
 

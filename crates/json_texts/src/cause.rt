@@ -2,14 +2,14 @@
 
 ghost use Rattle.std.specs.Prelude.{◌≡◌, ◌∷◌, [], IfOk, OnOk, map, slice_get};
 ghost use Rattle.serde_json.specs.View.{view};
-ghost use Rattle.json_lines.specs.Facts.{with_fields};
-ghost use Rattle.json_lines.specs.Shown.{shown};
+ghost use Rattle.json_texts.specs.Facts.{with_fields};
+ghost use Rattle.json_texts.specs.Shown.{shown};
 ghost use Rattle.journal.specs.Causes.{cause_is, known_cause};
 ghost use Rattle.journal.specs.Causes as told;
 ghost use Rattle.json_texts.specs.CauseFacts as spec;
 
+use crate::{Object, Value};
 use journal::Cause;
-use json_lines::{Object, Value};
 use pram_printer::{binary_text, prefix_text};
 use pram_trees::{Binary, Layout, Prefix, Range};
 use std::alloc::{AllocError, Global};

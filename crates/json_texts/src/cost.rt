@@ -2,15 +2,15 @@
 
 ghost use Rattle.std.specs.Prelude.{◌≡◌, ◌∷◌, [], IfOk, OnOk, Some, map, string_bytes};
 ghost use Rattle.serde_json.specs.View.{view};
-ghost use Rattle.json_lines.specs.Facts.{with_fields};
-ghost use Rattle.json_lines.specs.Lines.{IsJson};
-ghost use Rattle.json_lines.specs.Shown.{shown};
+ghost use Rattle.json_texts.specs.Facts.{with_fields};
+ghost use Rattle.json_texts.specs.Lines.{IsJson};
+ghost use Rattle.json_texts.specs.Shown.{shown};
 ghost use Rattle.write_rules.specs.Verdict.{verdict_of};
 ghost use Rattle.json_texts.specs.CostFacts as spec;
 
 use crate::outcome::put_outcome;
+use crate::{Object, Value, line_of};
 use costs::{Cost, LineCost};
-use json_lines::{Object, Value, line_of};
 use memory_texts::Choice;
 use pram_trees::Layout;
 use std::alloc::{AllocError, Global};

@@ -4,12 +4,13 @@ ghost use Rattle.std.specs.Prelude.{◌≡◌, ◌≤◌, IfOk, OnOk, length};
 ghost use Rattle.serde_json.specs.View.{view};
 ghost use Rattle.superstep_machine.specs.Purposes.{purpose_is};
 ghost use Rattle.exchange_counts.specs.CountedExchanges.{exchange_at};
-ghost use Rattle.json_lines.specs.Facts.{with_fields};
-ghost use Rattle.json_lines.specs.Shown.{shown};
+ghost use Rattle.json_texts.specs.Facts.{with_fields};
+ghost use Rattle.json_texts.specs.Shown.{shown};
 ghost use Rattle.json_texts.specs.TraceFacts as spec;
 
+use crate::values::counts_of;
+use crate::{Object, Value};
 use exchange_counts::{Counts, Purpose};
-use json_lines::{Object, Value, counts_of};
 use std::alloc::{AllocError, Global};
 
 fn purpose_word(purpose: Purpose) -> &'static str

@@ -1,13 +1,13 @@
 //! Faults.
 
 ghost use Rattle.std.specs.Prelude.{◌≡◌, IfOk, OnOk, Some};
-ghost use Rattle.json_lines.specs.Facts.{with_fields};
-ghost use Rattle.json_lines.specs.Shown.{shown};
+ghost use Rattle.json_texts.specs.Facts.{with_fields};
+ghost use Rattle.json_texts.specs.Shown.{shown};
 ghost use Rattle.text_out.specs.Out.{Writes};
 ghost use Rattle.program_texts.specs.Shown as texts;
 ghost use Rattle.json_texts.specs.OutcomeFacts as spec;
 
-use json_lines::Object;
+use crate::Object;
 use pram_trees::Layout;
 use pram_values::Place;
 use program_texts::{kind_word, write_cell, write_place};

@@ -2,12 +2,12 @@
 
 ghost use Rattle.std.specs.Prelude.{◌≡◌, ◌++◌, IfOk, OnOk, drop, map, take};
 ghost use Rattle.serde_json.specs.View.{view};
-ghost use Rattle.json_lines.specs.Facts.{with_fields};
-ghost use Rattle.json_lines.specs.Shown.{shown};
+ghost use Rattle.json_texts.specs.Facts.{with_fields};
+ghost use Rattle.json_texts.specs.Shown.{shown};
 ghost use Rattle.memory_texts.specs.Chosen.{chosen};
 ghost use Rattle.json_texts.specs.OutcomeFacts as spec;
 
-use json_lines::{Object, Value};
+use crate::{Object, Value};
 use memory_texts::{Choice, is_chosen};
 use pram_trees::Layout;
 use std::alloc::{AllocError, Global};

@@ -3,16 +3,16 @@
 ghost use Rattle.std.specs.Prelude.{◌≡◌, ◌∷◌, ◌++◌, [], IfOk, OnOk, Some, codes, map, string_bytes};
 ghost use Rattle.std.specs.Option.{option_map};
 ghost use Rattle.serde_json.specs.View.{view};
-ghost use Rattle.json_lines.specs.Facts.{letters, with_fields};
-ghost use Rattle.json_lines.specs.Lines.{IsJson};
-ghost use Rattle.json_lines.specs.Shown.{shown};
+ghost use Rattle.json_texts.specs.Facts.{letters, with_fields};
+ghost use Rattle.json_texts.specs.Lines.{IsJson};
+ghost use Rattle.json_texts.specs.Shown.{shown};
 ghost use Rattle.help.specs.GnuLines.{other_note, other_place};
 ghost use Rattle.help.specs.Messages.{message_is};
 ghost use Rattle.json_texts.specs.MessageFacts as spec;
 
 use crate::refusal::put_stop;
+use crate::{Object, Value, line_of};
 use help::{Message, Other, Point};
-use json_lines::{Object, Value, line_of};
 use program_texts::Stop;
 use std::alloc::{AllocError, Global};
 use text_places::place_of;

@@ -6,9 +6,9 @@ ghost use Rattle.serde_json.specs.View.{view};
 ghost use Rattle.journal.specs.Entries.{own_is};
 ghost use Rattle.json_texts.specs.StepFacts as spec;
 
+use crate::{Object, Value};
 use help::local_name;
 use journal::OwnLocals;
-use json_lines::{Object, Value};
 use pram_trees::Tree;
 use std::alloc::{AllocError, Global};
 

@@ -3,14 +3,15 @@
 ghost use Rattle.std.specs.Prelude.{◌≡◌, ◌∷◌, ◌++◌, [], IfOk, OnOk, map, string_bytes};
 ghost use Rattle.serde_json.specs.View.{view};
 ghost use Rattle.comparing.specs.Found.{differing_is, found_is};
-ghost use Rattle.json_lines.specs.Facts.{with_fields};
-ghost use Rattle.json_lines.specs.Lines.{Adds, IsJson};
-ghost use Rattle.json_lines.specs.Shown.{shown};
+ghost use Rattle.json_texts.specs.Facts.{with_fields};
+ghost use Rattle.json_texts.specs.Lines.{Adds, IsJson};
+ghost use Rattle.json_texts.specs.Shown.{shown};
 ghost use Rattle.json_texts.specs.PairFacts as spec;
 
 use crate::fault::{cell_text, put_fault};
+use crate::line::push_line;
+use crate::{Object, Value};
 use comparing::{Comparison, Difference, Ending, FoundDifference};
-use json_lines::{Object, Value, push_line};
 use pram_trees::Layout;
 use std::alloc::{AllocError, Global};
 

@@ -1,13 +1,13 @@
 //! Refusals.
 
 ghost use Rattle.std.specs.Prelude.{◌≡◌, ℕ, List, ◌∷◌, [], OnOk};
-ghost use Rattle.json_lines.specs.Facts.{with_fields};
-ghost use Rattle.json_lines.specs.Lines.{IsJson};
-ghost use Rattle.json_lines.specs.Shown.{shown};
+ghost use Rattle.json_texts.specs.Facts.{with_fields};
+ghost use Rattle.json_texts.specs.Lines.{IsJson};
+ghost use Rattle.json_texts.specs.Shown.{shown};
 ghost use Rattle.program_texts.specs.Stopped as texts;
 ghost use Rattle.json_texts.specs.RefusalFacts as spec;
 
-use json_lines::Object;
+use crate::Object;
 use pram_check::{Limit, Spot};
 use pram_trees::TextFault;
 use program_texts::{Number, Refusal, Stop, limit_word};

@@ -2,15 +2,15 @@
 
 ghost use Rattle.std.specs.Prelude.{◌≡◌, ◌∷◌, [], IfOk, OnOk, map, string_bytes};
 ghost use Rattle.serde_json.specs.View.{view};
-ghost use Rattle.json_lines.specs.Facts.{with_fields};
-ghost use Rattle.json_lines.specs.Lines.{IsJson};
-ghost use Rattle.json_lines.specs.Shown.{shown};
+ghost use Rattle.json_texts.specs.Facts.{with_fields};
+ghost use Rattle.json_texts.specs.Lines.{IsJson};
+ghost use Rattle.json_texts.specs.Shown.{shown};
 ghost use Rattle.comparing.specs.Compared.{rules as all_rules};
 ghost use Rattle.json_texts.specs.RuleFacts as spec;
 
 use crate::fault::put_fault;
+use crate::{Object, Value, line_of};
 use comparing::{Finding, UnderRules};
-use json_lines::{Object, Value, line_of};
 use pram_trees::{Layout, Rule};
 use std::alloc::{AllocError, Global};
 

@@ -2,9 +2,9 @@
 
 ghost use Rattle.std.specs.Prelude.{◌≡◌, ◌∷◌, [], IfOk, OnOk, map, string_bytes};
 ghost use Rattle.serde_json.specs.View.{view};
-ghost use Rattle.json_lines.specs.Facts.{with_fields};
-ghost use Rattle.json_lines.specs.Lines.{IsJson};
-ghost use Rattle.json_lines.specs.Shown.{shown};
+ghost use Rattle.json_texts.specs.Facts.{with_fields};
+ghost use Rattle.json_texts.specs.Lines.{IsJson};
+ghost use Rattle.json_texts.specs.Shown.{shown};
 ghost use Rattle.journal.specs.Causes.{known_cause};
 ghost use Rattle.journal.specs.Entries.{act_is, entry_is};
 ghost use Rattle.journal.specs.Entries as entry;
@@ -14,9 +14,9 @@ use crate::acts::acts_facts;
 use crate::cause::put_known;
 use crate::fault::{cell_text, put_fault};
 use crate::own_locals::own_facts;
+use crate::{Object, Value, line_of};
 use help::{local_name, variable_name};
 use journal::{Act, Cause, Change, Entry, LocalChange};
-use json_lines::{Object, Value, line_of};
 use pram_trees::{Layout, Location, Tree};
 use std::alloc::{AllocError, Global};
 use text_places::place_of;

@@ -2,7 +2,7 @@
 
 ghost use Rattle.std.proofs.Common.{◌∙◌};
 ghost use Rattle.std.specs.Prelude.{◌≡◌, ◌<◌, ◌+◌, ◌^◌, ◌-◌, ◌∷◌, [], List, IfOk, OnOk, OnErr, refl, string_bytes, true, ℕ};
-ghost use Rattle.json_lines.specs.Lines.{IsJson};
+ghost use Rattle.json_texts.specs.Lines.{IsJson};
 ghost use Rattle.json_texts.specs.StepFacts.{step_facts};
 ghost use Rattle.text_out.specs.Printing.{Prints, printing};
 ghost use Rattle.journal.specs.Entries.{entry_is};

@@ -2,14 +2,15 @@
 
 ghost use Rattle.std.specs.Prelude.{◌≡◌, ◌∷◌, [], IfOk, OnOk, Some, map, string_bytes};
 ghost use Rattle.serde_json.specs.View.{view};
-ghost use Rattle.json_lines.specs.Facts.{with_fields};
-ghost use Rattle.json_lines.specs.Lines.{Adds, IsJson};
-ghost use Rattle.json_lines.specs.Shown.{shown};
+ghost use Rattle.json_texts.specs.Facts.{with_fields};
+ghost use Rattle.json_texts.specs.Lines.{Adds, IsJson};
+ghost use Rattle.json_texts.specs.Shown.{shown};
 ghost use Rattle.sweeps.specs.GrowthText.{growth_words};
 ghost use Rattle.json_texts.specs.SweepFacts as spec;
 
 use crate::cost::put_most;
-use json_lines::{Object, Value, push_line};
+use crate::line::push_line;
+use crate::{Object, Value};
 use std::alloc::{AllocError, Global};
 use sweeps::{Counts, Ending, Growth, Growths, SizeRow, write_growth_words};
 use text_out::{Buffer, Out, WriteFault};

@@ -2,16 +2,17 @@
 
 ghost use Rattle.std.specs.Prelude.{◌≡◌, ◌≤◌, ◌∷◌, [], IfOk, OnOk, length, string_bytes};
 ghost use Rattle.serde_json.specs.View.{view};
-ghost use Rattle.json_lines.specs.Facts.{with_fields};
-ghost use Rattle.json_lines.specs.Lines.{Adds, IsJson};
-ghost use Rattle.json_lines.specs.Shown.{shown};
+ghost use Rattle.json_texts.specs.Facts.{with_fields};
+ghost use Rattle.json_texts.specs.Lines.{Adds, IsJson};
+ghost use Rattle.json_texts.specs.Shown.{shown};
 ghost use Rattle.write_rules.specs.Verdict.{verdict_of};
 ghost use Rattle.exchange_counts.specs.CountedExchanges.{exchange_at};
 ghost use Rattle.json_texts.specs.TraceFacts as spec;
 
 use crate::exchange::{exchange_facts, line_of};
+use crate::line::push_line;
+use crate::{Object, Value};
 use exchange_counts::Counts;
-use json_lines::{Object, Value, push_line};
 use std::alloc::{AllocError, Global};
 use write_rules::Outcome;
 

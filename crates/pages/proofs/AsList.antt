@@ -22,16 +22,16 @@ use Rattle.serde_json.specs.View.{items_of}
 use Rattle.serde_json.specs.Written.{compact_text, items_outline, items_text, members_outline, outline}
 use Rattle.serde_json.proofs.Numbers.{number_of-decimal}
 use Rattle.serde_json.proofs.Texts.{print-outline}
-use Rattle.json_lines.specs.Facts.{list}
-use Rattle.json_lines.specs.Lines.{IsJson, ReadsBack, json_line, json_lines}
-use Rattle.json_lines.specs.Small.{IsSmall}
+use Rattle.json_texts.specs.Facts.{list}
+use Rattle.json_texts.specs.Lines.{IsJson, ReadsBack, json_line, json_lines}
+use Rattle.json_texts.specs.Small.{IsSmall}
 use Rattle.pages.specs.Cut.{IsBack, IsCut, room}
 use Rattle.pages.specs.Facts.{BeginsLine, both_text, embedded, facts_text, gap_text, line_count, state_room, state_shown}
 use Rattle.pages.specs.Stand.{AreTold, CutFactsAreRead, FactsAreRead, IsReadAs, OutcomeIsRead, gap_fact}
 use Rattle.pages.proofs.Integers.{AreRead, EachOfItems, EachOfMembers, HasIntegers, IsInteger, those_read}
 use Rattle.pages.proofs.Embedding.{embedded-append}
 use Rattle.pages.proofs.LineEnds.{IsCutAt, all_at, cut_at, first_told, last_alone, last_at, last_begins, last_length, last_line}
-use Rattle.json_lines.proofs.Json.{json_lines-append}
+use Rattle.json_texts.proofs.Json.{json_lines-append}
 use Rattle.pages.proofs.LineEnds.{lines_end, ordered, whole_begins}
 use Rattle.pages.proofs.Lexed.{AreKept, decimal_kept, kept-append, tokens_embedded}
 

@@ -17,8 +17,8 @@ use Rattle.serde_json.specs.Data.{no_members, member, depth, put}
 use Rattle.serde_json.specs.Find.{is_float}
 use Rattle.serde_json.specs.Read.{float_of, is_integer, max_depth, number_from, number_of, of_items, of_json, of_members, read}
 use Rattle.serde_json.specs.Written.{compact_text, has_float, items_have_float, members_have_float}
-use Rattle.json_lines.specs.Lines.{ReadsBack}
-use Rattle.json_lines.specs.Small.{IsSmall}
+use Rattle.json_texts.specs.Lines.{ReadsBack}
+use Rattle.json_texts.specs.Small.{IsSmall}
 
 -- ---- each number of some data
 

@@ -14,8 +14,8 @@ use Rattle.serde_json.specs.Data.{unsigned, negative, float, Data, null, boolean
 use Rattle.serde_json.specs.Data.{Members}
 use Rattle.serde_json.specs.Data.{no_members, member}
 use Rattle.serde_json.specs.Written.{comma_if, compact_text, items_text, members_text}
-use Rattle.json_lines.proofs.Json.{json_lines-append}
-use Rattle.json_lines.specs.Lines.{json_line, json_lines}
+use Rattle.json_texts.proofs.Json.{json_lines-append}
+use Rattle.json_texts.specs.Lines.{json_line, json_lines}
 use Rattle.pages.specs.Cut.{IsLastLine}
 use Rattle.pages.specs.Facts.{BeginsLine, line_count, line_end}
 use Rattle.pages.proofs.Integers.{AreRead, EachOfItems, EachOfMembers, HasIntegers, IsInteger}

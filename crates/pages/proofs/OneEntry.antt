@@ -5,7 +5,7 @@ use Rattle.std.proofs.lemmas.Bool.{le-leb, lt-leb}
 use Rattle.std.proofs.lemmas.List.{take_all}
 use Rattle.std.specs.List.{fold}
 use Rattle.serde_json.specs.Data.{Data}
-use Rattle.json_lines.specs.Lines.{IsJson}
+use Rattle.json_texts.specs.Lines.{IsJson}
 use Rattle.json_texts.specs.StepFacts.{step_facts, step_within, steps_from}
 use Rattle.journal.specs.Entries.{Entry}
 use Rattle.pages.specs.Kept.{Holds}

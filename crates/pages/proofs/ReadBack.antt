@@ -17,9 +17,9 @@ use Rattle.write_rules.specs.declared.outcome.Outcome.{Outcome}
 use Rattle.journal.specs.Entries.{Entry}
 use Rattle.journal.specs.Replay.{with_cells, with_printed, with_variables}
 use Rattle.journal.specs.RunEntries.{entries_of, run_entries}
-use Rattle.json_lines.specs.Lines.{IsJson}
-use Rattle.json_lines.specs.Small.{IsSmall}
-use Rattle.json_lines.proofs.Json.{adds_nothing, adds_then}
+use Rattle.json_texts.specs.Lines.{IsJson}
+use Rattle.json_texts.specs.Small.{IsSmall}
+use Rattle.json_texts.proofs.Json.{adds_nothing, adds_then}
 use Rattle.json_texts.specs.OutcomeFacts.{outcome_facts}
 use Rattle.json_texts.specs.StepFacts.{step_facts, step_within, steps_from}
 use Rattle.json_texts.proofs.Readable.{shallow_outcome, shallow_step}

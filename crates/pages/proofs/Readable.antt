@@ -3,11 +3,11 @@ use Rattle.std.proofs.Common.{◌++◌, List, [], ◌∷◌, ℕ, lit≤}
 use Rattle.std.specs.List.{flat_map}
 use Rattle.std.specs.Prelude.{ℤ, codes, map}
 use Rattle.serde_json.specs.Data.{Data}
-use Rattle.json_lines.specs.Facts.{list}
-use Rattle.json_lines.specs.Small.{IsReadable, IsSmall}
-use Rattle.json_lines.proofs.Small.{AreSmall, HasSmall, has_all, small_count, small_letters, small_list, small_map, small_object}
-use Rattle.json_lines.proofs.Small.{small_value}
-use Rattle.json_lines.proofs.Small.{small_values, small_word, smaller}
+use Rattle.json_texts.specs.Facts.{list}
+use Rattle.json_texts.specs.Small.{IsReadable, IsSmall}
+use Rattle.json_texts.proofs.Small.{AreSmall, HasSmall, has_all, small_count, small_letters, small_list, small_map, small_object}
+use Rattle.json_texts.proofs.Small.{small_value}
+use Rattle.json_texts.proofs.Small.{small_values, small_word, smaller}
 use Rattle.pram_model.specs.declared.rule.Rule.{Rule}
 use Rattle.pram_trees.specs.declared.tree.Declaration.{Declaration}
 use Rattle.pram_trees.specs.declared.tree.Declaration.TheVariants as declare

@@ -3,8 +3,8 @@ use Rattle.std.proofs.Common.{◌≡◌, ◌∙◌, ◌<◌, ◌≤◌, ◌+◌,
 use Rattle.std.proofs.Common.{length, min, nat_lt, refl, subst, sym, take}
 use Rattle.std.specs.List.{fold}
 use Rattle.serde_json.specs.Data.{Data}
-use Rattle.json_lines.specs.Lines.{IsJson}
-use Rattle.json_lines.proofs.Json.{adds_then}
+use Rattle.json_texts.specs.Lines.{IsJson}
+use Rattle.json_texts.proofs.Json.{adds_then}
 use Rattle.json_texts.specs.OutcomeFacts.{outcome_facts}
 use Rattle.json_texts.specs.StepFacts.{steps_facts, steps_from}
 use Rattle.pram_model.specs.Layout.{SharedEntry}

@@ -2,7 +2,7 @@
 use Rattle.std.specs.Prelude.{◌≡◌, ◌+◌, ◌-◌, ℕ, ℤ, List, [], ◌∷◌, ◌++◌, Bool, true, false, length, take}
 use Rattle.std.specs.List.{fold}
 use Rattle.serde_json.specs.Data.{Data}
-use Rattle.json_lines.specs.Lines.{IsJson}
+use Rattle.json_texts.specs.Lines.{IsJson}
 use Rattle.json_texts.specs.StepFacts.{steps_from}
 use Rattle.journal.specs.Entries.{Entry}
 use Rattle.pages.specs.Kept.{Holds}

@@ -4,7 +4,7 @@ use Rattle.std.proofs.lemmas.Grind.{fold-append}
 use Rattle.std.proofs.lemmas.List.{append-nil, length-append, take_all}
 use Rattle.std.specs.List.{fold}
 use Rattle.serde_json.specs.Data.{Data}
-use Rattle.json_lines.proofs.Json.{adds_nothing, adds_then}
+use Rattle.json_texts.proofs.Json.{adds_nothing, adds_then}
 use Rattle.json_texts.specs.StepFacts.{step_within, steps_from}
 use Rattle.pram_model.specs.Layout.{SharedEntry}
 use Rattle.pram_trees.specs.Program.{ProgramTree}

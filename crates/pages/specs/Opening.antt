@@ -2,7 +2,7 @@
 use Rattle.std.specs.Prelude.{ℕ, ℤ, List, [], ◌∷◌, ◌++◌, codes, map}
 use Rattle.std.specs.List.{flat_map}
 use Rattle.serde_json.specs.Data.{Data}
-use Rattle.json_lines.specs.Facts.{Field, count, letters, list, object_of, value, values, word}
+use Rattle.json_texts.specs.Facts.{Field, count, letters, list, object_of, value, values, word}
 use Rattle.pram_model.specs.Rules.{rule_word}
 use Rattle.pram_model.specs.declared.rule.Rule.{Rule}
 use Rattle.pram_trees.specs.declared.tree.Declaration.{Declaration}

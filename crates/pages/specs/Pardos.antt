@@ -1,7 +1,7 @@
 -- The pardos of a program, as facts: where each begins, its index, and the names of its locals.
 use Rattle.std.specs.Prelude.{List, [], ◌∷◌, ◌++◌, Option, Some, None, codes, map}
 use Rattle.serde_json.specs.Data.{Data}
-use Rattle.json_lines.specs.Facts.{count, letters, list, object_of}
+use Rattle.json_texts.specs.Facts.{count, letters, list, object_of}
 use Rattle.pram_tokens.specs.declared.token.Location.{Location}
 use Rattle.pram_tokens.specs.declared.token.Name.{Name}
 use Rattle.pram_trees.specs.declared.tree.Stmt.{Stmt}

@@ -8,8 +8,8 @@ use Rattle.write_rules.specs.Verdict.{verdict_of}
 use Rattle.write_rules.specs.declared.outcome.Outcome.{Outcome}
 use Rattle.journal.specs.Entries.{Entry}
 use Rattle.journal.specs.RunEntries.{run_entries}
-use Rattle.json_lines.specs.Facts.{list}
-use Rattle.json_lines.specs.Lines.{json_line}
+use Rattle.json_texts.specs.Facts.{list}
+use Rattle.json_texts.specs.Lines.{json_line}
 use Rattle.json_texts.specs.OutcomeFacts.{outcome_facts}
 use Rattle.json_texts.specs.StepFacts.{steps_from}
 use Rattle.pages.specs.Cut.{gap_end, room}

@@ -3,9 +3,9 @@ use Rattle.std.specs.Prelude.{◌≡◌, ℕ, ◌-◌, ◌<◌, ◌≤◌, ◌^�
 use Rattle.std.specs.Prelude.{◌&&◌, All, if◌then◌else◌, nat_le, nat_lt}
 use Rattle.serde_json.specs.Data.{Data}
 use Rattle.serde_json.specs.Read.{read}
-use Rattle.json_lines.specs.Facts.{count, list, object_of}
-use Rattle.json_lines.specs.Lines.{IsJson, json_line}
-use Rattle.json_lines.specs.Small.{IsSmall}
+use Rattle.json_texts.specs.Facts.{count, list, object_of}
+use Rattle.json_texts.specs.Lines.{IsJson, json_line}
+use Rattle.json_texts.specs.Small.{IsSmall}
 use Rattle.pages.specs.Cut.{IsCut, room}
 use Rattle.pages.specs.Facts.{embedded, facts_text, state_room}
 

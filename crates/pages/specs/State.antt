@@ -2,7 +2,7 @@
 use Rattle.std.specs.Prelude.{ℕ, ℤ, List, [], ◌∷◌, codes, take}
 use Rattle.std.specs.List.{fold}
 use Rattle.serde_json.specs.Data.{Data}
-use Rattle.json_lines.specs.Facts.{Field, count, object_of, values}
+use Rattle.json_texts.specs.Facts.{Field, count, object_of, values}
 use Rattle.journal.specs.Entries.{Entry}
 use Rattle.journal.specs.Replay.{with_cells, with_printed, with_variables}
 

@@ -2,7 +2,7 @@
 
 ghost use Rattle.std.proofs.Common.{◌∙◌};
 ghost use Rattle.std.specs.Prelude.{⊤, ◌≡◌, ◌∷◌, [], IfOk, refl, string_bytes};
-ghost use Rattle.json_lines.specs.Lines.{IsJson};
+ghost use Rattle.json_texts.specs.Lines.{IsJson};
 ghost use Rattle.json_texts.specs.StepFacts.{step_facts};
 ghost use Rattle.journal.specs.Entries.{entry_is};
 ghost use Rattle.pages.specs.GatheredLaws.{gathers_nothing, gathers_on};

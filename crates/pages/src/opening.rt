@@ -3,13 +3,13 @@
 ghost use Rattle.std.specs.Prelude.{◌≡◌, ◌∷◌, ◌++◌, [], IfOk, OnOk, map, string_bytes};
 ghost use Rattle.std.specs.List.{flat_map};
 ghost use Rattle.serde_json.specs.View.{view};
-ghost use Rattle.json_lines.specs.Facts.{letters as letters_of, with_fields};
-ghost use Rattle.json_lines.specs.Lines.{IsJson};
-ghost use Rattle.json_lines.specs.Shown.{shown};
+ghost use Rattle.json_texts.specs.Facts.{letters as letters_of, with_fields};
+ghost use Rattle.json_texts.specs.Lines.{IsJson};
+ghost use Rattle.json_texts.specs.Shown.{shown};
 ghost use Rattle.pages.specs.Opening as spec;
 
 use crate::pardos::pardos_facts;
-use json_lines::{Object, Value, line_of};
+use json_texts::{Object, Value, line_of};
 use pram_trees::{Declaration, Name, Numeral, Rule, Tree};
 use std::alloc::{AllocError, Global};
 

@@ -4,7 +4,7 @@ ghost use Rattle.std.specs.Prelude.{◌≡◌, IfOk, OnOk, map};
 ghost use Rattle.serde_json.specs.View.{view};
 ghost use Rattle.pages.specs.Pardos as spec;
 
-use json_lines::{Object, Value};
+use json_texts::{Object, Value};
 use pram_trees::{Location, Name, Stmt};
 use std::alloc::{AllocError, Global};
 

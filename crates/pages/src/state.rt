@@ -3,13 +3,13 @@
 ghost use Rattle.std.specs.Prelude.{◌≡◌, ◌<◌, ◌∷◌, [], ℤ, IfOk, OnOk, length, string_bytes};
 ghost use Rattle.std.specs.List.{fold};
 ghost use Rattle.serde_json.specs.View.{view};
-ghost use Rattle.json_lines.specs.Lines.{IsJson};
+ghost use Rattle.json_texts.specs.Lines.{IsJson};
 ghost use Rattle.journal.specs.Entries.{entry_is};
 ghost use Rattle.journal.specs.Replay as replay;
 ghost use Rattle.pages.specs.State as spec;
 
 use journal::{Change, Entry};
-use json_lines::{Object, Value, line_of};
+use json_texts::{Object, Value, line_of};
 use std::alloc::{AllocError, Global};
 
 // Puts zeros behind values, up to a number.

@@ -1,5 +1,5 @@
 use Rattle.std.proofs.Common.{◌<◌, subst}
-use Rattle.json_lines.specs.Shown.{shown}
+use Rattle.json_texts.specs.Shown.{shown}
 use Rattle.json_texts.proofs.CauseLemmas.{if_put, told_beyond}
 use Rattle.json_texts.proofs.cause.put_beyond.Goals as goal
 

@@ -1,5 +1,5 @@
 use Rattle.std.proofs.Common.{subst, sym}
-use Rattle.json_lines.specs.Small.{IsReadable}
+use Rattle.json_texts.specs.Small.{IsReadable}
 use Rattle.write_rules.specs.Verdict.{verdict_of}
 use Rattle.json_texts.proofs.Readable.{readable_cost}
 use Rattle.json_texts.proofs.cost.json_cost.Goals as goal

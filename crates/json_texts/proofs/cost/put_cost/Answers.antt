@@ -1,7 +1,7 @@
 use Rattle.std.proofs.Common.{◌++◌}
 use Rattle.std.proofs.lemmas.Result.{on_ok_weaker}
-use Rattle.json_lines.proofs.Small.{put_then}
-use Rattle.json_lines.specs.Shown.{shown}
+use Rattle.json_texts.proofs.Small.{put_then}
+use Rattle.json_texts.specs.Shown.{shown}
 use Rattle.write_rules.specs.Verdict.{verdict_of}
 use Rattle.json_texts.specs.CostFacts.{bound_fields, line_fields, round_fields, work_fields}
 use Rattle.json_texts.specs.OutcomeFacts.{outcome_fields}

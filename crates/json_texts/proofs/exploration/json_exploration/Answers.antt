@@ -1,5 +1,5 @@
 use Rattle.std.proofs.Common.{subst, sym}
-use Rattle.json_lines.specs.Small.{IsReadable}
+use Rattle.json_texts.specs.Small.{IsReadable}
 use Rattle.json_texts.proofs.ExplorationReadable.{readable_exploration}
 use Rattle.json_texts.proofs.exploration.json_exploration.Goals as goal
 

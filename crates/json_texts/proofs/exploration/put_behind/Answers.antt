@@ -1,6 +1,6 @@
 use Rattle.std.proofs.lemmas.Result.{on_ok_weaker}
-use Rattle.json_lines.proofs.Small.{put_then}
-use Rattle.json_lines.specs.Shown.{shown}
+use Rattle.json_texts.proofs.Small.{put_then}
+use Rattle.json_texts.specs.Shown.{shown}
 use Rattle.scopes.specs.Found.{found_is}
 use Rattle.json_texts.specs.ExplorationFacts.{cost_fields, going_on_fields}
 use Rattle.json_texts.proofs.exploration.put_behind.Goals as goal

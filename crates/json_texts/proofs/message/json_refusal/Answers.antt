@@ -1,5 +1,5 @@
 use Rattle.std.proofs.Common.{subst, sym}
-use Rattle.json_lines.specs.Small.{IsReadable}
+use Rattle.json_texts.specs.Small.{IsReadable}
 use Rattle.help.specs.Messages.{message_is}
 use Rattle.json_texts.proofs.MessageReadable.{readable_refusal}
 use Rattle.json_texts.proofs.message.json_refusal.Goals as goal

@@ -1,6 +1,6 @@
 use Rattle.std.proofs.Common.{◌≡◌, map, take}
 use Rattle.serde_json.specs.View.{view}
-use Rattle.json_lines.specs.Facts.{letters}
+use Rattle.json_texts.specs.Facts.{letters}
 use Rattle.json_texts.proofs.message.texts_of.Given as goal
 
 abbrev pub invariant-loop-text : goal.invariant-loop-text

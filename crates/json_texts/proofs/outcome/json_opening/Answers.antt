@@ -1,5 +1,5 @@
 use Rattle.std.proofs.Common.{subst, sym}
-use Rattle.json_lines.specs.Small.{IsReadable}
+use Rattle.json_texts.specs.Small.{IsReadable}
 use Rattle.json_texts.proofs.Readable.{readable_opening}
 use Rattle.json_texts.proofs.outcome.json_opening.Goals as goal
 

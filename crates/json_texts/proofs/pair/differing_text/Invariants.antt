@@ -1,5 +1,5 @@
 use Rattle.std.proofs.Common.{drop, map, string_bytes}
-use Rattle.json_lines.proofs.Json.{SoFar}
+use Rattle.json_texts.proofs.Json.{SoFar}
 use Rattle.comparing.specs.Found.{differing_is}
 use Rattle.json_texts.specs.PairFacts.{differing_facts}
 use Rattle.json_texts.proofs.pair.differing_text.Given as goal

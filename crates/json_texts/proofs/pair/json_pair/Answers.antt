@@ -1,7 +1,7 @@
 use Rattle.std.proofs.Common.{[], ◌∷◌, List, map, subst}
 use Rattle.std.specs.Prelude.{string_bytes}
-use Rattle.json_lines.proofs.Json.{adds_then}
-use Rattle.json_lines.specs.Lines.{IsJson}
+use Rattle.json_texts.proofs.Json.{adds_then}
+use Rattle.json_texts.specs.Lines.{IsJson}
 use Rattle.comparing.specs.Found.{differing_is, found_is}
 use Rattle.comparing.specs.declared.comparison.FoundDifference.{FoundDifference}
 use Rattle.json_texts.specs.PairFacts.{differing_facts, whole_facts}

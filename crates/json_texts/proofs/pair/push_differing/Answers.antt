@@ -1,5 +1,5 @@
 use Rattle.std.proofs.Common.{subst, sym}
-use Rattle.json_lines.specs.Small.{IsReadable}
+use Rattle.json_texts.specs.Small.{IsReadable}
 use Rattle.comparing.specs.Found.{differing_is}
 use Rattle.json_texts.proofs.PairReadable.{readable_differing}
 use Rattle.json_texts.proofs.pair.push_differing.Goals as goal

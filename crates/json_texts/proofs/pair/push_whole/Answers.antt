@@ -1,5 +1,5 @@
 use Rattle.std.proofs.Common.{subst, sym}
-use Rattle.json_lines.specs.Small.{IsReadable}
+use Rattle.json_texts.specs.Small.{IsReadable}
 use Rattle.comparing.specs.Found.{found_is}
 use Rattle.json_texts.proofs.PairReadable.{readable_whole}
 use Rattle.json_texts.proofs.pair.push_whole.Goals as goal

@@ -1,7 +1,7 @@
 use Rattle.std.proofs.lemmas.Result.{on_ok_weaker}
 use Rattle.std.specs.Prelude.{codes}
-use Rattle.json_lines.proofs.Small.{put_then}
-use Rattle.json_lines.specs.Shown.{shown}
+use Rattle.json_texts.proofs.Small.{put_then}
+use Rattle.json_texts.specs.Shown.{shown}
 use Rattle.json_texts.specs.PairFacts.{value_fields}
 use Rattle.json_texts.proofs.pair.put_both.Goals as goal
 

@@ -1,8 +1,8 @@
 use Rattle.std.proofs.Common.{◌∙◌, ap, List, map}
 use Rattle.std.proofs.lemmas.Result.{on_ok_weaker}
-use Rattle.json_lines.proofs.Small.{put_then}
-use Rattle.json_lines.specs.Facts.{with_fields}
-use Rattle.json_lines.specs.Shown.{shown}
+use Rattle.json_texts.proofs.Small.{put_then}
+use Rattle.json_texts.specs.Facts.{with_fields}
+use Rattle.json_texts.specs.Shown.{shown}
 use Rattle.comparing.specs.Found.{differing_is, found_is}
 use Rattle.comparing.specs.declared.comparison.FoundDifference.{FoundDifference}
 use Rattle.json_texts.specs.PairFacts.{first_fields, told_fields}

@@ -1,5 +1,5 @@
 use Rattle.std.proofs.Common.{subst, sym}
-use Rattle.json_lines.specs.Small.{IsReadable}
+use Rattle.json_texts.specs.Small.{IsReadable}
 use Rattle.json_texts.proofs.Readable.{readable_comparison}
 use Rattle.json_texts.proofs.rules.json_comparison.Goals as goal
 

@@ -1,5 +1,5 @@
 use Rattle.std.proofs.Common.{subst, sym}
-use Rattle.json_lines.specs.Small.{IsReadable}
+use Rattle.json_texts.specs.Small.{IsReadable}
 use Rattle.journal.specs.Entries.{entry_is}
 use Rattle.json_texts.proofs.Readable.{readable_step}
 use Rattle.json_texts.proofs.steps.json_step.Goals as goal

@@ -1,5 +1,5 @@
 use Rattle.std.proofs.Common.{[], map}
-use Rattle.json_lines.proofs.Json.{adds_then}
+use Rattle.json_texts.proofs.Json.{adds_then}
 use Rattle.json_texts.specs.SweepFacts.{last_facts, row_facts}
 use Rattle.json_texts.proofs.sweep.json_sweep.Goals as goal
 

@@ -1,5 +1,5 @@
 use Rattle.std.proofs.Common.{subst, sym}
-use Rattle.json_lines.specs.Small.{IsReadable}
+use Rattle.json_texts.specs.Small.{IsReadable}
 use Rattle.json_texts.proofs.SweepReadable.{readable_row}
 use Rattle.json_texts.proofs.sweep.push_row.Goals as goal
 

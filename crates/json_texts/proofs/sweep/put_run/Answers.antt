@@ -1,8 +1,8 @@
 use Rattle.std.proofs.Common.{List, [], ◌∷◌, ◌++◌, codes}
 use Rattle.std.proofs.lemmas.Result.{on_ok_weaker}
-use Rattle.json_lines.proofs.Small.{put_then}
-use Rattle.json_lines.specs.Facts.{Field, word}
-use Rattle.json_lines.specs.Shown.{shown}
+use Rattle.json_texts.proofs.Small.{put_then}
+use Rattle.json_texts.specs.Facts.{Field, word}
+use Rattle.json_texts.specs.Shown.{shown}
 use Rattle.json_texts.specs.CostFacts.{most_fields}
 use Rattle.json_texts.specs.SweepFacts.{count_fields}
 use Rattle.json_texts.proofs.sweep.put_run.Goals as goal

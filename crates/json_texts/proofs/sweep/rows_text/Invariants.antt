@@ -1,5 +1,5 @@
 use Rattle.std.proofs.Common.{drop, map, string_bytes}
-use Rattle.json_lines.proofs.Json.{SoFar}
+use Rattle.json_texts.proofs.Json.{SoFar}
 use Rattle.json_texts.specs.SweepFacts.{row_facts}
 use Rattle.json_texts.proofs.sweep.rows_text.Given as goal
 

@@ -1,5 +1,5 @@
 use Rattle.std.proofs.Common.{◌∙◌, ◌<◌, ◌+◌, ◌∷◌, [], ap, arith, drop, length, sym}
-use Rattle.json_lines.proofs.Json.{goes_on}
+use Rattle.json_texts.proofs.Json.{goes_on}
 use Rattle.exchange_counts.specs.CountedExchanges.{exchange_at}
 use Rattle.json_texts.specs.TraceFacts.{exchange_facts, exchanges_from}
 use Rattle.json_texts.proofs.ExchangeFacts.{exchanges_at}

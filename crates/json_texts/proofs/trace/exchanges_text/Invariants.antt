@@ -1,5 +1,5 @@
 use Rattle.std.proofs.Common.{◌+◌, drop, string_bytes}
-use Rattle.json_lines.proofs.Json.{SoFar}
+use Rattle.json_texts.proofs.Json.{SoFar}
 use Rattle.json_texts.specs.TraceFacts.{exchanges_from}
 use Rattle.json_texts.proofs.trace.exchanges_text.Given as goal
 

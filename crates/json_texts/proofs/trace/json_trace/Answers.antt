@@ -1,5 +1,5 @@
 use Rattle.std.proofs.Common.{◌∷◌, []}
-use Rattle.json_lines.proofs.Json.{adds_then}
+use Rattle.json_texts.proofs.Json.{adds_then}
 use Rattle.write_rules.specs.Verdict.{verdict_of}
 use Rattle.json_texts.specs.TraceFacts.{exchanges_from, way_facts}
 use Rattle.json_texts.proofs.trace.json_trace.Goals as goal

@@ -1,5 +1,5 @@
 use Rattle.std.proofs.Common.{subst, sym}
-use Rattle.json_lines.specs.Small.{IsReadable}
+use Rattle.json_texts.specs.Small.{IsReadable}
 use Rattle.exchange_counts.specs.CountedExchanges.{exchange_at}
 use Rattle.json_texts.proofs.ExchangeFacts.{readable_exchange}
 use Rattle.json_texts.proofs.trace.push_exchange.Goals as goal

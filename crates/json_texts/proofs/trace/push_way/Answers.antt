@@ -1,5 +1,5 @@
 use Rattle.std.proofs.Common.{subst, sym}
-use Rattle.json_lines.specs.Small.{IsReadable}
+use Rattle.json_texts.specs.Small.{IsReadable}
 use Rattle.json_texts.proofs.ExchangeFacts.{readable_way}
 use Rattle.json_texts.proofs.trace.push_way.Goals as goal
 

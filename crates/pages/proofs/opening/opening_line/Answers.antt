@@ -1,5 +1,5 @@
 use Rattle.std.proofs.Common.{subst, sym}
-use Rattle.json_lines.specs.Small.{IsReadable}
+use Rattle.json_texts.specs.Small.{IsReadable}
 use Rattle.pages.proofs.Readable.{readable_opening}
 use Rattle.pages.proofs.opening.opening_line.Goals as goal
 

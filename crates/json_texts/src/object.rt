@@ -3,8 +3,8 @@
 ghost use Rattle.std.specs.Prelude.{◌≡◌, OnOk, OnErr, map};
 ghost use Rattle.serde_json.specs.Data.{no_members, object, put as with_member};
 ghost use Rattle.serde_json.specs.View.{view};
-ghost use Rattle.json_lines.specs.Facts as facts;
-ghost use Rattle.json_lines.specs.Shown.{shown};
+ghost use Rattle.json_texts.specs.Facts as facts;
+ghost use Rattle.json_texts.specs.Shown.{shown};
 
 use crate::values::{large_of, letters_of, value_of, values_of};
 use serde_json::{Map, Value, put};

@@ -3,7 +3,7 @@
 ghost use Rattle.std.specs.Prelude.{◌≡◌, IfOk, decimal};
 ghost use Rattle.serde_json.specs.Data.{string};
 ghost use Rattle.serde_json.specs.View.{view};
-ghost use Rattle.json_lines.specs.Facts as facts;
+ghost use Rattle.json_texts.specs.Facts as facts;
 
 use itoa::Buffer;
 use serde_json::Value;
@@ -18,7 +18,7 @@ pub(crate) fn letters_of(alloc: Global, bytes: &[u8]) -> Result<Value, AllocErro
 }
 
 /// A value of a program: a string, in decimal.
-pub fn value_of(alloc: Global, value: i64) -> Result<Value, AllocError>
+pub(crate) fn value_of(alloc: Global, value: i64) -> Result<Value, AllocError>
     ensures { IfOk result (λ v. view v ≡ facts.value value) }
 {
     let mut digits = Buffer::new();
@@ -58,7 +58,7 @@ pub(crate) fn values_of(alloc: Global, values: &[i64]) -> Result<Value, AllocErr
 }
 
 /// Counts, in order.
-pub fn counts_of(alloc: Global, counts: &[u64]) -> Result<Value, AllocError>
+pub(crate) fn counts_of(alloc: Global, counts: &[u64]) -> Result<Value, AllocError>
     ensures { IfOk result (λ v. view v ≡ facts.counts counts.now) }
 {
     let mut list = Vec::new(alloc);

@@ -2,17 +2,16 @@
 
 ghost use Rattle.std.specs.Prelude.{◌∷◌, [], IfOk, OnOk, string_bytes};
 ghost use Rattle.serde_json.specs.View.{view};
-ghost use Rattle.json_lines.specs.Lines.{Adds, IsJson};
-ghost use Rattle.json_lines.specs.Small.{IsReadable};
+ghost use Rattle.json_texts.specs.Lines.{Adds, IsJson};
+ghost use Rattle.json_texts.specs.Small.{IsReadable};
 
 use serde_json::Value;
 use std::alloc::{AllocError, Global};
 
 /// Puts facts behind a text, as JSON on a line. Where memory was refused the text is as it was, or has the facts without the end of
 /// their line.
-pub fn push_line(alloc: Global, text: &mut String, facts: &Value) -> Result<(), AllocError>
+pub(crate) fn push_line(alloc: Global, text: &mut String, facts: &Value) -> Result<(), AllocError>
     requires readable { IsReadable (view facts.now) }
-    // The facts stand behind the text as one line of compact JSON, and the reader's definition gives them back.
     ensures json { OnOk result (Adds (view facts.now ∷ []) (string_bytes text.old) (string_bytes text.new)) }
 {
     let json = facts.to_string(alloc)?;

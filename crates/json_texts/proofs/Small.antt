@@ -9,8 +9,8 @@ use Rattle.serde_json.specs.Data.{Data, number, string, unsigned, Items, Members
 use Rattle.serde_json.specs.Data.{put}
 use Rattle.serde_json.specs.View.{items_of}
 use Rattle.serde_json.specs.Written.{has_float, items_have_float, members_have_float}
-use Rattle.json_lines.specs.Facts.{Field, count, counts, flag, large, letters, list, object_of, value, values, with_fields, word}
-use Rattle.json_lines.specs.Small.{IsSmall}
+use Rattle.json_texts.specs.Facts.{Field, count, counts, flag, large, letters, list, object_of, value, values, with_fields, word}
+use Rattle.json_texts.specs.Small.{IsSmall}
 
 -- ---- texts and numbers
 

@@ -4,7 +4,7 @@ use Rattle.std.specs.Prelude.{All}
 use Rattle.std.proofs.lemmas.List.{append-nil}
 use Rattle.std.proofs.lemmas.List.Elements.{All-append, All-nil}
 use Rattle.serde_json.specs.Data.{Data}
-use Rattle.json_lines.specs.Lines.{Adds, IsJson, ReadsBack, json_line, json_lines}
+use Rattle.json_texts.specs.Lines.{Adds, IsJson, ReadsBack, json_line, json_lines}
 
 pub json_lines-append : (ds es : List Data) → json_lines (ds ++ es) ≡ json_lines ds ++ json_lines es
 json_lines-append [] es = refl

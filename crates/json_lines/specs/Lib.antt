@@ -1,4 +1,0 @@
-pub mod Facts
-pub mod Lines
-pub mod Shown
-pub mod Small
