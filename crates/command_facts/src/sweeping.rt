@@ -24,14 +24,13 @@ use costs::Cost;
 use diagnoses::{Halted, write_refused_line};
 use pram_trees::Layout;
 use program_texts::{Refusal, Stop};
-use progress_lines::Unwatched;
 use sized_texts::{SizeFault, Sweep, fill, read_sweep};
 use std::alloc::{AllocError, Global};
 use std::str;
 use std::sync::Wait;
 use std::thread::Threads;
 use sweeps::{Counts, Ending, SizeRow, growths_of};
-use system_files::Sources;
+use system_files::{Sources, Unwatched};
 use text_out::Buffer;
 use write_rules::{Fault, Outcome};
 

@@ -3,11 +3,10 @@
 
 use command_line::{Terminal, command};
 use command_words::CommandLine;
-use progress_lines::{ErrorStream, ProgressLine};
 use std::io::{IsTerminal, Print};
 use std::process::ExitCode;
 use std::{env, io};
-use system_files::{Stream, SystemFiles};
+use system_files::{ErrorStream, ProgressLine, Stream, SystemFiles};
 use text_out::Out;
 
 // Standard error, to which all threads of a call can write.

@@ -11,7 +11,6 @@ pub use program_runs::{
 pub use program_texts::{
     Refusal, Status, Stop, mean_program, meaning_of_text, read_program, show, write_stop,
 };
-pub use progress_lines::{ErrorStream, ProgressLine, Unwatched};
 pub use run_options::{MapChoice, Options, Reserve};
-pub use system_files::{Beside, SourceFault, Sources};
+pub use system_files::{Beside, ErrorStream, ProgressLine, SourceFault, Sources, Unwatched};
 pub use workers::{Gate, OpenGate};
