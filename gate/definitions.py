@@ -10,7 +10,7 @@ from pathlib import Path
 
 TOP = Path(__file__).resolve().parent.parent
 PAGE = TOP / "docs/BELIEVE.md"
-CALLS = ["program_runs", "command_text", "command_json", "command_line"]
+CALLS = ["program_runs", "command_text", "command_json", "pramc"]
 ROW = re.compile(r"^\| `([a-z_]+)/specs/(\w+)` \| (\d+) \|", re.M)
 USE = re.compile(r"^(?:ghost )?use Rattle\.(?P<file>[a-z_]+\.specs\.[A-Z]\w*)(?:\.\{(?P<names>[^}]*)\})?(?: as (?P<alias>\w+))?;?$", re.M)
 TOOLS = re.compile(r"^\| `([a-z_]+)/specs` \| ([^|]*) \|", re.M)

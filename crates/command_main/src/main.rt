@@ -1,12 +1,11 @@
 //! The program `pramc`, over the system's files and streams.
 #![tactic(auto)]
 
-use command_line::{Terminal, command};
-use command_words::CommandLine;
+use pramc::{CommandLine, ErrorStream, ProgressLine, Terminal, command};
 use std::io::{IsTerminal, Print};
 use std::process::ExitCode;
 use std::{env, io};
-use system_files::{ErrorStream, ProgressLine, Stream, SystemFiles};
+use system_files::{Stream, SystemFiles};
 use text_out::Out;
 
 // Standard error, to which all threads of a call can write.

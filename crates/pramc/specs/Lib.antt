@@ -9,4 +9,4 @@ pub use Rattle.program_texts.specs.Stopped
 pub use Rattle.program_texts.specs.StoppedFields
 pub use Rattle.system_files.specs.Held
 pub use Rattle.system_files.specs.Files
-pub use Rattle.command_line.specs.Command
+pub mod Command

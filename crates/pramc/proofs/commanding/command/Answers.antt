@@ -1,8 +1,8 @@
 use Rattle.std.proofs.Common.{◌∙◌, false, map, subst, sym}
 use Rattle.std.specs.String.{string_bytes}
 use Rattle.command_text.specs.declared.terminal.Terminal.{Terminal}
-use Rattle.command_line.specs.Command as spec
-use Rattle.command_line.proofs.commanding.command.Goals as goal
+use Rattle.pramc.specs.Command as spec
+use Rattle.pramc.proofs.commanding.command.Goals as goal
 
 pub returns-then-asks_for_json : goal.returns-then-asks_for_json
 returns-then-asks_for_json g c =

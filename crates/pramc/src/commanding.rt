@@ -2,7 +2,7 @@
 
 ghost use Rattle.std.specs.Prelude.{◌≡◌, map};
 ghost use Rattle.std.specs.String.{string_bytes};
-ghost use Rattle.command_line.specs.Command as spec;
+ghost use Rattle.pramc.specs.Command as spec;
 
 use command_facts::answer;
 use command_json::Json;
