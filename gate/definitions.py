@@ -12,8 +12,8 @@ TOP = Path(__file__).resolve().parent.parent
 PAGE = TOP / "docs/BELIEVE.md"
 CALLS = ["program_runs", "command_text", "command_json", "pramc"]
 ROW = re.compile(r"^\| `([a-z_]+)/specs/(\w+)` \| (\d+) \|", re.M)
-USE = re.compile(r"^(?:ghost )?use Rattle\.(?P<file>[a-z_]+\.specs\.[A-Z]\w*)(?:\.\{(?P<names>[^}]*)\})?(?: as (?P<alias>\w+))?;?$", re.M)
-TOOLS = re.compile(r"^\| `([a-z_]+)/specs` \| ([^|]*) \|", re.M)
+USE = re.compile(r"^(?:ghost )?use Rattle\.(?P<file>[a-z_]+\.specs(?:\.[A-Z]\w*)+)(?:\.\{(?P<names>[^}]*)\})?(?: as (?P<alias>\w+))?;?$", re.M)
+TOOLS = re.compile(r"^\| `([a-z_]+/specs(?:/\w+)?)` \| ([^|]*) \|", re.M)
 BEGIN = re.compile(r"^(?:pub )?(?:abbrev|record|data|unfoldable)(?: pub)? (\S+)")
 AMONG = re.compile(r"^  (?:pub )?(\S+) : ")
 CLAUSES = re.compile(r"^ *pub fn .*?^ *\{$", re.M | re.S)
@@ -22,7 +22,7 @@ WORD = re.compile(r"[^\s(){}\[\],;]+")
 
 def path_of(file):
     crate, name = file.split(".specs.")
-    return TOP / "crates" / crate / "specs" / f"{name}.antt"
+    return TOP / "crates" / crate / "specs" / f"{name.replace('.', '/')}.antt"
 
 
 def imports(text):
@@ -96,7 +96,7 @@ def main():
         new = ROW.sub(lambda it: f"| `{it[1]}/specs/{it[2]}` | {lines(f'{it[1]}.specs.{it[2]}')} |", text)
         PAGE.write_text(re.sub(r"\d+ lines in all", f"{sum(map(lines, rows))} lines in all", new))
         return
-    tools = {f"{crate}.specs.{name}" for crate, names in TOOLS.findall(text) for name in re.findall(r"`(\w+)`", names)}
+    tools = {f"{folder.replace('/', '.')}.{name}" for folder, names in TOOLS.findall(text) for name in re.findall(r"`(\w+)`", names)}
     wrong = [f"run {sys.argv[0]} --write for {it}" for it, count in rows.items() if lines(it) != count]
     wrong += [f"{it} is not named" for it in sorted(to_read() - set(rows) - tools)]
     wrong += [f"there is no {it}" for it in sorted({*rows, *tools}) if not path_of(it).exists()]

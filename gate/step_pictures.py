@@ -90,7 +90,7 @@ def wrong(file, *more):
     kinds = {it.tag.removeprefix(SVG) for it in root.iter()}
     checks += [kinds <= {"svg", "title", "defs", "pattern", "rect", "text", "g"}, int(root.get("width")) <= PAGE]
     checks += [root.get("version") == "1.1", root.get("viewBox") == f"0 0 {root.get('width')} {root.get('height')}"]
-    checks += [root.find(f"{SVG}title").text == "a run, statement by statement"]
+    checks += [root.find(f"{SVG}title").text == "A run, statement by statement"]
     return [] if all(checks) else [f"{file.name}: {checks}"]
 
 

@@ -1,7 +1,7 @@
 //! What no clause says: that a picture is made; and pictures of few statements, letter by letter.
 
-use flow_pictures::{CellSpan, Drawing, Flow, write_flow};
 use journal::{Act, Change, Entry};
+use pictures::{CellSpan, Drawing, Flow, write_flow};
 use pram_tokens::Location;
 use pram_trees::Layout;
 use pram_values::{Kind, Place};

@@ -1,8 +1,8 @@
 //! What no clause says: that a picture is made; and pictures of few rows, letter by letter.
 
+use pictures::write_sweep_picture;
 use std::alloc::Global;
 use std::test::Fail;
-use sweep_pictures::write_sweep_picture;
 use sweeps::{Counts, Ending, SizeRow};
 use text_out::{Buffer, WriteFault};
 

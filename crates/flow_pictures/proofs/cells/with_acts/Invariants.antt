@@ -1,5 +1,0 @@
-use Rattle.flow_pictures.proofs.Least.{InActs}
-use Rattle.flow_pictures.proofs.cells.with_acts.Given as goal
-
-abbrev pub invariant-loop-act : goal.invariant-loop-act
-invariant-loop-act l = InActs l.only l.start l.fn.best l.acts l.act-index l.least

@@ -1,5 +1,0 @@
-use Rattle.flow_pictures.proofs.Least.{InReads}
-use Rattle.flow_pictures.proofs.cells.with_reads.Given as goal
-
-abbrev pub invariant-loop-cell : goal.invariant-loop-cell
-invariant-loop-cell l = InReads l.only l.start l.fn.best l.reads l.cell-index l.least

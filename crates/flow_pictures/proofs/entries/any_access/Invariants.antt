@@ -1,8 +1,0 @@
-use Rattle.std.proofs.Common.{◌≡◌, drop, map}
-use Rattle.std.specs.List.{list_any}
-use Rattle.journal.specs.Entries.{act_is}
-use Rattle.flow_pictures.specs.Choice.{is_access}
-use Rattle.flow_pictures.proofs.entries.any_access.Given as goal
-
-abbrev pub invariant-loop-act : goal.invariant-loop-act
-invariant-loop-act l = list_any is_access (map act_is (drop l.act-index l.acts)) ≡ list_any is_access (map act_is l.acts)

@@ -1,8 +1,0 @@
-use Rattle.std.proofs.Common.{◌≡◌, ◌++◌, drop}
-use Rattle.flow_pictures.specs.Subscripts.{steps_at}
-use Rattle.flow_pictures.proofs.inside.+inside.Given as goal
-
--- with those of the statements that are left
-abbrev pub invariant-add_steps-loop-s : goal.invariant-add_steps-loop-s
-invariant-add_steps-loop-s l =
-    l.all.items ++ steps_at l.offset (drop l.s-index l.s-items) ≡ l.fn.all.items ++ steps_at l.offset l.body.items

@@ -1,8 +1,0 @@
-use Rattle.std.proofs.Common.{◌≡◌, ◌++◌, drop}
-use Rattle.flow_pictures.specs.Subscripts.{statements_at}
-use Rattle.flow_pictures.proofs.outside.+outside.Given as goal
-
--- with those of the statements that are left
-abbrev pub invariant-add_statements-loop-s : goal.invariant-add_statements-loop-s
-invariant-add_statements-loop-s l =
-    l.all.items ++ statements_at l.offset (drop l.s-index l.s-items) ≡ l.fn.all.items ++ statements_at l.offset l.body.items

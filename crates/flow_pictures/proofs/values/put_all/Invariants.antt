@@ -1,7 +1,0 @@
-use Rattle.std.proofs.Common.{ℕ}
-use Rattle.flow_pictures.specs.Values.{value_at}
-use Rattle.flow_pictures.proofs.CellValues.{InChanges}
-use Rattle.flow_pictures.proofs.values.put_all.Given as goal
-
-abbrev pub invariant-loop-change : goal.invariant-loop-change
-invariant-loop-change l = (k : ℕ) → InChanges k (value_at l.fn.values.items k) l.changes l.change-index (value_at l.values.items k)

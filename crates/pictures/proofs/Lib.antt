@@ -1,0 +1,4 @@
+pub mod Spelled
+pub mod OfSteps
+pub mod OfFlows
+pub mod OfSizes

@@ -1,0 +1,23 @@
+use Rattle.std.proofs.Common.{refl}
+use Rattle.svg_texts.specs.Shapes.{shape_text}
+use Rattle.pictures.specs.Flows.Picture.{dashed_key, fault_key}
+use Rattle.text_out.proofs.Progress.{breaks_off, closes, goes_on, starts}
+use Rattle.pictures.proofs.flows.key.write_last_key.Goals as goal
+
+pub returns-in_err-write_fault_key : goal.returns-in_err-write_fault_key
+returns-in_err-write_fault_key g c =
+    let part1 = shape_text fault_key in
+    let part2 = shape_text dashed_key in
+    record {
+      written = breaks_off _ _ _ _ _ part1 part2 c.from_residual.result _ c.from_residual.ensures.1 (starts _ _) refl
+          c.in_err-write_fault_key.ensures.written;
+    }
+
+pub returns : goal.returns
+returns g c =
+    let part1 = shape_text fault_key in
+    let part2 = shape_text dashed_key in
+    let after1 = goes_on _ _ _ _ _ part1 part2 (starts _ _) refl c.in_ok-write_fault_key.ensures.written in
+    record {
+      written = closes _ _ _ _ _ c.write_dashed_key.result after1 c.write_dashed_key.ensures.written;
+    }

@@ -1,0 +1,21 @@
+use Rattle.text_out.proofs.Writing.{writes_stopped}
+use Rattle.text_out.proofs.Progress.{goes_on, stops}
+use Rattle.std.proofs.lemmas.List.{get_or_default}
+use Rattle.pictures.specs.Steps.Measures.{column_is}
+use Rattle.pictures.proofs.OfSteps.ColumnTexts.{met_at}
+use Rattle.pictures.proofs.steps.columns.write_all_met.Goals as goal
+
+pub returns-in_err-write_met : goal.returns-in_err-write_met
+returns-in_err-write_met g c =
+    let at = met_at c.args.rows.now (column_is c.args.at) c.args.met.now c.loop-index.index-index _ c.loop-index-test.true
+    (get_or_default c.args.met.now c.loop-index.index-index _ _ c.loop-index-test.true) in
+    record {
+      written = writes_stopped _ _ _ c.from_residual.result _ c.from_residual.ensures.1
+          (stops _ _ _ _ _ _ _ c.loop-index.invariant at c.in_err-write_met.ensures.written);
+    }
+
+pub loop-index-preserved : goal.loop-index-preserved
+loop-index-preserved g c =
+    let at = met_at c.args.rows.now (column_is c.args.at) c.args.met.now c.loop-index.index-index _ c.loop-index-test.true
+    (get_or_default c.args.met.now c.loop-index.index-index _ _ c.loop-index-test.true) in
+    goes_on _ _ _ _ _ _ _ c.loop-index.invariant at c.in_ok-write_met.ensures.written

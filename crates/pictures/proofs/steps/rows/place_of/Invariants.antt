@@ -1,0 +1,12 @@
+use Rattle.std.proofs.Common.{◌≡◌, ◌+◌, ◌-◌, ◌≤◌, length, drop}
+use Rattle.pictures.specs.Steps.Drawn.{place_of}
+use Rattle.pictures.proofs.steps.rows.place_of.Given as goal
+
+abbrev pub invariant-loop-at : goal.invariant-loop-at
+invariant-loop-at l = record {
+  is : l.at + place_of (drop l.at l.rows) l.fn.index ≡ place_of l.rows l.fn.index;
+  within : l.at ≤ length l.rows;
+}
+
+abbrev pub decreases-loop-at : goal.decreases-loop-at
+decreases-loop-at l = length l.rows - l.at

@@ -1,9 +1,0 @@
-use Rattle.std.proofs.Common.{◌≡◌, ◌≤◌, drop, length}
-use Rattle.step_pictures.specs.Drawn.{with_all}
-use Rattle.step_pictures.proofs.rows.offer_all.Given as goal
-
-abbrev pub invariant-loop-index : goal.invariant-loop-index
-invariant-loop-index l = record {
-  so_far : with_all l.rows.items (drop l.index-index l.fn.indices) ≡ with_all l.fn.rows.items l.fn.indices;
-  few : length l.rows.items ≤ 64;
-}
