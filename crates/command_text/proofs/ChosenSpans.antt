@@ -4,7 +4,7 @@ use Rattle.std.specs.Prelude.{IfSome}
 use Rattle.pram_model.specs.Layout.{SharedEntry}
 use Rattle.program_texts.proofs.ShownLemmas.{entry_at, known_at}
 use Rattle.memory_texts.specs.declared.choice.Choice.{Choice}
-use Rattle.flow_pictures.specs.declared.spans.CellSpan.{CellSpan}
+use Rattle.pictures.specs.declared.flows.spans.CellSpan.{CellSpan}
 use Rattle.command_text.specs.Spans.{span_of, spans_from}
 
 -- with the cells of the declaration at i, those of the ones behind it are left

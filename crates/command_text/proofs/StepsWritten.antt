@@ -13,10 +13,10 @@ use Rattle.step_text.specs.Streamed.{HasStreamed}
 use Rattle.step_text.specs.declared.failure.StreamFailure.{StreamFailure}
 use Rattle.step_text.specs.declared.failure.StreamFailure.TheVariants as failure
 use Rattle.pages.specs.Streamed.{HasStreamedPage, IsPageOfRun}
-use Rattle.flow_pictures.specs.declared.spans.CellSpan.{CellSpan}
-use Rattle.flow_pictures.specs.Streamed.{HasStreamedFlow}
+use Rattle.pictures.specs.declared.flows.spans.CellSpan.{CellSpan}
+use Rattle.pictures.specs.Flows.Streamed.{HasStreamedFlow}
 use Rattle.diagnoses.specs.Sources.{text_in}
-use Rattle.step_pictures.specs.Picture.{part_of, picture}
+use Rattle.pictures.specs.Steps.Picture.{part_of, picture}
 use Rattle.svg_texts.specs.Shapes as shapes
 use Rattle.step_text.specs.declared.telling.Telling.{Telling}
 use Rattle.program_texts.specs.Shown.{shown}

@@ -4,7 +4,7 @@ use Rattle.pram_model.specs.Layout.{SharedEntry, cell_of, subscripts}
 use Rattle.memory_texts.specs.Chosen.{is_chosen}
 use Rattle.memory_texts.specs.declared.choice.Choice.{Choice}
 use Rattle.memory_texts.specs.declared.choice.Choice.TheVariants.{All, Named, Nothing}
-use Rattle.flow_pictures.specs.declared.spans.CellSpan.{CellSpan}
+use Rattle.pictures.specs.declared.flows.spans.CellSpan.{CellSpan}
 
 -- from the one cell to the other, where there are both
 abbrev pub span_between : Option ℕ → Option ℕ → List CellSpan

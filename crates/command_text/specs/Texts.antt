@@ -4,11 +4,11 @@ use Rattle.pram_model.specs.Layout.{total_size}
 use Rattle.pram_model.specs.Rules.{rule_word}
 use Rattle.pram_check.specs.Checked.{Checked}
 use Rattle.superstep_listing.specs.Listing.{spelling}
-use Rattle.step_pictures.specs.Picture as steps
-use Rattle.flow_pictures.specs.Asides.{asides_in}
-use Rattle.flow_pictures.specs.Picture.{flow}
+use Rattle.pictures.specs.Steps.Picture as steps
+use Rattle.pictures.specs.Flows.Asides.{asides_in}
+use Rattle.pictures.specs.Flows.Picture.{flow}
 use Rattle.svg_texts.specs.Shapes as shapes
-use Rattle.sweep_pictures.specs.Picture as sweeps
+use Rattle.pictures.specs.Sizes.Picture as sweeps
 use Rattle.svg_texts.specs.Shapes.{picture_text as drawn_text}
 use Rattle.sweeps.specs.CsvText.{csv_text}
 use Rattle.sweeps.specs.SweepText.{sweep_text}

@@ -3,8 +3,8 @@
 ghost use Rattle.std.specs.Prelude.{◌≡◌, ◌<◌, ◌++◌, IfOk, IfSome, OnOk, length, slice_get};
 ghost use Rattle.command_text.specs.Spans as spec;
 
-use flow_pictures::CellSpan;
 use memory_texts::{Choice, is_chosen};
+use pictures::CellSpan;
 use pram_trees::Layout;
 use std::alloc::{AllocError, Global};
 

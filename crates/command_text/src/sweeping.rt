@@ -5,8 +5,8 @@ ghost use Rattle.command_text.specs.Texts.{swept_text, table_text};
 
 use command_facts::FoundSweep;
 use command_requests::Form;
+use pictures::write_sweep_picture;
 use program_texts::{Status, Stop, finish};
-use sweep_pictures::write_sweep_picture;
 use sweeps::{write_sweep, write_sweep_csv};
 use text_out::{Out, WriteFault};
 

@@ -1,7 +1,7 @@
 use Rattle.std.proofs.Common.{◌≡◌, map, subst}
 use Rattle.text_out.specs.Out.{StopsIn, with_bytes}
 use Rattle.journal.specs.Entries.{entry_is}
-use Rattle.step_pictures.specs.Picture.{part_of, picture}
+use Rattle.pictures.specs.Steps.Picture.{part_of, picture}
 use Rattle.svg_texts.specs.Shapes.{picture_text}
 use Rattle.command_facts.proofs.Writing.{cut_off, wrote}
 use Rattle.command_text.proofs.stepping.write_pictured.Goals as goal

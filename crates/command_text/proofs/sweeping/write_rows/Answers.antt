@@ -2,7 +2,7 @@ use Rattle.std.proofs.Common.{List, ℕ, subst, sym}
 use Rattle.text_out.specs.Out.{Writes}
 use Rattle.sweeps.specs.declared.size_row.SizeRow.{SizeRow}
 use Rattle.svg_texts.specs.Shapes.{picture_text}
-use Rattle.sweep_pictures.specs.Picture.{picture}
+use Rattle.pictures.specs.Sizes.Picture.{picture}
 use Rattle.command_requests.specs.declared.form.Form.{Form}
 use Rattle.command_text.specs.Texts.{swept_text}
 use Rattle.command_text.proofs.sweeping.write_rows.Goals as goal
