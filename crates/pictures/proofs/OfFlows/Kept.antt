@@ -1,17 +1,12 @@
 -- What is written of the items of a list that pass a test, one by one.
 use Rattle.std.proofs.Common.{◌≡◌, ◌∙◌, ℕ, ◌+◌, ◌<◌, Bool, true, false, List, ◌∷◌, ◌++◌, ap, cond, drop, get_or, length, map, refl}
 use Rattle.std.proofs.Common.{sym}
-use Rattle.std.proofs.lemmas.List.{at_drop_more}
 use Rattle.std.specs.List.{filter, flat_map}
 use Rattle.std.specs.Prelude.{if◌then◌else◌}
 use Rattle.svg_texts.specs.Shapes.{Shape, Empty, shape_text}
+use Rattle.sweeps.proofs.Items.{at_item}
 use Rattle.pictures.specs.Flows.MarkShapes.{each}
 use Rattle.pictures.proofs.OfFlows.EachShape.{joined}
-
--- what is made of a list from the item x on
-pub at_item : {X Y : Type 0} (F : List X → Y) (xs : List X) (i : ℕ) (x : X) → i < length xs → x ≡ get_or xs i x →
-    F (drop i xs) ≡ F (x ∷ drop (i + 1) xs)
-at_item F xs i x within is = at_drop_more F xs i x within ∙ ap (λ y. F (y ∷ drop (i + 1) xs)) (sym is)
 
 one_kept : {X Y : Type 0} (t : Y → Shape) (m : X → Y) (p : X → Bool) (x : X) (xs : List X) (b : Bool) → b ≡ p x →
     shape_text (each t (map m (filter p (x ∷ xs)))) ≡ shape_text (if b then t (m x) else Empty)
