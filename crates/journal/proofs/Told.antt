@@ -1,6 +1,7 @@
 -- What is told of a moment, as an entry, and that a moment is heard as who is told its entry says.
 use Rattle.std.proofs.Common.{Option, ◌≡◌, ◌∙◌, ℤ, Result, Ok, Err, List, [], ◌∷◌, ◌++◌, map, drop, length, refl, ap, subst, sym}
-use Rattle.std.specs.Result.{OnErr, OnOk}
+use Rattle.std.specs.Result.{OnErr}
+pub use Rattle.costs.proofs.Complete.{given_ok}
 use Rattle.journal.specs.declared.change.Change.{Change}
 use Rattle.journal.specs.declared.local_change.LocalChange.{LocalChange}
 use Rattle.pram_tokens.specs.declared.token.Location.{Location}
@@ -69,20 +70,6 @@ broken_at Tells BreaksOff p a between b m e is w h = Broken e between (sym is) w
 
 -- ---- behind an answer
 
-pub where_ok : {A E : Type 0} (r : Result A E) (P Q : Type 0) → (P → Q) → OnOk r P → OnOk r Q
-where_ok (Ok a) P Q f h = f h
-where_ok (Err e) P Q f h = tt
-
-pub where_refused : {A E : Type 0} (r : Result A E) (P Q : Type 0) → (P → Q) → OnErr r P → OnErr r Q
-where_refused (Ok a) P Q f h = tt
-where_refused (Err e) P Q f h = f h
-
 pub anyway_refused : {A E : Type 0} (r : Result A E) (Q : Type 0) → Q → OnErr r Q
 anyway_refused (Ok a) Q h = tt
 anyway_refused (Err e) Q h = h
-
-pub given_ok : {A E : Type 0} (r : Result A E) (P : Type 0) (a : A) → r ≡ Ok a → OnOk r P → P
-given_ok r P a is h = subst (λ r. OnOk r P) is h
-
-pub given_refused : {A E : Type 0} (r : Result A E) (P : Type 0) (e : E) → r ≡ Err e → OnErr r P → P
-given_refused r P e is h = subst (λ r. OnErr r P) is h

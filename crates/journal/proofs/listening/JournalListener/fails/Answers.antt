@@ -1,8 +1,9 @@
 use Rattle.std.proofs.Common.{[], ◌∷◌, ap, refl}
+use Rattle.std.proofs.lemmas.Result.{on_err_weaker, on_ok_weaker}
 use Rattle.pram_meaning.specs.Listening.{failed}
 use Rattle.journal.specs.Entries.{Entry, entry_is}
 use Rattle.journal.specs.HeardLaws.{Unmade}
-use Rattle.journal.proofs.Told.{anyway_refused, broken_at, heard_told, where_ok, where_refused}
+use Rattle.journal.proofs.Told.{anyway_refused, broken_at, heard_told}
 use Rattle.journal.proofs.listening.JournalListener.fails.Goals as goal
 
 pub returns-then-passes-clause-heard : goal.returns-then-passes-clause-heard
@@ -15,7 +16,7 @@ returns-in_err-fault-clause-refused g c =
 
 pub returns-clause-heard : goal.returns-clause-heard
 returns-clause-heard g c =
-    where_ok c.tell.result _ _
+    on_ok_weaker c.tell.result
     (λ h. heard_told g.T.Teller.tells g.met.T.Teller.tells_on c.args.self.now.program.now c.args.self.now.teller c.passes.new.self
     c.tell.new.self (failed c.args.run.now c.args.location c.args.action.now c.args.trail.now c.args.kind)
     (entry_is c.in_ok-fault.fault) (ap (λ (x : Entry). x ∷ []) c.in_ok-fault.ensures) (c.passes.ensures.waits c.if-passes.false) h)
@@ -23,7 +24,7 @@ returns-clause-heard g c =
 
 pub returns-clause-refused : goal.returns-clause-refused
 returns-clause-refused g c =
-    where_refused c.tell.result _ _
+    on_err_weaker c.tell.result
     (λ h. broken_at g.T.Teller.tells g.T.Teller.breaks_off c.args.self.now.program.now c.args.self.now.teller c.passes.new.self
     c.tell.new.self (failed c.args.run.now c.args.location c.args.action.now c.args.trail.now c.args.kind)
     (entry_is c.in_ok-fault.fault) (ap (λ (x : Entry). x ∷ []) c.in_ok-fault.ensures) (c.passes.ensures.waits c.if-passes.false) h)
