@@ -4,7 +4,8 @@
 editors.py           compares them; and with the table of options, crates/command_words/src/options.rt, the options of
                      which the texts of help, command_requests and the rest of command_words speak
 editors.py --write   writes what is made of that table (gate/options.py): of man/pramc.1 the synopsis and the options,
-                     and of completions/pramc.bash the commands, their options and their values. Then it compares
+                     of completions/pramc.bash the commands, their options and their values, the text of all options of
+                     help, and the names of those that take a word, for command_requests. Then it compares
 """
 import json
 import re
@@ -113,13 +114,14 @@ def lines_apart(there, wanted):
     return {f"{number}: {old}"}, {f"{number}: {new} (run {sys.argv[0]} --write)"} if number else {f"{number}: {new}"}
 
 
+def made():
+    """The files that are made of the table as a whole."""
+    for name, wanted in options.made_files().items():
+        yield name, *lines_apart((TOP / name).read_text(), wanted)
+
+
 def requests():
-    """The options that have words in command_requests: those that take one, and those that don't go with others."""
-    named = re.findall(r'is_same\(word, b"([^"]*)"\)', source("command_requests/src/named.rt"))
-    given = re.findall(r'=> b"([^"]*)"', source("command_requests/src/given.rt"))
-    read = {f"--{word}" for word, value in having() if value not in ("", *options.FILES)}
-    yield "words of named", set(named), read | {"explain"}
-    yield "words of given", set(given), read | {"explain"}
+    """The options that command_requests says don't go with others."""
     said = set(re.findall(r'is_same\(word, b"([^"]*)"\)', source("command_requests/src/sentence.rt")))
     yield "words of sentence", said, said & {f"--{word}" for word, _ in having()}
 
@@ -133,14 +135,12 @@ def refusing():
 
 
 def explained():
-    """The options that the text of each command names, and that of all options."""
-    text = "".join(source(f"help/src/explained/{it}.rt") for it in ("commands", "scopes", "workers", "overviews"))
+    """The options that the text of each command names."""
+    text = "".join(source(f"help/src/explained/{it}.rt") for it in ("commands", "scopes", "workers"))
     texts = dict(re.findall(r'const (\w+): .*?\*b"(.*?)";', text, re.S))
     for name, several in commands().items():
         if several:
             yield f"options of {name}", set(re.findall(r"--(\w[\w-]*)", texts[name.upper()])), set(several)
-    everywhere = {it for several in commands().values() for it in several} | {"help", "version"}
-    yield "options", set(re.findall(r"--(\w[\w-]*)", texts["OPTIONS"])), everywhere
 
 
 def completed(*words):
@@ -171,6 +171,8 @@ def write():
     man, shell = TOP / "man/pramc.1", TOP / "completions/pramc.bash"
     man.write_text(options.with_sections(man.read_text()))
     shell.write_text(options.with_regions(shell.read_text(), subjects()))
+    for name, text in options.made_files().items():
+        (TOP / name).write_text(text)
 
 
 def main():
@@ -181,6 +183,7 @@ def main():
         "editors/textmate": textmate,
         "man/pramc.1": manual,
         "completions/pramc.bash": completions,
+        "made of the table": made,
         "help": explained,
         "command_requests": requests,
         "command_words": refusing,

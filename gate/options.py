@@ -1,5 +1,6 @@
 """The program's commands and their options, by the tables of crates/command_words, and what files make of them."""
 import re
+import textwrap
 from dataclasses import dataclass
 from pathlib import Path
 
@@ -21,6 +22,12 @@ Writes the version of the program, with exit status 0.
 .BR \-h ", " \-\-help
 Writes what there is to say of a command to standard error, with exit status 2.
 """
+# What words stand for besides options of their own names, for command_requests.
+OTHER_WORDS = (
+    ("ToldWorkers", "--workers", "The workers that `cost` tells of, of which there may be any number."),
+    ("Subject", "explain", "What `explain` is to say something of."),
+)
+MADE = "Made of the table of options by `gate/editors.py --write`."
 BELOW, ABOVE = "# made by gate/editors.py --write", "# end"
 
 
@@ -164,3 +171,85 @@ def with_sections(text):
     sections = {"SYNOPSIS": synopsis(), "OPTIONS": options_section()}
     pattern = re.compile(r"^\.SH (SYNOPSIS|OPTIONS)\n.*?(?=^\.SH )", re.M | re.S)
     return pattern.sub(lambda it: f".SH {it[1]}\n{made}{sections[it[1]]}", text)
+
+
+def taking():
+    """The options that take a word other than a file: what stands for each in command_requests, and how it stands on a
+    command line."""
+    words = [word for word, sayings in entries().items() if next(iter(sayings)).value not in ("", *FILES)]
+    return [("".join(it.capitalize() for it in word.split("-")), f"--{word}") for word in words]
+
+
+def given_code():
+    """`Given` of command_requests: the options that take a word, and their names."""
+    several = taking()
+    lines = [f"//! The options that take a word. {MADE}", "", "ghost use Rattle.std.specs.Prelude.{◌≡◌};"]
+    lines += ["ghost use Rattle.command_requests.specs.Names as spec;", ""]
+    lines += ["/// What a word of the command line is given for: an option, or the subject of `explain`."]
+    lines += ["#[derive(Clone, Copy, Debug, Drop, PartialEq, Eq)]", "pub enum Given {"]
+    lines += [f"    {it}," for it, _ in several]
+    lines += [line for it, _, said in OTHER_WORDS for line in (f"    /// {said}", f"    {it},")]
+    lines += ["}", "", "/// Those for which words of their own names are given."]
+    given = [*(it for it, _ in several), "Subject"]
+    lines += [f"pub(crate) const NAMED: [Given; {len(given)}] = [", *(f"    Given::{it}," for it in given), "];", ""]
+    lines += ["impl Given {", "    /// How it stands on a command line.", "    pub fn name(self) -> &'static [u8]"]
+    lines += ["        // The name is that by which a command line gives the option.", "        ensures { result.now ≡ spec.name self }"]
+    lines += ["    {", "        match self {"]
+    lines += [f'            Given::{it} => b"{word}",' for it, word, *_ in [*several, *OTHER_WORDS]]
+    return "".join(f"{it}\n" for it in [*lines, "        }", "    }", "}"])
+
+
+def names_definition():
+    """The definition of these names."""
+    given = "Rattle.command_requests.specs.declared.given.Given"
+    lines = [f"-- How an option that takes a word stands on a command line. {MADE}", "use Rattle.std.specs.Prelude.{ℕ, List, codes}"]
+    lines += [f"use {given}.{{Given}}", f"use {given}.TheVariants as given", "", "abbrev pub name : Given → List ℕ"]
+    lines += [f'name given.{it} = codes "{word}"' for it, word, *_ in [*taking(), *OTHER_WORDS]]
+    return "".join(f"{it}\n" for it in lines)
+
+
+def joined(words):
+    """Words as one says them."""
+    return " and ".join(it for it in [", ".join(words[:-1]), words[-1]] if it)
+
+
+def said_of(option):
+    """What the text of all options says of one: its name, and its help behind that."""
+    name = f"--{option.word} {option.value}".rstrip()
+    said = option.help[0].lower() + option.help[1:] + (f", else {option.default}" if option.default else "")
+    lines = textwrap.wrap(said, 60)
+    wide = [name] if len(name) > 19 else []
+    return [*wide, *(f"{'' if wide or number else name:20}{it}" for number, it in enumerate(lines))]
+
+
+def overview():
+    """The text of all options, by the commands that take them: first what most of them take."""
+    everywhere, several = [it.word for it in commands()], {}
+    for sayings in entries().values():
+        for it, takers_of_it in sayings.items():
+            several.setdefault(tuple(takers_of_it), []).append(it)
+    lines = ["The options, and which commands take them."]
+    for words, options in sorted(several.items(), key=lambda it: -len(it[0])):
+        missing = [it for it in everywhere if it not in words]
+        head = f"All but {joined(missing)}:" if len(missing) < 3 else f"Of {joined(words)}:"
+        lines += ["", *textwrap.wrap(head, 80), "", *(line for it in options for line in said_of(it))]
+        lines += ["--help              says what there is to type"] if missing == ["explain"] else []
+    lines += ["", "Of --input, --memory and --random one is given; cells that get no value are 0."]
+    lines += ["A FILE named - is standard input, once in a call.", ""]
+    return [*lines, "`pramc --version` writes the version. `pramc explain cost` says what cost takes."]
+
+
+def overview_code():
+    """The constant of help that is this text."""
+    text = "".join(f"{it}\n" for it in overview())
+    head = f"//! What is said of all options. {MADE}\n\n"
+    return f'{head}pub(crate) const OPTIONS: [u8; {len(text.encode())}] = *b"{text}";\n'
+
+
+def made_files():
+    """The files that are made of the tables as a whole."""
+    return {
+        "crates/command_requests/src/given.rt": given_code(),
+        "crates/command_requests/specs/Names.antt": names_definition(),
+        "crates/help/src/explained/options.rt": overview_code(),
+    }

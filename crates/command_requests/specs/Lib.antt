@@ -1,4 +1,5 @@
 pub mod Words
+pub mod Names
 pub mod Options
 pub mod Values
 pub mod Sentences

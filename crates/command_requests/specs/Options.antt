@@ -1,5 +1,6 @@
 -- The options of a command line that take a word: their names, and which words they take.
-use Rattle.std.specs.Prelude.{◌≡◌, ◌⊎◌, ℕ, ◌<◌, ◌≤◌, ℤ, Bool, ◌&&◌, List, Option, Some, None, codes, if◌then◌else◌}
+use Rattle.std.specs.Prelude.{◌≡◌, ◌⊎◌, ℕ, ◌<◌, ◌≤◌, ℤ, Bool, ◌&&◌, List, Option, Some, codes, if◌then◌else◌}
+use Rattle.std.specs.List.{find}
 use Rattle.pram_model.specs.Names.{same_text}
 use Rattle.pram_model.specs.Rules.{rule_word}
 use Rattle.pram_model.specs.declared.rule.Rule.{Rule}
@@ -8,84 +9,17 @@ use Rattle.run_options.specs.Numbers.{number_of}
 use Rattle.run_options.specs.declared.map_choice.MapChoice.{MapChoice}
 use Rattle.scopes.specs.Intervals.{IsInterval}
 use Rattle.command_requests.specs.declared.given.Given.{Given}
+use Rattle.command_requests.specs.declared.given.TheConstants.{NAMED}
 use Rattle.command_requests.specs.declared.given.Given.TheVariants as given
+use Rattle.command_requests.specs.Names.{name}
 
--- how an option stands on a command line
-abbrev pub name : Given → List ℕ
-name given.Bound = codes "--bound"
-name given.Seconds = codes "--seconds"
-name given.Workers = codes "--workers"
-name given.ToldWorkers = codes "--workers"
-name given.Map = codes "--map"
-name given.Reserve = codes "--reserve"
-name given.Schedule = codes "--schedule"
-name given.From = codes "--from"
-name given.To = codes "--to"
-name given.Random = codes "--random"
-name given.Seed = codes "--seed"
-name given.Cells = codes "--cells"
-name given.Values = codes "--values"
-name given.Permutations = codes "--permutations"
-name given.Under = codes "--under"
-name given.Count = codes "--count"
-name given.TimeAtMost = codes "--time-at-most"
-name given.WorkAtMost = codes "--work-at-most"
-name given.Size = codes "--size"
-name given.Sweep = codes "--sweep"
-name given.Format = codes "--format"
-name given.Show = codes "--show"
-name given.Only = codes "--only"
-name given.Bsp = codes "--bsp"
-name given.Subject = codes "explain"
-
--- the option of that name, among those of what is told or shown
-abbrev pub named_telling : List ℕ → Option Given
-named_telling word =
-    if same_text word (codes "--schedule") then Some given.Schedule
-    else if same_text word (codes "--from") then Some given.From
-    else if same_text word (codes "--to") then Some given.To
-    else if same_text word (codes "--format") then Some given.Format
-    else if same_text word (codes "--show") then Some given.Show
-    else if same_text word (codes "--only") then Some given.Only
-    else if same_text word (codes "--bsp") then Some given.Bsp
-    else if same_text word (codes "explain") then Some given.Subject
-    else None
-
--- among those of two programs on the same inputs
-abbrev pub named_pair : List ℕ → Option Given
-named_pair word =
-    if same_text word (codes "--count") then Some given.Count
-    else if same_text word (codes "--time-at-most") then Some given.TimeAtMost
-    else if same_text word (codes "--work-at-most") then Some given.WorkAtMost
-    else named_telling word
-
--- among those of scopes
-abbrev pub named_scope : List ℕ → Option Given
-named_scope word =
-    if same_text word (codes "--cells") then Some given.Cells
-    else if same_text word (codes "--values") then Some given.Values
-    else if same_text word (codes "--permutations") then Some given.Permutations
-    else if same_text word (codes "--under") then Some given.Under
-    else named_pair word
-
--- among those of the cells and of the text
-abbrev pub named_opening : List ℕ → Option Given
-named_opening word =
-    if same_text word (codes "--random") then Some given.Random
-    else if same_text word (codes "--seed") then Some given.Seed
-    else if same_text word (codes "--size") then Some given.Size
-    else if same_text word (codes "--sweep") then Some given.Sweep
-    else named_scope word
+-- the first of some options that has that name, if there is one
+abbrev pub named_among : List Given → List ℕ → Option Given
+named_among options word = find (λ given. same_text word (name given)) options
 
 -- the option of that name, if there is one
 abbrev pub named : List ℕ → Option Given
-named word =
-    if same_text word (codes "--bound") then Some given.Bound
-    else if same_text word (codes "--seconds") then Some given.Seconds
-    else if same_text word (codes "--workers") then Some given.Workers
-    else if same_text word (codes "--map") then Some given.Map
-    else if same_text word (codes "--reserve") then Some given.Reserve
-    else named_opening word
+named = named_among NAMED
 
 -- in a call of `cost` the name of the workers is that of those that it tells of
 abbrev pub named_in : (costs : Bool) → List ℕ → Option Given

@@ -3,7 +3,7 @@ use Rattle.std.specs.Prelude.{ℕ, ◌==◌, ◌+◌, ◌/◌, ◌%◌, nat_lt, 
 use Rattle.pram_model.specs.Names.{same_text}
 use Rattle.command_requests.specs.declared.given.Given.{Given}
 use Rattle.command_requests.specs.declared.given.Given.TheVariants as given
-use Rattle.command_requests.specs.Options.{name}
+use Rattle.command_requests.specs.Names.{name}
 
 -- 0 to 9 and a to f
 abbrev pub digit : ℕ → ℕ

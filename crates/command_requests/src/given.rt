@@ -1,24 +1,25 @@
-//! The options that take a word.
+//! The options that take a word. Made of the table of options by `gate/editors.py --write`.
 
 ghost use Rattle.std.specs.Prelude.{◌≡◌};
-ghost use Rattle.command_requests.specs.Options as spec;
+ghost use Rattle.command_requests.specs.Names as spec;
 
 /// What a word of the command line is given for: an option, or the subject of `explain`.
 #[derive(Clone, Copy, Debug, Drop, PartialEq, Eq)]
 pub enum Given {
     Bound,
     Seconds,
-    /// The workers that run a program.
-    Workers,
-    /// The workers that `cost` tells of, of which there may be any number.
-    ToldWorkers,
-    Map,
-    Reserve,
-    Schedule,
-    From,
-    To,
     Random,
     Seed,
+    Show,
+    Schedule,
+    Workers,
+    Sweep,
+    From,
+    To,
+    Only,
+    Map,
+    Reserve,
+    Bsp,
     Cells,
     Values,
     Permutations,
@@ -27,31 +28,62 @@ pub enum Given {
     TimeAtMost,
     WorkAtMost,
     Size,
-    Sweep,
     Format,
-    Show,
-    Only,
-    Bsp,
+    /// The workers that `cost` tells of, of which there may be any number.
+    ToldWorkers,
+    /// What `explain` is to say something of.
     Subject,
 }
+
+/// Those for which words of their own names are given.
+pub(crate) const NAMED: [Given; 24] = [
+    Given::Bound,
+    Given::Seconds,
+    Given::Random,
+    Given::Seed,
+    Given::Show,
+    Given::Schedule,
+    Given::Workers,
+    Given::Sweep,
+    Given::From,
+    Given::To,
+    Given::Only,
+    Given::Map,
+    Given::Reserve,
+    Given::Bsp,
+    Given::Cells,
+    Given::Values,
+    Given::Permutations,
+    Given::Under,
+    Given::Count,
+    Given::TimeAtMost,
+    Given::WorkAtMost,
+    Given::Size,
+    Given::Format,
+    Given::Subject,
+];
 
 impl Given {
     /// How it stands on a command line.
     pub fn name(self) -> &'static [u8]
+        // The name is that by which a command line gives the option.
         ensures { result.now ≡ spec.name self }
     {
         match self {
             Given::Bound => b"--bound",
             Given::Seconds => b"--seconds",
-            Given::Workers => b"--workers",
-            Given::ToldWorkers => b"--workers",
-            Given::Map => b"--map",
-            Given::Reserve => b"--reserve",
-            Given::Schedule => b"--schedule",
-            Given::From => b"--from",
-            Given::To => b"--to",
             Given::Random => b"--random",
             Given::Seed => b"--seed",
+            Given::Show => b"--show",
+            Given::Schedule => b"--schedule",
+            Given::Workers => b"--workers",
+            Given::Sweep => b"--sweep",
+            Given::From => b"--from",
+            Given::To => b"--to",
+            Given::Only => b"--only",
+            Given::Map => b"--map",
+            Given::Reserve => b"--reserve",
+            Given::Bsp => b"--bsp",
             Given::Cells => b"--cells",
             Given::Values => b"--values",
             Given::Permutations => b"--permutations",
@@ -60,11 +92,8 @@ impl Given {
             Given::TimeAtMost => b"--time-at-most",
             Given::WorkAtMost => b"--work-at-most",
             Given::Size => b"--size",
-            Given::Sweep => b"--sweep",
             Given::Format => b"--format",
-            Given::Show => b"--show",
-            Given::Only => b"--only",
-            Given::Bsp => b"--bsp",
+            Given::ToldWorkers => b"--workers",
             Given::Subject => b"explain",
         }
     }

@@ -177,7 +177,7 @@ const OPENED: &[CommandOption] = &[
     CommandOption {
         name: MEMORY,
         follows: Follows::Word("FILE"),
-        help: "A file with values of cells by their names, as a[1..4] = 4 3 2 1",
+        help: "A file with values of cells by names, as a[1..4] = 4 3 2 1",
     },
     CommandOption {
         name: RANDOM,

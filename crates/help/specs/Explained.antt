@@ -17,7 +17,8 @@ use Rattle.help.specs.declared.explained.faults.TheConstants.{OVERFLOW, DIVIDE_B
 use Rattle.help.specs.declared.explained.commands.TheConstants.{CHECK, PLAN, MEANING, COST, STEPS, RULES, EXPAND, EXPLAIN}
 use Rattle.help.specs.declared.explained.scopes.TheConstants.{COMPARE, EXPLORE, EXPORT}
 use Rattle.help.specs.declared.explained.workers.TheConstants.{RUN, TRACE, EXEC}
-use Rattle.help.specs.declared.explained.overviews.TheConstants.{LANGUAGE, OPTIONS, EVERYTHING}
+use Rattle.help.specs.declared.explained.options.TheConstants.{OPTIONS}
+use Rattle.help.specs.declared.explained.overviews.TheConstants.{LANGUAGE, EVERYTHING}
 
 -- the number of a refusal, the name of a fault, a command, or a word of its own; everything has none
 abbrev pub subject_word : Subject → List ℕ

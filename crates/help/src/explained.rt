@@ -3,6 +3,7 @@ pub(crate) mod commands;
 pub(crate) mod explanation;
 pub(crate) mod faults;
 pub(crate) mod names;
+pub(crate) mod options;
 pub(crate) mod overviews;
 pub(crate) mod runs;
 pub(crate) mod scopes;

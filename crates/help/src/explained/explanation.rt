@@ -12,7 +12,8 @@ use crate::explained::faults::{
 use crate::explained::names::{
     ASSIGNED_LOOP_VARIABLE, DOUBLE_NAME, LIMIT, UNKNOWN_NAME, WRONG_KIND,
 };
-use crate::explained::overviews::{EVERYTHING, LANGUAGE, OPTIONS};
+use crate::explained::options::OPTIONS;
+use crate::explained::overviews::{EVERYTHING, LANGUAGE};
 use crate::explained::runs::{
     BAD_LISTING, BAD_MAP, BAD_WORKERS, COMMAND_LINE, INPUT_TOO_LONG, NOT_VERIFIED, OUT_OF_MEMORY,
     OUT_OF_RESERVE, UNREADABLE_FILE, WRITE_FAILED,
