@@ -193,8 +193,7 @@ def given_code():
     given = [*(it for it, _ in several), "Subject"]
     lines += [f"pub(crate) const NAMED: [Given; {len(given)}] = [", *(f"    Given::{it}," for it in given), "];", ""]
     lines += ["impl Given {", "    /// How it stands on a command line.", "    pub fn name(self) -> &'static [u8]"]
-    lines += ["        // The name is that by which a command line gives the option.", "        ensures { result.now ≡ spec.name self }"]
-    lines += ["    {", "        match self {"]
+    lines += ["        ensures { result.now ≡ spec.name self }", "    {", "        match self {"]
     lines += [f'            Given::{it} => b"{word}",' for it, word, *_ in [*several, *OTHER_WORDS]]
     return "".join(f"{it}\n" for it in [*lines, "        }", "    }", "}"])
 

@@ -66,7 +66,6 @@ pub(crate) const NAMED: [Given; 24] = [
 impl Given {
     /// How it stands on a command line.
     pub fn name(self) -> &'static [u8]
-        // The name is that by which a command line gives the option.
         ensures { result.now ≡ spec.name self }
     {
         match self {
