@@ -33,50 +33,27 @@ fn keep_locals(focus: &Focus<'_>, at: u32, locals: &mut Vec<LocalChange>)
     locals.retain(|d| is_chosen(focus.names, local_name(focus.tree, at, d.change.cell)));
 }
 
-// What is left of an entry by its names.
-fn narrowed(focus: &Focus<'_>, entry: Entry) -> Entry
-    ensures { entry_is result ≡ spec.narrowed focus.now (entry_is entry) }
+// Leaves of an entry what bears one of the names.
+fn narrow(focus: &Focus<'_>, entry: &mut Entry)
+    ensures { entry_is entry.new ≡ spec.narrowed focus.now (entry_is entry.old) }
 {
     match entry {
         Entry::Ran {
             location,
-            acts,
-            mut cells,
-            mut variables,
-            mut locals,
-            mut printed,
+            cells,
+            variables,
+            locals,
+            printed,
+            ..
         } => {
-            keep_cells(focus, &mut cells);
-            keep_variables(focus, &mut variables);
-            keep_locals(focus, location.offset, &mut locals);
+            keep_cells(focus, cells);
+            keep_variables(focus, variables);
+            keep_locals(focus, location.offset, locals);
             printed.clear();
-            Entry::Ran {
-                location,
-                acts,
-                cells,
-                variables,
-                locals,
-                printed,
-            }
         }
-        Entry::Faulted {
-            location,
-            fault,
-            cause,
-            acts,
-            met,
-            mut locals,
-        } => {
+        Entry::Faulted { locals, .. } => {
             if !focus.at_faults {
                 locals.clear();
-            }
-            Entry::Faulted {
-                location,
-                fault,
-                cause,
-                acts,
-                met,
-                locals,
             }
         }
     }
@@ -108,6 +85,7 @@ pub(crate) fn focused(focus: &Focus<'_>, entry: Entry) -> Option<Entry>
     if matches!(focus.names, Choice::All) {
         return Some(entry);
     }
-    let left = narrowed(focus, entry);
+    let mut left = entry;
+    narrow(focus, &mut left);
     if tells(&left) { Some(left) } else { None }
 }
