@@ -192,7 +192,8 @@ pub(crate) const SUBCOMMANDS: &[Subcommand] = &[
             Group::Sizes,
             Group::Formats,
         ],
-        example: "Example: pramc compare examples/maximum.pram examples/maximum_doubly_log.pram --size n=4 --permutations 4 --only output\nMore: pramc explain compare",
+        example: "Example: pramc compare examples/maximum.pram examples/maximum_doubly_log.pram --size n=4 --permutations 4 --only output\n\
+            More: pramc explain compare",
     },
     Subcommand {
         name: "expand",

@@ -27,7 +27,8 @@ fn size_sentence(reason: Reason) -> &'static [u8]
         Reason::Repeated => b"a size line above has this name already",
         Reason::UnknownName => b"no size has this name",
         Reason::Unexpected => {
-            b"this can't stand here: a size line has a number behind its \"=\", and an expression of sizes has numbers, names of sizes, + - * div mod, parentheses, log(..), root(..) and pow(.., ..)"
+            b"this can't stand here: a size line has a number behind its \"=\", and an expression of sizes has \
+            numbers, names of sizes, + - * div mod, parentheses, log(..), root(..) and pow(.., ..)"
         }
         Reason::NotClosed => b"the line ends here, and its brace is not closed",
         Reason::OutOfRange => b"this comes to a number below 0 or above 9223372036854775807",

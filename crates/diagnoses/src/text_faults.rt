@@ -77,7 +77,8 @@ fn bad_token(kind: Kind, text: &[u8], at: usize) -> &'static [u8]
             b"an input has whole numbers from -9223372036854775808 to 9223372036854775807, with white space between them"
         }
         Kind::Memory => {
-            b"a line of a memory is a name, the bounds of some of its cells if they are not all meant, = and their values, as a[1..4] = 4 3 2 1"
+            b"a line of a memory is a name, the bounds of some of its cells if they are not all meant, \
+            = and their values, as a[1..4] = 4 3 2 1"
         }
         Kind::Program => no_token(text, at),
         Kind::Listing => no_token(text, at),
