@@ -13,7 +13,8 @@ use Rattle.help.specs.declared.explained.texts.TheConstants.{NOT_ASCII, TEXT_TOO
 use Rattle.help.specs.declared.explained.names.TheConstants.{UNKNOWN_NAME, DOUBLE_NAME, WRONG_KIND, ASSIGNED_LOOP_VARIABLE, LIMIT}
 use Rattle.help.specs.declared.explained.runs.TheConstants.{INPUT_TOO_LONG, BAD_MAP, BAD_WORKERS, NOT_VERIFIED, BAD_LISTING}
 use Rattle.help.specs.declared.explained.runs.TheConstants.{OUT_OF_MEMORY, WRITE_FAILED, OUT_OF_RESERVE, COMMAND_LINE, UNREADABLE_FILE}
-use Rattle.help.specs.declared.explained.faults.TheConstants.{OVERFLOW, DIVIDE_BY_ZERO, OUT_OF_RANGE, TOO_WIDE, READ_CONFLICT, WRITE_CONFLICT}
+use Rattle.help.specs.declared.explained.faults.TheConstants.{OVERFLOW, DIVIDE_BY_ZERO, OUT_OF_RANGE, TOO_WIDE}
+use Rattle.help.specs.declared.explained.faults.TheConstants.{READ_CONFLICT, WRITE_CONFLICT}
 use Rattle.help.specs.declared.explained.commands.TheConstants.{CHECK, PLAN, MEANING, COST, STEPS, RULES, EXPAND, EXPLAIN}
 use Rattle.help.specs.declared.explained.scopes.TheConstants.{COMPARE, EXPLORE, EXPORT}
 use Rattle.help.specs.declared.explained.workers.TheConstants.{RUN, TRACE, EXEC}
