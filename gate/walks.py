@@ -84,7 +84,6 @@ WALKS = {
     ),
     "Plan": Walk(
         (
-            Enum("Verb", "command_requests", "request"),
             Enum("Request", "command_requests", "request"),
             Enum("Settled", "command_facts", "found"),
             SUBJECT,

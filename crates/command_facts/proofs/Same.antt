@@ -1,5 +1,5 @@
 -- What holds of the files that names stand for holds as long as they stand for the same.
-use Rattle.std.proofs.Common.{◌⊎◌, ℕ, ℤ, List, inl, inr}
+use Rattle.std.proofs.Common.{ℕ, ℤ, List, inl, inr}
 use Rattle.std.specs.Prelude.{Option, Some, None}
 use Rattle.pram_model.specs.Layout.{SharedEntry}
 use Rattle.pram_tokens.specs.Scanning.{longest}
@@ -14,18 +14,11 @@ use Rattle.command_requests.specs.declared.opening.Opening.TheVariants as openin
 use Rattle.pram_check.specs.Checked.{Checked}
 use Rattle.sized_texts.specs.Pieces.{Expansion}
 use Rattle.command_requests.specs.declared.request.ProgramFile.{ProgramFile}
-use Rattle.command_requests.specs.declared.request.RunWords.{RunWords}
 use Rattle.command_requests.specs.declared.request.SizeWord.{SizeWord}
-use Rattle.command_requests.specs.declared.request.Verb.{Verb}
-use Rattle.command_requests.specs.declared.request.Verb.TheVariants as verb
-use Rattle.sweeps.specs.declared.size_row.Ending.{Ending}
-use Rattle.sweeps.specs.declared.size_row.SizeRow.{SizeRow}
-use Rattle.command_facts.specs.declared.found.FoundRun.{FoundRun}
 use Rattle.command_facts.specs.declared.loaded.Loaded.{Loaded}
-use Rattle.command_facts.specs.Found.{IsLoaded, IsOpening, IsRunFound}
+use Rattle.command_facts.specs.Found.{IsLoaded, IsOpening}
 use Rattle.command_facts.specs.Held.{IsAtFile, IsAtMemory, IsAtProgram, IsAtText, IsExpansionIn, IsNoFile, IsOfInput, StopsAtProgram}
-use Rattle.command_facts.specs.Refused.{IsForeignTo, IsProgramIn, IsProgramOfText, RefusesRun, StopsAtOpening, StopsBefore}
-use Rattle.command_facts.specs.Sweeps.{ComesOut, IsProgramRefused, IsRow, RunsAs}
+use Rattle.command_facts.specs.Refused.{IsProgramIn, IsProgramOfText, StopsAtOpening}
 
 -- ---- files
 
@@ -85,7 +78,7 @@ module _ (now before : List ℕ → Option (List ℕ) → Type 0) (same : IsSame
 
   -- ---- programs
 
-  loaded_held : (file : ProgramFile) (l : Loaded) → IsLoaded (now file.name.now) file l → IsLoaded (before file.name.now) file l
+  pub loaded_held : (file : ProgramFile) (l : Loaded) → IsLoaded (now file.name.now) file l → IsLoaded (before file.name.now) file l
   loaded_held file l h = (((same file.name.now _).0 h.0.0, h.0.1), h.1)
 
   expansion_held : (name : List ℕ) (words : List SizeWord) (e : Expansion) → IsExpansionIn (now name) words e → IsExpansionIn
@@ -124,72 +117,10 @@ module _ (now before : List ℕ → Option (List ℕ) → Type 0) (same : IsSame
   at_program file why (about.Values values cells) h = absurd h
   at_program file why (about.File u) h = absurd h
 
-  program_stops : (file : ProgramFile) (h : Halted) → StopsAtProgram (now file.name.now) file h → StopsAtProgram
+  pub program_stops : (file : ProgramFile) (h : Halted) → StopsAtProgram (now file.name.now) file h → StopsAtProgram
       (before file.name.now) file h
   program_stops file h (inl stops) = inl (at_text file h.stop h.about stops)
   program_stops file h (inr stops) = inr (at_program file h.stop h.about stops)
-
-  -- ---- runs
-
-  run_held : (verb : Verb) (file : ProgramFile) (words : RunWords) (r : FoundRun) → IsRunFound now verb file words r →
-      IsRunFound before verb file words r
-  run_held verb file words r h = record {
-    loaded = loaded_held file r.loaded h.loaded;
-    given = opening_held r.loaded.program.layout words.opening r.input.items h.given;
-    made = h.made;
-    there = h.there;
-    meaning = h.meaning;
-    facts = h.facts;
-  }
-
-  stops_before : (layout : List SharedEntry) (words : RunWords) (h : Halted) → StopsBefore now layout words h → StopsBefore before
-      layout words h
-  stops_before layout words h (inl stops) = inl stops
-  stops_before layout words h (inr stops) = inr (opening_stops layout words.opening h stops)
-
-  pub stops_behind : (program : Checked) (words : RunWords) (h : Halted) →
-      IsForeignTo program.tree words h.stop h.about ⊎ StopsBefore now program.layout words h →
-      IsForeignTo program.tree words h.stop h.about ⊎ StopsBefore before program.layout words h
-  stops_behind program words h (inl foreign) = inl foreign
-  stops_behind program words h (inr stops) = inr (stops_before program.layout words h stops)
-
-  run_stops : (verb : Verb) (file : ProgramFile) (words : RunWords) (h : Halted) → RefusesRun now verb file words h →
-      RefusesRun before verb file words h
-  run_stops verb file words h (inl stops) = inl (program_stops file h stops)
-  run_stops verb file words h (inr (inl stops)) =
-      inr (inl (stops.0, program_held file stops.0 stops.1, stops_behind stops.0 words h stops.2))
-  run_stops verb file words h (inr (inr stops)) = inr (inr (record {
-    program = stops.program;
-    is = program_held file stops.program stops.is;
-    input = stops.input;
-    given = opening_held stops.program.layout words.opening stops.input stops.given;
-    refused = stops.refused;
-  }))
-
-  -- ---- rows of a sweep
-
-  runs_as : (at : ProgramFile) (words : RunWords) (e : Ending) → RunsAs now at words e → RunsAs before at words e
-  runs_as at words e (inl h) = inl (h.0, run_held verb.Cost at words h.0 h.1, h.2)
-  runs_as at words e (inr h) = inr (h.0, run_stops verb.Cost at words h.0 h.1, h.2)
-
-  comes_out : (at : ProgramFile) (words : RunWords) (e : Ending) → ComesOut now at words e → ComesOut before at words e
-  comes_out at words e (inl h) = inl (h.0, h.1, runs_as at h.0 e h.2)
-  comes_out at words e (inr h) = inr h
-
-  pub row_held : (file : ProgramFile) (word : List ℕ) (words : RunWords) (size : ℕ) (row : SizeRow) →
-      IsRow now file word words size row → IsRow before file word words size row
-  row_held file word words size row is = record {
-    sized = is.sized;
-    at = is.at;
-    is_at = is.is_at;
-    out = comes_out is.at words row.ending is.out;
-  }
-
-  -- the program at a size is refused
-  pub refusal_held : (file : ProgramFile) (word : List ℕ) (size : ℕ) (h : Halted) → IsProgramRefused now file word size h →
-      IsProgramRefused before file word size h
-  refusal_held file word size h (inl stops) = inl (stops.0, stops.1, program_stops stops.0 h stops.2)
-  refusal_held file word size h (inr stops) = inr stops
 
 -- the same as what is the same
 pub same_through : (first then last : List ℕ → Option (List ℕ) → Type 0) → IsSame last then → IsSame then first → IsSame last first

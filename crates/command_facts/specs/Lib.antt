@@ -1,13 +1,8 @@
 pub mod Listings
 pub mod Held
-pub mod Timed
 pub mod Found
 pub mod Refused
-pub mod Scopes
-pub mod Limits
-pub mod Pairs
-pub mod Sweeps
-pub mod Calls
+pub mod Statuses
 pub mod Written
-pub mod CostLaws
-pub mod Left
+pub mod Messages
+pub mod Editors

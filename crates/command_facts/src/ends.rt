@@ -11,13 +11,10 @@ use std::alloc::{AllocError, Global};
 use text_out::Buffer;
 use write_rules::{Fault, Outcome};
 
-/// The text of a fault.
-pub(crate) fn text_of_fault(
-    alloc: Global,
-    layout: &Layout,
-    fault: &Fault,
-) -> Result<Vec<u8>, AllocError>
-    ensures { IfOk result (λ text. text.items ≡ fault_text layout.now fault.now) }
+/// The text of a fault. `AllocError`: memory was refused.
+pub fn text_of_fault(alloc: Global, layout: &Layout, fault: &Fault) -> Result<Vec<u8>, AllocError>
+    // The text is the fault's line.
+    ensures text { IfOk result (λ text. text.items ≡ fault_text layout.now fault.now) }
 {
     let mut text = Buffer::new(alloc);
     match write_fault_text(&mut text, layout, fault) {
@@ -26,13 +23,10 @@ pub(crate) fn text_of_fault(
     }
 }
 
-/// How a run ends: `ended`, `goes on`, or its fault.
-pub(crate) fn text_of_end(
-    alloc: Global,
-    layout: &Layout,
-    outcome: &Outcome,
-) -> Result<Vec<u8>, AllocError>
-    ensures { IfOk result (λ text. text.items ≡ ending_text layout.now (verdict_of outcome.now)) }
+/// How a run ends: `ended`, `goes on`, or its fault. `AllocError`: memory was refused.
+pub fn text_of_end(alloc: Global, layout: &Layout, outcome: &Outcome) -> Result<Vec<u8>, AllocError>
+    // The text says how a run of this outcome ends.
+    ensures text { IfOk result (λ text. text.items ≡ ending_text layout.now (verdict_of outcome.now)) }
 {
     match outcome {
         Outcome::Ended { .. } => Vec::from_slice(alloc, b"ended"),

@@ -1,11 +1,11 @@
 //! What calls find.
 
-ghost use Rattle.std.specs.Prelude.{◌≡◌};
-ghost use Rattle.command_facts.specs.Found.{with_outcome};
+ghost use Rattle.std.specs.Prelude.{◌≤◌, length};
+ghost use Rattle.pram_model.specs.Layout.{total_size};
 
 use crate::loaded::Loaded;
 use bsp_verify::Verified;
-use command_requests::{Form, RunWords};
+use command_requests::{CostWords, StepWords, SweepForm, TraceWords};
 use comparing::{Comparison, UnderRules};
 use costs::Cost;
 use diagnoses::Source;
@@ -18,15 +18,13 @@ use sized_texts::Sweep;
 use sweeps::{Growths, SizeRow};
 use write_rules::Outcome;
 
-/// What is found of a program's run beside its outcome.
-#[derive(Drop)]
-pub enum Facts {
-    /// Nothing.
-    Nothing,
-    /// What it costs.
-    Cost(Cost),
-    /// Its exchanges.
-    Exchanges(FoundTrace),
+/// Where a run ends at the latest.
+#[derive(Clone, Copy, Debug)]
+pub struct Limit {
+    /// Behind so many statements.
+    pub bound: u32,
+    /// The seconds that the run had, where they ended it there.
+    pub seconds: Option<u32>,
 }
 
 /// The exchanges of a run.
@@ -39,38 +37,24 @@ pub struct FoundTrace {
     pub ends: Vec<u8>,
 }
 
-/// A run of a program: the program with its text, the input's values, how it was asked for, its outcome, and what is found beside that.
+/// A run of a program: the program with its text, the input's values, where it ends at the latest, and its outcome.
 #[derive(Drop)]
 pub struct FoundRun<'a> {
     pub loaded: Loaded<'a>,
     pub input: Vec<i64>,
-    pub words: RunWords<'a>,
+    pub limit: Limit,
     pub outcome: Outcome,
-    pub facts: Facts,
 }
 
 /// A run of a program that is still to be told, statement by statement as it goes: the program with its text, the input's values, which are
-/// no more than its cells, and how it is asked for.
+/// no more than its cells, where it ends at the latest, and how it is told.
 #[derive(Drop)]
 pub struct FoundSteps<'a> {
     pub loaded: Loaded<'a>,
     pub input: Vec<i64>,
-    pub words: RunWords<'a>,
-}
-
-impl<'a> FoundSteps<'a> {
-    /// The run, once it has come to this.
-    pub fn with_outcome(self, outcome: Outcome) -> FoundRun<'a>
-        ensures run { result ≡ with_outcome self.entry outcome }
-    {
-        FoundRun {
-            loaded: self.loaded,
-            input: self.input,
-            words: self.words,
-            outcome,
-            facts: Facts::Nothing,
-        }
-    }
+    pub limit: Limit,
+    pub words: StepWords<'a>,
+    ghost fits: { length input.items ≤ total_size loaded.program.layout },
 }
 
 /// A run of a listing's code: the code, which declarations are shown, and the outcome.
@@ -88,10 +72,7 @@ pub struct FoundSweep {
     /// A row for each size, in order.
     pub rows: Vec<SizeRow>,
     pub growths: Growths,
-    /// Whether they are drawn or told in words.
-    pub form: Form,
-    /// Whether they are written as a table of values separated by commas, where they aren't drawn.
-    pub csv: bool,
+    pub form: SweepForm,
 }
 
 /// The runs of a program on every input of a scope: the program as it was run, and what is found of it.
@@ -127,8 +108,12 @@ pub enum Settled<'a> {
     Exported(Verified),
     /// How a program comes out under each rule.
     Compared(UnderRules),
-    /// A program was run.
-    Run(FoundRun<'a>),
+    /// A program was run; of memory these declarations are shown.
+    Run(FoundRun<'a>, Choice<'a>),
+    /// A program was run, and what that costs was counted.
+    Costed(FoundRun<'a>, CostWords, Cost),
+    /// A program was run, and its exchanges are told.
+    Traced(FoundRun<'a>, TraceWords, FoundTrace),
     /// A program was run at several sizes.
     Swept(FoundSweep),
     /// A program was run on every input of a scope.

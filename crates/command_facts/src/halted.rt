@@ -1,6 +1,6 @@
 //! Why a run is not made, and what is known besides.
 
-ghost use Rattle.std.specs.Prelude.{◌≡◌};
+ghost use Rattle.std.specs.Prelude.{◌≡◌, length};
 ghost use Rattle.program_texts.specs.declared.stop.Stop.TheVariants.{Refused};
 ghost use Rattle.command_facts.specs.Refused as spec;
 
@@ -21,13 +21,15 @@ fn about_run<'a>(refusal: Refusal, values: usize, cells: u32) -> About<'a>
     }
 }
 
-/// A run that is refused, with the numbers of the input's values and of the cells where it is for these.
-pub(crate) fn halted_run<'a>(refusal: Refusal, values: usize, cells: u32) -> Halted<'a>
+/// A run on this input that is refused, with the numbers of the input's values and of the cells where it is for these.
+pub fn halted_run<'a>(refusal: Refusal, input: &[i64], cells: u32) -> Halted<'a>
+    // The call stops for just this refusal.
     ensures stop { result.stop ≡ Refused refusal }
-    ensures about { spec.IsToldWith refusal values cells result.about }
+    // An input with too many values is told with their number and that of the cells, and nothing is told of another.
+    ensures about { spec.IsToldWith refusal (length input.now) cells result.about }
 {
     Halted {
         stop: Stop::Refused(refusal),
-        about: about_run(refusal, values, cells),
+        about: about_run(refusal, input.len(), cells),
     }
 }

@@ -1,30 +1,28 @@
-//! What a call of the program finds in its files, and of their programs' runs; and that it is said by a voice.
+//! What a call of the program finds and why it stops, as values; what it reads of its files; and that a voice says what was found.
 #![tactic(auto)]
 
-mod answering;
-pub mod cost_laws;
+mod editors;
 mod ends;
-mod exploring;
-mod finding;
 mod found;
 mod halted;
-mod limiting;
 mod loaded;
 mod loading;
+mod messages;
 mod opening;
-mod pair_inputs;
-mod pairing;
-mod running;
 mod status;
-mod sweeping;
-mod timed;
-mod tracing;
+mod told_run;
+mod voice;
 
-pub use answering::{Voice, answer};
-pub use finding::find;
+pub use editors::write_for_editors;
+pub use ends::{text_of_end, text_of_fault};
 pub use found::{
-    Facts, Found, FoundCode, FoundPair, FoundRun, FoundScope, FoundSteps, FoundSweep, FoundTrace,
+    Found, FoundCode, FoundPair, FoundRun, FoundScope, FoundSteps, FoundSweep, FoundTrace, Limit,
     Settled,
 };
+pub use halted::halted_run;
 pub use loaded::Loaded;
+pub use loading::{load_listing, load_program, load_text};
+pub use messages::message_for;
+pub use opening::{load_input, load_opening};
 pub use status::status_of;
+pub use voice::Voice;

@@ -82,14 +82,18 @@ pub(crate) fn load<'a, S: Sources>(
 }
 
 /// The text of a program's file, with what it comes to by its sizes.
-pub(crate) fn load_text<'a, S: Sources>(
+///
+/// It is refused for a word that gives no size (P1), for the file (P2, E1, E2), for its sizes (E19, P1), and for want of memory (E16).
+pub fn load_text<'a, S: Sources>(
     alloc: Global,
     sources: &mut S,
     file: &ProgramFile<'a>,
 ) -> Result<Source<'a>, Halted<'a>>
     // It is all that the file of that name holds.
     ensures text { IfOk result (IsTextIn (S.Sources.holds sources.old file.now.name.now) file.now.sizes.items) }
+    // Without it the call stops at a word that gives no size, at that file, or at its text.
     ensures refused { IfErr result (StopsAtText (S.Sources.holds sources.old file.now.name.now) file.now) }
+    // All files hold what they held.
     ensures same { IsSame (S.Sources.holds sources.new) (S.Sources.holds sources.old) }
 {
     let sizes = sizes_of(alloc, &file.sizes)?;
@@ -108,14 +112,17 @@ pub(crate) fn load_text<'a, S: Sources>(
     }
 }
 
-/// The program of a file.
-pub(crate) fn load_program<'a, S: Sources>(
+/// The program of a file. It is refused as [`load_text`] refuses its text, and where that is no program (E3 to E10).
+pub fn load_program<'a, S: Sources>(
     alloc: Global,
     sources: &mut S,
     file: &ProgramFile<'a>,
 ) -> Result<Loaded<'a>, Halted<'a>>
+    // It is the program of all that the file of that name holds.
     ensures loaded { IfOk result (IsLoaded (S.Sources.holds sources.old file.now.name.now) file.now) }
+    // Without it the call stops at its text, or at what that comes to.
     ensures refused { IfErr result (StopsAtProgram (S.Sources.holds sources.old file.now.name.now) file.now) }
+    // All files hold what they held.
     ensures same { IsSame (S.Sources.holds sources.new) (S.Sources.holds sources.old) }
 {
     let source = load_text(alloc, sources, file)?;
@@ -198,16 +205,20 @@ fn halted_listing<'a>(fault: VerifyFault, code: &Code, source: Source<'a>) -> Ha
     }
 }
 
-/// The code of a listing's file, verified.
-pub(crate) fn load_listing<'a, S: Sources>(
+/// The code of a listing's file, verified. It is refused for the file (P2, E2), where its text is no listing (E15) or its code isn't well
+/// formed (E14), and for want of memory (E16).
+pub fn load_listing<'a, S: Sources>(
     alloc: Global,
     sources: &mut S,
     name: &'a str,
 ) -> Result<Verified, Halted<'a>>
+    // The code is well formed.
     ensures verified { IfOk result IsWellFormed }
     // The listing is all that the file of that name holds.
     ensures held { IfOk result (IsListingIn (S.Sources.holds sources.old name.now)) }
+    // Without it the call stops at that file, at its text or at its code.
     ensures of_file { IfErr result (StopsAtListing (S.Sources.holds sources.old name.now) name.now) }
+    // All files hold what they held.
     ensures same { IsSame (S.Sources.holds sources.new) (S.Sources.holds sources.old) }
 {
     let bytes = load(alloc, sources, name, LONGEST_LISTING as u32)?;

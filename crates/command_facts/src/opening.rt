@@ -24,15 +24,18 @@ use scopes::{Drawing, draw};
 use std::alloc::Global;
 use system_files::Sources;
 
-/// The values of an input's file.
-pub(crate) fn load_input<'a, S: Sources>(
+/// The values of an input's file. It is refused where the file can't be read (P2), where its text is none (E1 to E3), and for want of
+/// memory (E16).
+pub fn load_input<'a, S: Sources>(
     alloc: Global,
     sources: &mut S,
     name: &'a str,
 ) -> Result<Vec<i64>, Halted<'a>>
     // The values are those of all that the file holds.
     ensures held { IfOk result (λ values. IsInputIn (S.Sources.holds sources.old name.now) values.items) }
+    // Without them the call stops at that file: it can't be read, its text is refused, or memory was.
     ensures of_file { IfErr result (StopsAtInput (S.Sources.holds sources.old name.now) name.now) }
+    // All files hold what they held.
     ensures same { IsSame (S.Sources.holds sources.new) (S.Sources.holds sources.old) }
 {
     let bytes = load(alloc, sources, name, LONGEST as u32)?;
@@ -100,15 +103,19 @@ fn draw_all<'a>(alloc: Global, drawing: Drawing, layout: &Layout) -> Result<Vec<
     }
 }
 
-/// The values that the first cells hold before the first statement, as far as they are given.
-pub(crate) fn load_opening<'a, S: Sources>(
+/// The values that the first cells hold before the first statement, as far as they are given. They are refused for the file of an input or
+/// of a memory (P2, E1 to E3, E6, E11), and for want of memory (E16).
+pub fn load_opening<'a, S: Sources>(
     alloc: Global,
     sources: &mut S,
     opening: Opening<'a>,
     layout: &Layout,
 ) -> Result<Vec<i64>, Halted<'a>>
+    // They are the values that the words give: none, those of a file, or those that are drawn.
     ensures values { IfOk result (λ values. IsOpening (S.Sources.holds sources.old) layout.now opening.entry values.items) }
+    // Without them the call stops at the file that gives them, or memory was refused.
     ensures refused { IfErr result (StopsAtOpening (S.Sources.holds sources.old) layout.now opening.entry) }
+    // All files hold what they held.
     ensures same { IsSame (S.Sources.holds sources.new) (S.Sources.holds sources.old) }
 {
     match opening {

@@ -3,7 +3,7 @@
 ghost use Rattle.std.specs.Prelude.{◌≡◌, map};
 ghost use Rattle.std.specs.List.{list_any};
 ghost use Rattle.comparing.specs.Found.{differing_is, found_is};
-ghost use Rattle.command_facts.specs.Calls as spec;
+ghost use Rattle.command_facts.specs.Statuses as spec;
 
 use crate::found::Settled;
 use comparing::{Comparison, FoundDifference};
@@ -107,7 +107,9 @@ pub fn status_of(found: &Settled<'_>) -> Status
     ensures { result ≡ spec.status_of_found found.now }
 {
     match found {
-        Settled::Run(run) => Status::of(&run.outcome),
+        Settled::Run(run, _) => Status::of(&run.outcome),
+        Settled::Costed(run, _, _) => Status::of(&run.outcome),
+        Settled::Traced(run, _, _) => Status::of(&run.outcome),
         Settled::Executed(run) => Status::of(&run.outcome),
         Settled::Swept(swept) => status_of_rows(&swept.rows),
         Settled::Version => Status::Done,

@@ -8,7 +8,9 @@ use Rattle.json_texts.specs.Lines.{IsJson}
 use Rattle.json_texts.specs.OutcomeFacts.{outcome_facts}
 use Rattle.json_texts.specs.StreamLaws.{json_behind}
 use Rattle.json_texts.specs.Streamed.{HasStreamedJson, StopsInFirst, WroteFirstJson, WroteJson}
+use Rattle.step_text.specs.Stops.{stop_of}
 use Rattle.step_text.specs.declared.failure.StreamFailure.{StreamFailure}
+use Rattle.step_text.specs.declared.failure.StreamFailure.TheVariants as failure
 use Rattle.write_rules.specs.Verdict.{verdict_of}
 use Rattle.write_rules.specs.declared.outcome.Outcome.{Outcome}
 use Rattle.journal.specs.RunEntries.{run_entries}
@@ -30,24 +32,31 @@ use Rattle.command_json.specs.Stepped.{InText, Unbegun}
 
 pub streamed_by : (s : FoundSteps) (old new : OutState) (text : List ℕ) (given : List ℤ) (r q : Result Outcome StreamFailure) →
     text ≡ text_in s.loaded.source → given ≡ s.input.items → r ≡ q →
-    HasStreamedJson old new (steps_from s.loaded.program.layout s.loaded.program.tree text s.words.steps.from s.words.steps.to 1)
-    (run_entries s.loaded.program given s.words.options.bound) r →
+    HasStreamedJson old new (steps_from s.loaded.program.layout s.loaded.program.tree text s.words.from s.words.to 1)
+    (run_entries s.loaded.program given s.limit.bound) r →
     HasStreamedJson old new (first_behind s []) (entries_of s) q
 streamed_by s old new text given r q source same is h =
     let facts : List ℕ → List Entry → List Data =
-    λ t. steps_from s.loaded.program.layout s.loaded.program.tree t s.words.steps.from s.words.steps.to 1 in
-    subst (λ (i : List ℤ). HasStreamedJson old new (first_behind s []) (run_entries s.loaded.program i s.words.options.bound) q) same
-    (subst (λ (t : List ℕ). HasStreamedJson old new (facts t) (run_entries s.loaded.program given s.words.options.bound) q) source
-    (subst (HasStreamedJson old new (facts text) (run_entries s.loaded.program given s.words.options.bound)) is h))
+    λ t. steps_from s.loaded.program.layout s.loaded.program.tree t s.words.from s.words.to 1 in
+    subst (λ (i : List ℤ). HasStreamedJson old new (first_behind s []) (run_entries s.loaded.program i s.limit.bound) q) same
+    (subst (λ (t : List ℕ). HasStreamedJson old new (facts t) (run_entries s.loaded.program given s.limit.bound) q) source
+    (subst (HasStreamedJson old new (facts text) (run_entries s.loaded.program given s.limit.bound)) is h))
 
 module _ (s : FoundSteps) (old : OutState) where
-  pub stopped_in_lines : (new : OutState) → StopsInFirst old new (first_behind s []) (entries_of s) → IsCutBehind s [] old new
+  stopped_in_lines : (new : OutState) → StopsInFirst old new (first_behind s []) (entries_of s) → IsCutBehind s [] old new
       stop.WriteFailed
   stopped_in_lines new w = InLines w.first w.rest w.text w.whole w.json w.stopped
 
-  pub behind_lines : (new : OutState) → WroteFirstJson old new (first_behind s []) (entries_of s) →
+  behind_lines : (new : OutState) → WroteFirstJson old new (first_behind s []) (entries_of s) →
       IsCutBehind s [] old new (stop.Refused refusal.OutOfMemory)
   behind_lines new w = BehindLines w.first w.rest w.text w.whole w.json w.written
+
+  -- a failure on the way
+  pub lines_cut : (new : OutState) (f : StreamFailure) (why : Stop) → why ≡ stop_of f →
+      HasStreamedJson old new (first_behind s []) (entries_of s) (Err f) → (f ≡ failure.InputTooLong → ⊥) → IsCutBehind s [] old new why
+  lines_cut new failure.WriteFailed why is h fits = subst (IsCutBehind s [] old new) (sym is) (stopped_in_lines new h)
+  lines_cut new failure.OutOfMemory why is h fits = subst (IsCutBehind s [] old new) (sym is) (behind_lines new h)
+  lines_cut new failure.InputTooLong why is h fits = absurd (fits refl)
 
   -- a run that is cut off is told by no outcome
   pub cut_told : (new : OutState) (r : Result Outcome Stop) (why : Stop) → IsErrAnd r (λ e. e ≡ why) → IsCutBehind s [] old new why →

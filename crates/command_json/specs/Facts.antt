@@ -10,11 +10,8 @@ use Rattle.program_texts.specs.declared.from_text.Refusal.TheVariants as refusal
 use Rattle.program_texts.specs.declared.status.Status.{Status}
 use Rattle.program_texts.specs.declared.stop.Stop.{Stop}
 use Rattle.program_texts.specs.declared.stop.Stop.TheVariants as stop
-use Rattle.command_facts.specs.Calls.{status_of_found}
-use Rattle.command_facts.specs.declared.found.Facts.{Facts}
-use Rattle.command_facts.specs.declared.found.Facts.TheVariants as facts
+use Rattle.command_facts.specs.Statuses.{status_of_found}
 use Rattle.command_facts.specs.declared.found.FoundCode.{FoundCode}
-use Rattle.command_facts.specs.declared.found.FoundRun.{FoundRun}
 use Rattle.command_facts.specs.declared.found.Settled.{Settled}
 use Rattle.command_facts.specs.declared.found.Settled.TheVariants as settled
 use Rattle.json_texts.specs.AcceptedFacts.{accepted_facts}
@@ -33,14 +30,6 @@ abbrev pub cost_asked : Option (ℕ × ℕ) → List Exchange → Option ℕ
 cost_asked None es = None
 cost_asked (Some rates) es = in_128_bits (bsp_cost rates.0 rates.1 es)
 
--- a run of a program: its outcome, what it costs, or its exchanges
-abbrev pub run_facts : FoundRun → Facts → List Data
-run_facts r facts.Nothing = chosen_facts r.words.shown r.loaded.program.layout (verdict_of r.outcome) ∷ []
-run_facts r (facts.Cost c) =
-    cost_facts r.loaded.program.layout (verdict_of r.outcome) c r.words.costs.schedule r.words.costs.lines ∷ []
-run_facts r (facts.Exchanges t) =
-    trace_facts t.lines.items (cost_asked r.words.trace.rates t.counts) t.counts (verdict_of r.outcome)
-
 -- a run of a listing: its outcome
 abbrev pub code_facts : FoundCode → Data
 code_facts c = chosen_facts c.shown c.code.layout (verdict_of c.outcome)
@@ -49,7 +38,10 @@ code_facts c = chosen_facts c.shown c.code.layout (verdict_of c.outcome)
 abbrev pub AreFactsOf : Settled → List Data → Type 0
 AreFactsOf (settled.Accepted l) told = told ≡ accepted_facts l.program ∷ []
 AreFactsOf (settled.Compared c) told = told ≡ comparison_facts c ∷ []
-AreFactsOf (settled.Run r) told = told ≡ run_facts r r.facts
+AreFactsOf (settled.Run r shown) told = told ≡ chosen_facts shown r.loaded.program.layout (verdict_of r.outcome) ∷ []
+AreFactsOf (settled.Costed r w c) told = told ≡ cost_facts r.loaded.program.layout (verdict_of r.outcome) c w.schedule w.lines ∷ []
+AreFactsOf (settled.Traced r w t) told =
+    told ≡ trace_facts t.lines.items (cost_asked w.rates t.counts) t.counts (verdict_of r.outcome)
 AreFactsOf (settled.Explored f) told = told ≡ exploration_facts f.program.layout (found_is f.findings) ∷ []
 AreFactsOf (settled.Paired p) told = told ≡ pair_facts p.first.layout p.second.layout p.drawn (pairs.found_is p.comparison)
 AreFactsOf (settled.Swept s) told = told ≡ sweep_facts s.sweep.name s.rows.items s.growths

@@ -13,21 +13,19 @@ use Rattle.program_texts.specs.declared.status.Status.{Status}
 use Rattle.program_texts.specs.declared.status.Status.TheVariants as status
 use Rattle.program_texts.specs.declared.stop.Stop.{Stop}
 use Rattle.program_texts.specs.declared.stop.Stop.TheVariants as stop
-use Rattle.command_requests.specs.declared.request.Request.{Request}
-use Rattle.command_requests.specs.declared.request.RunWords.{RunWords}
 use Rattle.command_facts.specs.declared.found.Found.{Found}
 use Rattle.command_facts.specs.declared.found.Found.TheVariants as found
 use Rattle.command_facts.specs.declared.found.FoundSteps.{FoundSteps}
+use Rattle.command_facts.specs.declared.found.Limit.{Limit}
 use Rattle.command_facts.specs.declared.found.Settled.{Settled}
 use Rattle.command_facts.specs.declared.found.Settled.TheVariants as settled
-use Rattle.command_facts.specs.Calls.{status_of_found}
+use Rattle.command_facts.specs.Statuses.{status_of_found}
 use Rattle.command_facts.specs.Found.{IsOutcomeOf}
-use Rattle.command_facts.specs.Left.{Leaves}
 use Rattle.command_facts.specs.Written.{IsReported}
 use Rattle.json_texts.specs.MessageFacts.{refusal_facts}
 use Rattle.json_texts.specs.RefusalFacts.{stop_facts}
 use Rattle.help.specs.Messages.{Message}
-use Rattle.command_messages.specs.Messages.{IsMessageFor}
+use Rattle.command_facts.specs.Messages.{IsMessageFor}
 use Rattle.diagnoses.specs.Stops.{bytes_in, name_in}
 use Rattle.command_json.specs.Facts.{IsJsonOf, WritesFound}
 use Rattle.command_json.specs.Stepped.{IsCutOff, all_facts}
@@ -64,12 +62,14 @@ IsLimitTold None bound old new = new ≡ old
 IsLimitTold (Some seconds) bound old new = IsReported old new (time_line seconds bound)
 
 -- where time was over for a run, behind how many statements it was
-abbrev pub IsTimeTold : Outcome → RunWords → OutState → OutState → Type 0
-IsTimeTold (GoesOn output) words old new = IsLimitTold words.seconds words.options.bound old new
-IsTimeTold _ words old new = new ≡ old
+abbrev pub IsTimeTold : Outcome → Limit → OutState → OutState → Type 0
+IsTimeTold (GoesOn output) limit old new = IsLimitTold limit.seconds limit.bound old new
+IsTimeTold _ limit old new = new ≡ old
 
 abbrev pub IsFoundInTime : Settled → OutState → OutState → Type 0
-IsFoundInTime (settled.Run r) old new = IsTimeTold r.outcome r.words old new
+IsFoundInTime (settled.Run r told) old new = IsTimeTold r.outcome r.limit old new
+IsFoundInTime (settled.Costed r told costs) old new = IsTimeTold r.outcome r.limit old new
+IsFoundInTime (settled.Traced r told exchanges) old new = IsTimeTold r.outcome r.limit old new
 IsFoundInTime _ old new = new ≡ old
 
 -- ---- both streams
@@ -83,12 +83,6 @@ pub data LeavesFound (words : List (List ℕ)) (f : Found) (out out_new err err_
       → IsRefusalSaid words why about.Nothing err err_new → LeavesFound words f out out_new err err_new status.Refused
   -- a run is told statement by statement as it goes: the outcome is that of the program, and it gives the status
   ToldAsItRan : (s : FoundSteps) (o : Outcome) (text : List ℕ) → f ≡ found.Stepped s → IsOutcomeOf s o → IsJson (all_facts s o) text
-      → out_new ≡ with_bytes out text → IsTimeTold o s.words err err_new → LeavesFound words f out out_new err err_new (status_of o)
+      → out_new ≡ with_bytes out text → IsTimeTold o s.limit err err_new → LeavesFound words f out out_new err err_new (status_of o)
   BrokenOff : (s : FoundSteps) (why : Stop) → f ≡ found.Stepped s → IsCutOff s out out_new why
       → IsRefusalSaid words why about.Nothing err err_new → LeavesFound words f out out_new err err_new status.Refused
-
--- both streams after a call of these words
-abbrev pub LeavesJson : (List ℕ → Option (List ℕ) → Type 0) → List (List ℕ) → Result Request Stop → (out out_new err err_new : OutState) →
-    Status → Type 0
-LeavesJson holds words asked out out_new err err_new ends =
-    Leaves LeavesFound IsRefusalSaid holds words asked out out_new err err_new ends

@@ -23,14 +23,13 @@ opening_of s = opening_facts s.loaded.program.layout (opening s.loaded.program s
 -- behind these facts those of some first statements that are asked for
 abbrev pub first_behind : FoundSteps → (before : List Data) → List Entry → List Data
 first_behind s before first =
-    before ++ steps_from s.loaded.program.layout s.loaded.program.tree (text_in s.loaded.source) s.words.steps.from s.words.steps.to 1 first
+    before ++ steps_from s.loaded.program.layout s.loaded.program.tree (text_in s.loaded.source) s.words.from s.words.to 1 first
 
 -- behind them those of all that are asked for, and of what the run comes to
 abbrev pub all_behind : FoundSteps → (before : List Data) → Outcome → List Data
 all_behind s before o =
     before ++ steps_facts s.loaded.program.layout s.loaded.program.tree (text_in s.loaded.source) (verdict_of o) (entries_of s)
-    s.words.steps.from
-    s.words.steps.to
+    s.words.from s.words.to
 
 -- what stands on standard output where the run is not told to its end: a beginning of the lines of some of its first statements, or of all
 -- of its text, behind which the writer failed; or where memory was refused the lines of some of its first statements, whole, or nothing

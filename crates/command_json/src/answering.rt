@@ -1,8 +1,7 @@
 //! What was found is told as JSON.
 
-ghost use Rattle.std.specs.Prelude.{◌≤◌, length, map};
+ghost use Rattle.std.specs.Prelude.{map};
 ghost use Rattle.std.specs.String.{string_bytes};
-ghost use Rattle.pram_model.specs.Layout.{total_size};
 ghost use Rattle.command_json.specs.Left.{IsRefusalSaid, LeavesFound};
 ghost use Rattle.command_json.specs.Stepped.{IsToldBy};
 
@@ -25,7 +24,6 @@ fn write_watched<'a, V: Watch, O: Out>(
     watch: &mut V,
     out: &mut O,
 ) -> Result<Outcome, Stop<'a>>
-    requires fits { length steps.now.input.items ≤ total_size steps.now.loaded.program.layout }
     ensures told { IsToldBy steps.now (O.Out.state out.old) (O.Out.state out.new) result }
 {
     if on_terminal {
@@ -46,13 +44,12 @@ fn tell_steps<V: Watch, O: Out, E: Out>(
     out: &mut O,
     err: &mut E,
 ) -> Status
-    requires fits { length steps.now.input.items ≤ total_size steps.now.loaded.program.layout }
     ensures leaves { LeavesFound (map string_bytes words.now) (Found.Stepped steps.now) (O.Out.state out.old) (O.Out.state out.new)
         (E.Out.state err.old) (E.Out.state err.new) result }
 {
     match write_watched(alloc, on_terminal, steps, watch, out) {
         Ok(outcome) => {
-            tell_time(err, &outcome, &steps.words);
+            tell_time(err, &outcome, &steps.limit);
             Status::of(&outcome)
         }
         Err(stop) => {

@@ -11,9 +11,7 @@ ghost use Rattle.diagnoses.specs.Stops.{bytes_in as bytes_of, name_in as name_of
 ghost use Rattle.command_facts.specs.Written.{IsReported};
 ghost use Rattle.command_json.specs.Left as spec;
 
-use command_facts::Settled;
-use command_messages::message_for;
-use command_requests::RunWords;
+use command_facts::{Limit, Settled, message_for};
 use diagnoses::{Halted, bytes_in, name_in, refusal_as_it_stands};
 use help::Message;
 use itoa::Buffer;
@@ -85,14 +83,14 @@ fn say_time<E: Out>(err: &mut E, seconds: u32, bound: u32)
 }
 
 /// Writes to standard error, where time was over for a run that goes on, how many seconds it had and behind how many statements that was.
-pub(crate) fn tell_time<E: Out>(err: &mut E, outcome: &Outcome, words: &RunWords<'_>)
-    ensures told { spec.IsTimeTold outcome.now words.now (E.Out.state err.old) (E.Out.state err.new) }
+pub(crate) fn tell_time<E: Out>(err: &mut E, outcome: &Outcome, limit: &Limit)
+    ensures told { spec.IsTimeTold outcome.now limit.now (E.Out.state err.old) (E.Out.state err.new) }
 {
     match outcome {
         Outcome::Ended { .. } | Outcome::Faulted { .. } => {}
         Outcome::GoesOn { .. } => {
-            if let Some(seconds) = words.seconds {
-                say_time(err, seconds, words.options.bound)
+            if let Some(seconds) = limit.seconds {
+                say_time(err, seconds, limit.bound)
             }
         }
     }
@@ -103,7 +101,9 @@ pub(crate) fn tell_found_in_time<E: Out>(err: &mut E, found: &Settled<'_>)
     ensures told { spec.IsFoundInTime found.now (E.Out.state err.old) (E.Out.state err.new) }
 {
     match found {
-        Settled::Run(run) => tell_time(err, &run.outcome, &run.words),
+        Settled::Run(run, _) => tell_time(err, &run.outcome, &run.limit),
+        Settled::Costed(run, _, _) => tell_time(err, &run.outcome, &run.limit),
+        Settled::Traced(run, _, _) => tell_time(err, &run.outcome, &run.limit),
         _ => {}
     }
 }

@@ -1,8 +1,7 @@
 //! Runs of a program that are told statement by statement as they go.
 
-ghost use Rattle.std.specs.Prelude.{◌≡◌, ◌≤◌, ◌∷◌, [], IfErr, IfOk, OnOk, length, string_bytes};
+ghost use Rattle.std.specs.Prelude.{◌≡◌, ◌∷◌, [], IfErr, IfOk, OnOk, string_bytes};
 ghost use Rattle.json_texts.specs.Lines.{IsJson};
-ghost use Rattle.pram_model.specs.Layout.{total_size};
 ghost use Rattle.json_texts.specs.Streamed.{WroteJson};
 ghost use Rattle.command_facts.specs.Found.{IsOutcomeOf, entries_of};
 ghost use Rattle.command_json.specs.Stepped as spec;
@@ -13,9 +12,8 @@ use json_texts::{json_opening, json_outcome, stream_json};
 use memory_texts::Choice;
 use observing::Watch;
 use pram_meaning::open;
-use program_texts::{Refusal, Status, Stop};
+use program_texts::{Status, Stop};
 use std::alloc::{AllocError, Global};
-use step_text::StreamFailure;
 use text_out::Out;
 use write_rules::Outcome;
 
@@ -27,17 +25,13 @@ fn stream_lines<'a, V: Watch, O: Out>(
     watch: &mut V,
     out: &mut O,
 ) -> Result<Outcome, Stop<'a>>
-    requires fits { length steps.now.input.items ≤ total_size steps.now.loaded.program.layout }
     ensures outcome { IfOk result (IsOutcomeOf steps.now) }
     ensures lines { OnOk result (WroteJson (O.Out.state out.old) (O.Out.state out.new)
         (spec.first_behind steps.now [] (entries_of steps.now))) }
     ensures cut { IfErr result (spec.IsCutBehind steps.now [] (O.Out.state out.old) (O.Out.state out.new)) }
 {
-    let (program, bound) = (&steps.loaded.program, steps.words.options.bound);
-    let (first, last) = (
-        steps.words.steps.from as usize,
-        steps.words.steps.to as usize,
-    );
+    let (program, bound) = (&steps.loaded.program, steps.limit.bound);
+    let (first, last) = (steps.words.from as usize, steps.words.to as usize);
     let source = steps.loaded.source.text();
     match stream_json(
         alloc,
@@ -51,9 +45,7 @@ fn stream_lines<'a, V: Watch, O: Out>(
         out,
     ) {
         Ok(outcome) => Ok(outcome),
-        Err(StreamFailure::WriteFailed) => Err(Stop::WriteFailed),
-        Err(StreamFailure::OutOfMemory) => Err(Stop::Refused(Refusal::OutOfMemory)),
-        Err(StreamFailure::InputTooLong) => Err(Stop::Refused(Refusal::InputTooLong)),
+        Err(failure) => Err(Stop::from(failure)),
     }
 }
 
@@ -64,7 +56,6 @@ fn write_run<'a, V: Watch, O: Out>(
     watch: &mut V,
     out: &mut O,
 ) -> Result<Outcome, Stop<'a>>
-    requires fits { length steps.now.input.items ≤ total_size steps.now.loaded.program.layout }
     ensures told { spec.IsToldBehind steps.now [] (O.Out.state out.old) (O.Out.state out.new) result }
 {
     let outcome = stream_lines(alloc, steps, watch, out)?;
@@ -75,7 +66,6 @@ fn write_run<'a, V: Watch, O: Out>(
 
 // What the cells hold before the first statement, on a line.
 fn opening_line(alloc: Global, steps: &FoundSteps<'_>) -> Result<String, AllocError>
-    requires fits { length steps.now.input.items ≤ total_size steps.now.loaded.program.layout }
     ensures json { IfOk result (λ line. IsJson (spec.opening_of steps.now ∷ []) (string_bytes line)) }
 {
     let run = open(alloc, &steps.loaded.program, &steps.input)?;
@@ -91,7 +81,6 @@ pub(crate) fn write_stepped<'a, V: Watch, O: Out>(
     watch: &mut V,
     out: &mut O,
 ) -> Result<Outcome, Stop<'a>>
-    requires fits { length steps.now.input.items ≤ total_size steps.now.loaded.program.layout }
     ensures told { spec.IsToldBy steps.now (O.Out.state out.old) (O.Out.state out.new) result }
 {
     let line = opening_line(alloc, steps)?;

@@ -5,6 +5,8 @@ ghost use Rattle.std.specs.String.{string_bytes};
 ghost use Rattle.json_texts.specs.Lines.{IsJson};
 ghost use Rattle.comparing.specs.Found as pairs;
 ghost use Rattle.scopes.specs.Found.{found_is};
+ghost use Rattle.json_texts.specs.CostFacts.{cost_facts};
+ghost use Rattle.json_texts.specs.OutcomeFacts.{chosen_facts};
 ghost use Rattle.json_texts.specs.ExplorationFacts.{exploration_facts};
 ghost use Rattle.json_texts.specs.PairFacts.{pair_facts};
 ghost use Rattle.json_texts.specs.SweepFacts.{sweep_facts};
@@ -14,13 +16,16 @@ ghost use Rattle.command_json.specs.Facts as spec;
 
 use crate::writing::write_json;
 use command_facts::{
-    Facts, FoundCode, FoundPair, FoundRun, FoundScope, FoundSweep, FoundTrace, Settled, status_of,
+    FoundCode, FoundPair, FoundRun, FoundScope, FoundSweep, FoundTrace, Settled, status_of,
 };
+use command_requests::CostWords;
+use costs::Cost;
 use exchange_counts::Counts;
 use json_texts::{
     json_accepted, json_comparison, json_cost, json_exploration, json_outcome, json_pair,
     json_sweep, json_trace,
 };
+use memory_texts::Choice;
 use program_texts::{Status, Stop};
 use std::alloc::{AllocError, Global};
 use text_out::Out;
@@ -54,21 +59,33 @@ fn trace_text(
     json_trace(alloc, &found.counts, &found.lines, cost, outcome)
 }
 
-// A run of a program.
-fn run_text(alloc: Global, run: &FoundRun<'_>) -> Result<String, AllocError>
-    ensures told { IfOk result (λ text. IsJson (spec.run_facts run.now run.now.facts) (string_bytes text)) }
+// The outcome of a run of a program.
+fn run_text(alloc: Global, run: &FoundRun<'_>, shown: Choice<'_>) -> Result<String, AllocError>
+    ensures told { IfOk result (λ text. IsJson (chosen_facts shown.entry run.now.loaded.program.layout (verdict_of run.now.outcome) ∷ [])
+        (string_bytes text)) }
+{
+    json_outcome(alloc, run.loaded.program.layout(), &run.outcome, shown)
+}
+
+// What it costs.
+fn cost_text(
+    alloc: Global,
+    run: &FoundRun<'_>,
+    words: CostWords,
+    cost: &Cost,
+) -> Result<String, AllocError>
+    ensures told { IfOk result (λ text. IsJson (cost_facts run.now.loaded.program.layout (verdict_of run.now.outcome) cost.now
+        words.schedule words.lines ∷ []) (string_bytes text)) }
 {
     let layout = run.loaded.program.layout();
-    let outcome = &run.outcome;
-    let words = &run.words;
-    match &run.facts {
-        Facts::Nothing => json_outcome(alloc, layout, outcome, words.shown),
-        Facts::Exchanges(found) => trace_text(alloc, found, run.words.trace.rates, outcome),
-        Facts::Cost(cost) => {
-            let (schedule, lines) = (words.costs.schedule, words.costs.lines);
-            json_cost(alloc, layout, outcome, cost, schedule, lines)
-        }
-    }
+    json_cost(
+        alloc,
+        layout,
+        &run.outcome,
+        cost,
+        words.schedule,
+        words.lines,
+    )
 }
 
 // A run of a listing.
@@ -116,7 +133,11 @@ fn text_of<'a>(alloc: Global, found: &Settled<'_>) -> Result<String, Stop<'a>>
     match found {
         Settled::Accepted(loaded) => Ok(json_accepted(alloc, &loaded.program)?),
         Settled::Compared(comparison) => Ok(json_comparison(alloc, comparison)?),
-        Settled::Run(run) => Ok(run_text(alloc, run)?),
+        Settled::Run(run, shown) => Ok(run_text(alloc, run, *shown)?),
+        Settled::Costed(run, words, cost) => Ok(cost_text(alloc, run, *words, cost)?),
+        Settled::Traced(run, words, exchanges) => {
+            Ok(trace_text(alloc, exchanges, words.rates, &run.outcome)?)
+        }
         Settled::Swept(swept) => Ok(sweep_text(alloc, swept)?),
         Settled::Explored(found) => Ok(scope_text(alloc, found)?),
         Settled::Paired(pair) => Ok(pair_text(alloc, pair)?),

@@ -1,7 +1,8 @@
 //! The program `pramc`, over the system's files and streams.
 #![tactic(auto)]
 
-use pramc::{CommandLine, ErrorStream, ProgressLine, Terminal, command};
+use command_words::CommandLine;
+use pramc::{ErrorStream, ProgressLine, Terminal, command};
 use std::io::{IsTerminal, Print};
 use std::process::ExitCode;
 use std::{env, io};

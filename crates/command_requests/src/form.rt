@@ -1,6 +1,6 @@
-//! In which form something is told.
+//! In which form the statements of a run are told.
 
-/// In which form the statements of a run, its exchanges or its costs at several sizes are told.
+/// In which form the statements of a run are told.
 #[derive(Clone, Copy, Debug, Drop, PartialEq, Eq)]
 pub enum Form {
     /// In words.

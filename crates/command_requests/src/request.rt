@@ -1,40 +1,15 @@
 //! What a call of the program asks for.
 
 use crate::cost_words::CostWords;
-use crate::form::Form;
 use crate::opening::Opening;
 use crate::pair_words::PairWords;
+use crate::run_words::{MeaningWords, RunWords};
 use crate::scope_words::ScopeWords;
 use crate::step_words::StepWords;
+use crate::sweep_words::SweepWords;
 use crate::trace_words::TraceWords;
 use help::Subject;
 use memory_texts::Choice;
-use run_options::{Options, Reserve};
-
-/// What is done with the program of a file.
-#[derive(Clone, Copy, Debug, Drop, PartialEq, Eq)]
-pub enum Verb {
-    /// It is checked.
-    Check,
-    /// Its code is shown.
-    Plan,
-    /// Its code is written as a program in C.
-    Export,
-    /// It is run by its definition.
-    Meaning,
-    /// What its run by its definition costs is counted.
-    Cost,
-    /// Its run by its definition is told statement by statement.
-    Steps,
-    /// It is run by its definition under each of the rules.
-    Rules,
-    /// It is run by workers.
-    Run,
-    /// The exchanges of that run are shown.
-    Trace,
-    /// The text of the language that it stands for is written, whether or not that is a program.
-    Expand,
-}
 
 /// A word by which a number is given for a size.
 #[derive(Clone, Copy, Debug, Drop)]
@@ -53,34 +28,6 @@ pub struct ProgramFile<'a> {
     pub sizes: Vec<SizeWord<'a>>,
 }
 
-/// How something is run.
-#[derive(Clone, Copy, Debug)]
-pub struct RunWords<'a> {
-    /// What the cells hold before the first statement.
-    pub opening: Opening<'a>,
-    pub options: Options,
-    /// In how many seconds the run of a definition is to be over. Without a number it has the time that it takes.
-    pub seconds: Option<u32>,
-    /// For how much workers take all their memory before the first exchange. Without one they take it on the way.
-    pub reserve: Option<Reserve>,
-    pub costs: CostWords,
-    pub steps: StepWords<'a>,
-    pub trace: TraceWords,
-    /// How statements, exchanges or costs at several sizes are told.
-    pub form: Form,
-    /// Which shared declarations are written where the run ends, or drawn in a flow.
-    pub shown: Choice<'a>,
-}
-
-/// The sizes at which a program is run, and how that is told.
-#[derive(Debug, Drop)]
-pub struct SweepWords<'a> {
-    /// The word, as `n=4,8,16` or `n=4..64*2`, by which the sizes are given.
-    pub word: &'a str,
-    /// Whether a table of values separated by commas is written.
-    pub csv: bool,
-}
-
 /// One call of the program.
 #[derive(Debug, Drop)]
 pub enum Request<'a> {
@@ -88,30 +35,68 @@ pub enum Request<'a> {
     Version,
     /// For what there is to say of a subject.
     Explanation(Subject),
-    /// Over the text of a program.
-    Program {
-        verb: Verb,
+    /// A program is checked.
+    Check(ProgramFile<'a>),
+    /// The text of the language that a text stands for is written, whether or not that is a program.
+    Expand(ProgramFile<'a>),
+    /// The code of a program is shown.
+    Plan(ProgramFile<'a>),
+    /// The code of a program is written as a program in C.
+    Export(ProgramFile<'a>),
+    /// A program is run by its definition, and of memory some declarations are shown.
+    Meaning {
+        file: ProgramFile<'a>,
+        words: MeaningWords<'a>,
+        shown: Choice<'a>,
+    },
+    /// What its run by its definition costs is counted.
+    Cost {
+        file: ProgramFile<'a>,
+        words: MeaningWords<'a>,
+        costs: CostWords,
+    },
+    /// Its run by its definition is told statement by statement.
+    Steps {
+        file: ProgramFile<'a>,
+        words: MeaningWords<'a>,
+        steps: StepWords<'a>,
+    },
+    /// It is run by its definition under each of the rules, on these cells and for at most so many statements.
+    Rules {
+        file: ProgramFile<'a>,
+        opening: Opening<'a>,
+        bound: u32,
+    },
+    /// It is run by workers, and of memory some declarations are shown.
+    Run {
         file: ProgramFile<'a>,
         words: RunWords<'a>,
+        shown: Choice<'a>,
+    },
+    /// The exchanges of that run are told.
+    Trace {
+        file: ProgramFile<'a>,
+        words: RunWords<'a>,
+        trace: TraceWords,
     },
     /// What the run by its definition costs is counted at each of some sizes.
     Sweep {
         file: ProgramFile<'a>,
-        sweep: SweepWords<'a>,
-        words: RunWords<'a>,
+        words: SweepWords<'a>,
     },
-    /// A program is run by its definition on every input of a scope.
+    /// A program is run by its definition on every input of a scope, each time for at most so many statements.
     Exploration {
         file: ProgramFile<'a>,
         scope: ScopeWords,
-        words: RunWords<'a>,
+        bound: u32,
     },
     /// Two programs are run by their definitions on the same inputs.
     Pair(PairWords<'a>),
-    /// A listing is run.
+    /// A listing is run by workers, and of memory some declarations are shown.
     Listing {
         file: &'a str,
         words: RunWords<'a>,
+        shown: Choice<'a>,
     },
     /// A listing is written as a program in C.
     ListingInC {

@@ -1,5 +1,6 @@
 //! Which entries of a run are told, and what of each.
 
+use crate::form::Form;
 use memory_texts::Choice;
 
 /// Which entries of a run are told, counted from 1, and what of each.
@@ -15,4 +16,7 @@ pub struct StepWords<'a> {
     pub columns: bool,
     /// The cells, variables and locals that alone are told, where names are given, and no statement that changed none of them.
     pub only: Choice<'a>,
+    pub form: Form,
+    /// The declarations whose cells a flow of data is drawn of.
+    pub drawn: Choice<'a>,
 }

@@ -9,4 +9,6 @@ pub struct TraceWords {
     pub lines: bool,
     /// What a word and an exchange cost, where the sum of that is told.
     pub rates: Option<(u32, u32)>,
+    /// Whether they are drawn, as SVG, with nothing behind them.
+    pub drawn: bool,
 }

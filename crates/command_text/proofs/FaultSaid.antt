@@ -10,7 +10,7 @@ use Rattle.command_facts.specs.declared.found.FoundRun.{FoundRun}
 use Rattle.command_text.specs.Explained.{IsFaultSaid, fault_said}
 
 pub fault_is_said : (r : FoundRun) (fault : Fault) (found : Option Reason) →
-    IfSome found (λ reason. reason_is reason ≡ run_reason r.loaded.program r.input.items r.words.options.bound) →
+    IfSome found (λ reason. reason_is reason ≡ run_reason r.loaded.program r.input.items r.limit.bound) →
     IsFaultSaid r fault (fault_said r.loaded.source r.loaded.program.layout fault (option_map reason_is found))
 fault_is_said r fault None is = inr refl
 fault_is_said r fault (Some reason) is =

@@ -1,7 +1,7 @@
 -- What tells a run statement by statement is the text that is asked for, or a beginning of it.
-use Rattle.std.proofs.Common.{◌≡◌, ◌++◌, ◌≤◌, ℕ, ℤ, List, refl, subst, sym}
+use Rattle.std.proofs.Common.{◌≡◌, ◌++◌, ℕ, ℤ, List, refl, subst, sym}
 use Rattle.std.specs.Prelude.{Result, Ok, Err, IsErrAnd, length}
-use Rattle.pram_model.specs.Layout.{SharedEntry, total_size}
+use Rattle.pram_model.specs.Layout.{SharedEntry}
 use Rattle.text_out.specs.Out.{OutState, StopsIn, with_bytes}
 use Rattle.text_out.proofs.Writing.{stops_behind, writes_then}
 use Rattle.write_rules.specs.Verdict.{verdict_of}
@@ -9,6 +9,7 @@ use Rattle.write_rules.specs.declared.outcome.Outcome.{Outcome}
 use Rattle.journal.specs.Entries.{Entry}
 use Rattle.journal.specs.Between.{between}
 use Rattle.journal.specs.RunEntries.{run_entries}
+use Rattle.step_text.specs.Stops.{stop_of}
 use Rattle.step_text.specs.Streamed.{HasStreamed}
 use Rattle.step_text.specs.declared.failure.StreamFailure.{StreamFailure}
 use Rattle.step_text.specs.declared.failure.StreamFailure.TheVariants as failure
@@ -53,9 +54,9 @@ module _ (on : Terminal) (s : FoundSteps) (old : OutState) where
   cut_run new (Err e) why is cut = subst (IsCutOff on s old new) (sym is) cut
 
   -- the text in the form that is asked for
-  as_asked : (f : Form) (o : Outcome) (text : List ℕ) → s.words.form ≡ f → AreStepsText f on (with_outcome s o) (entries_of s) text →
-      IsToldText on s o text
-  as_asked f o text asked is = subst (λ f. AreStepsText f on (with_outcome s o) (entries_of s) text) (sym asked) is
+  as_asked : (f : Form) (o : Outcome) (text : List ℕ) → s.words.form ≡ f →
+      AreStepsText f on s.words (with_outcome s o) (entries_of s) text → IsToldText on s o text
+  as_asked f o text asked is = subst (λ f. AreStepsText f on s.words (with_outcome s o) (entries_of s) text) (sym asked) is
 
   -- ---- a text that was written when the run was over
 
@@ -65,17 +66,17 @@ module _ (on : Terminal) (s : FoundSteps) (old : OutState) where
 
   module _ (f : Form) (asked : s.words.form ≡ f) (o : Outcome) (comes : IsOutcomeOf s o) where
     -- all of a text
-    pub whole : (new : OutState) (text : List ℕ) → AreStepsText f on (with_outcome s o) (entries_of s) text → new ≡ with_bytes old text →
-        IsToldBy on s old new (Ok o)
+    pub whole : (new : OutState) (text : List ℕ) → AreStepsText f on s.words (with_outcome s o) (entries_of s) text →
+        new ≡ with_bytes old text → IsToldBy on s old new (Ok o)
     whole new text is written = (comes, (text, as_asked f o text asked is, written))
 
-    stopped : (new : OutState) (why : Stop) (text : List ℕ) → AreStepsText f on (with_outcome s o) (entries_of s) text →
+    stopped : (new : OutState) (why : Stop) (text : List ℕ) → AreStepsText f on s.words (with_outcome s o) (entries_of s) text →
         (why ≡ stop.WriteFailed) × StopsIn old new text → IsCutOff on s old new why
     stopped new why text is cut = subst (IsCutOff on s old new) (sym cut.0) (InText o text comes (as_asked f o text asked is) cut.1)
 
     -- a text that is known
     pub cut_in_text : (new : OutState) (ends : Status) (why : Stop) (text : List ℕ) →
-        AreStepsText f on (with_outcome s o) (entries_of s) text → Wrote ends text old new (Err why) → IsCutOff on s old new why
+        AreStepsText f on s.words (with_outcome s o) (entries_of s) text → Wrote ends text old new (Err why) → IsCutOff on s old new why
     cut_in_text new ends why text is w = stopped new why text is w
 
   -- ---- in words
@@ -114,69 +115,93 @@ module _ (on : Terminal) (s : FoundSteps) (old : OutState) where
 -- what was streamed by the values that were handed over
 pub streamed_by : (s : FoundSteps) (telling : Telling) (old new : OutState) (given : List ℤ) (r q : Result Outcome StreamFailure) →
     given ≡ s.input.items → r ≡ q →
-    HasStreamed old new (lines_of s telling) (run_entries s.loaded.program given s.words.options.bound) r →
+    HasStreamed old new (lines_of s telling) (run_entries s.loaded.program given s.limit.bound) r →
     HasStreamed old new (lines_of s telling) (entries_of s) q
 streamed_by s telling old new given r q same is h =
-    subst (λ (i : List ℤ). HasStreamed old new (lines_of s telling) (run_entries s.loaded.program i s.words.options.bound) q) same
-    (subst (HasStreamed old new (lines_of s telling) (run_entries s.loaded.program given s.words.options.bound)) is h)
+    subst (λ (i : List ℤ). HasStreamed old new (lines_of s telling) (run_entries s.loaded.program i s.limit.bound) q) same
+    (subst (HasStreamed old new (lines_of s telling) (run_entries s.loaded.program given s.limit.bound)) is h)
+
+-- a failure on the way
+pub lines_cut : (s : FoundSteps) (telling : Telling) (old new : OutState) (f : StreamFailure) (why : Stop) → why ≡ stop_of f →
+    HasStreamed old new (lines_of s telling) (entries_of s) (Err f) → (f ≡ failure.InputTooLong → ⊥) → IsCutIn s telling old new why
+lines_cut s telling old new failure.WriteFailed why is h fits = subst (IsCutIn s telling old new) (sym is) h
+lines_cut s telling old new failure.OutOfMemory why is h fits = subst (IsCutIn s telling old new) (sym is) h
+lines_cut s telling old new failure.InputTooLong why is h fits = absurd (fits refl)
 
 -- a page that was streamed by the values that were handed over
 pub page_by : (s : FoundSteps) (old new : OutState) (file text : List ℕ) (given : List ℤ) (r q : Result Outcome StreamFailure) →
     file ≡ s.loaded.source.name.now → text ≡ text_in s.loaded.source → given ≡ s.input.items → r ≡ q →
-    HasStreamedPage (IsPageOfRun file text s.loaded.program given s.words.options.bound s.words.steps.from s.words.steps.to) old new r →
-    HasStreamedPage (IsPageOfRun s.loaded.source.name.now (text_in s.loaded.source) s.loaded.program s.input.items s.words.options.bound
-    s.words.steps.from s.words.steps.to) old new q
+    HasStreamedPage (IsPageOfRun file text s.loaded.program given s.limit.bound s.words.from s.words.to) old new r →
+    HasStreamedPage (IsPageOfRun s.loaded.source.name.now (text_in s.loaded.source) s.loaded.program s.input.items s.limit.bound
+    s.words.from s.words.to) old new q
 page_by s old new file text given r q same_file same_text same is h =
     let Is : (file text : List ℕ) → List ℤ → Outcome → List ℕ → Type 0 =
-    λ file text given. IsPageOfRun file text s.loaded.program given s.words.options.bound s.words.steps.from s.words.steps.to in
+    λ file text given. IsPageOfRun file text s.loaded.program given s.limit.bound s.words.from s.words.to in
     subst (λ (f : List ℕ). HasStreamedPage (Is f (text_in s.loaded.source) s.input.items) old new q) same_file
     (subst (λ (t : List ℕ). HasStreamedPage (Is file t s.input.items) old new q) same_text
     (subst (λ (i : List ℤ). HasStreamedPage (Is file text i) old new q) same
     (subst (HasStreamedPage (Is file text given) old new) is h)))
 
 -- the writer failed in it
-pub page_cut : (on : Terminal) (s : FoundSteps) (old new : OutState) → s.words.form ≡ form.Page →
-    length s.input.items ≤ total_size s.loaded.program.layout →
-    HasStreamedPage (IsPageOfRun s.loaded.source.name.now (text_in s.loaded.source) s.loaded.program s.input.items s.words.options.bound
-    s.words.steps.from s.words.steps.to) old new (Err failure.WriteFailed) → IsCutOff on s old new stop.WriteFailed
-page_cut on s old new asked fits h =
+page_stopped : (on : Terminal) (s : FoundSteps) (old new : OutState) → s.words.form ≡ form.Page →
+    HasStreamedPage (IsPageOfRun s.loaded.source.name.now (text_in s.loaded.source) s.loaded.program s.input.items s.limit.bound
+    s.words.from s.words.to) old new (Err failure.WriteFailed) → IsCutOff on s old new stop.WriteFailed
+page_stopped on s old new asked h =
     let o = h.0 in
     let shows = h.1 in
-    cut_in_text on s old form.Page asked o (record { fits = fits; outcome = h.2.0 }) new (status_of o) stop.WriteFailed shows h.2.1
+    cut_in_text on s old form.Page asked o (record { fits = s.fits; outcome = h.2.0 }) new (status_of o) stop.WriteFailed shows h.2.1
     (refl, h.3)
+
+-- or memory was refused
+pub page_cut : (on : Terminal) (s : FoundSteps) (old new : OutState) → s.words.form ≡ form.Page → (f : StreamFailure) (why : Stop) →
+    why ≡ stop_of f →
+    HasStreamedPage (IsPageOfRun s.loaded.source.name.now (text_in s.loaded.source) s.loaded.program s.input.items s.limit.bound
+    s.words.from s.words.to) old new (Err f) → (f ≡ failure.InputTooLong → ⊥) → IsCutOff on s old new why
+page_cut on s old new asked failure.WriteFailed why is h fits = subst (IsCutOff on s old new) (sym is) (page_stopped on s old new asked h)
+page_cut on s old new asked failure.OutOfMemory why is h fits = subst (IsCutOff on s old new) (sym is) (Untold h)
+page_cut on s old new asked failure.InputTooLong why is h fits = absurd (fits refl)
 
 -- a flow that was drawn by the values that were handed over
 pub flow_by : (s : FoundSteps) (old new : OutState) (text : List ℕ) (given : List ℤ) (only : List CellSpan)
     (r q : Result Outcome StreamFailure) → text ≡ text_in s.loaded.source → given ≡ s.input.items →
-    only ≡ chosen_spans s.loaded.program.layout s.words.shown → r ≡ q →
-    HasStreamedFlow text s.loaded.program given s.words.options.bound only s.words.steps.from s.words.steps.to old new r →
-    HasStreamedFlow (text_in s.loaded.source) s.loaded.program s.input.items s.words.options.bound
-    (chosen_spans s.loaded.program.layout s.words.shown) s.words.steps.from s.words.steps.to old new q
+    only ≡ chosen_spans s.loaded.program.layout s.words.drawn → r ≡ q →
+    HasStreamedFlow text s.loaded.program given s.limit.bound only s.words.from s.words.to old new r →
+    HasStreamedFlow (text_in s.loaded.source) s.loaded.program s.input.items s.limit.bound
+    (chosen_spans s.loaded.program.layout s.words.drawn) s.words.from s.words.to old new q
 flow_by s old new text given only r q same_text same same_only is h =
     let Has : List ℕ → List ℤ → List CellSpan → Result Outcome StreamFailure → Type 0 =
-    λ text given only r. HasStreamedFlow text s.loaded.program given s.words.options.bound only s.words.steps.from s.words.steps.to
+    λ text given only r. HasStreamedFlow text s.loaded.program given s.limit.bound only s.words.from s.words.to
     old new r in
-    subst (λ (t : List ℕ). Has t s.input.items (chosen_spans s.loaded.program.layout s.words.shown) q) same_text
-    (subst (λ (i : List ℤ). Has text i (chosen_spans s.loaded.program.layout s.words.shown) q) same
+    subst (λ (t : List ℕ). Has t s.input.items (chosen_spans s.loaded.program.layout s.words.drawn) q) same_text
+    (subst (λ (i : List ℤ). Has text i (chosen_spans s.loaded.program.layout s.words.drawn) q) same
     (subst (λ (c : List CellSpan). Has text given c q) same_only (subst (Has text given only) is h)))
 
 -- the writer failed in it
-pub flow_cut : (on : Terminal) (s : FoundSteps) (old new : OutState) → s.words.form ≡ form.Flow →
-    length s.input.items ≤ total_size s.loaded.program.layout →
-    HasStreamedFlow (text_in s.loaded.source) s.loaded.program s.input.items s.words.options.bound
-    (chosen_spans s.loaded.program.layout s.words.shown) s.words.steps.from s.words.steps.to old new (Err failure.WriteFailed) →
+flow_stopped : (on : Terminal) (s : FoundSteps) (old new : OutState) → s.words.form ≡ form.Flow →
+    HasStreamedFlow (text_in s.loaded.source) s.loaded.program s.input.items s.limit.bound
+    (chosen_spans s.loaded.program.layout s.words.drawn) s.words.from s.words.to old new (Err failure.WriteFailed) →
     IsCutOff on s old new stop.WriteFailed
-flow_cut on s old new asked fits h =
-    cut_in_text on s old form.Flow asked h.0 (record { fits = fits; outcome = h.1 }) new (status_of h.0) stop.WriteFailed
-    (flow_text (with_outcome s h.0) (entries_of s)) refl (refl, h.2)
+flow_stopped on s old new asked h =
+    cut_in_text on s old form.Flow asked h.0 (record { fits = s.fits; outcome = h.1 }) new (status_of h.0) stop.WriteFailed
+    (flow_text s.words (with_outcome s h.0) (entries_of s)) refl (refl, h.2)
+
+-- or memory was refused
+pub flow_cut : (on : Terminal) (s : FoundSteps) (old new : OutState) → s.words.form ≡ form.Flow → (f : StreamFailure) (why : Stop) →
+    why ≡ stop_of f →
+    HasStreamedFlow (text_in s.loaded.source) s.loaded.program s.input.items s.limit.bound
+    (chosen_spans s.loaded.program.layout s.words.drawn) s.words.from s.words.to old new (Err f) → (f ≡ failure.InputTooLong → ⊥) →
+    IsCutOff on s old new why
+flow_cut on s old new asked failure.WriteFailed why is h fits = subst (IsCutOff on s old new) (sym is) (flow_stopped on s old new asked h)
+flow_cut on s old new asked failure.OutOfMemory why is h fits = subst (IsCutOff on s old new) (sym is) (Untold h)
+flow_cut on s old new asked failure.InputTooLong why is h fits = absurd (fits refl)
 
 -- how statements are told
 pub telling_by : (on : Terminal) (s : FoundSteps) (text sized : List ℕ) (telling : Telling) →
     text ≡ s.loaded.source.bytes.items → sized ≡ text_in s.loaded.source →
-    IsTelling on s.words.steps text sized s.loaded.program telling → IsTellingOf on s telling
+    IsTelling on s.words text sized s.loaded.program telling → IsTellingOf on s telling
 telling_by on s text sized telling same_text same_sized is =
-    subst (λ (t : List ℕ). IsTelling on s.words.steps s.loaded.source.bytes.items t s.loaded.program telling) same_sized
-    (subst (λ (t : List ℕ). IsTelling on s.words.steps t sized s.loaded.program telling) same_text is)
+    subst (λ (t : List ℕ). IsTelling on s.words s.loaded.source.bytes.items t s.loaded.program telling) same_sized
+    (subst (λ (t : List ℕ). IsTelling on s.words t sized s.loaded.program telling) same_text is)
 
 -- the outcome, by its declarations
 pub outcome_as : (s : FoundSteps) (o : Outcome) (layout : List SharedEntry) (ends : Status) (mid new : OutState) (r : Result Status Stop)
@@ -188,18 +213,18 @@ outcome_as s o layout ends mid new r same w = subst (λ (l : List SharedEntry). 
 -- the picture of an excerpt
 pub picture_as : (s : FoundSteps) (o : Outcome) (layout : List SharedEntry) (text : List ℕ) (whole : ℕ) (es : List Entry) (ends : Status)
     (old new : OutState) (r : Result Status Stop) → layout ≡ s.loaded.program.layout → text ≡ s.loaded.source.bytes.items →
-    whole ≡ length (entries_of s) → es ≡ between s.words.steps.from s.words.steps.to (entries_of s) →
-    Wrote ends (shapes.picture_text (picture layout text (part_of s.words.steps.from whole) es)) old new r →
-    Wrote ends (picture_text (with_outcome s o) (entries_of s)) old new r
+    whole ≡ length (entries_of s) → es ≡ between s.words.from s.words.to (entries_of s) →
+    Wrote ends (shapes.picture_text (picture layout text (part_of s.words.from whole) es)) old new r →
+    Wrote ends (picture_text s.words (with_outcome s o) (entries_of s)) old new r
 picture_as s o layout text whole es ends old new r same_layout same_text same_whole same w =
     subst (λ (l : List SharedEntry). Wrote ends (shapes.picture_text (picture l s.loaded.source.bytes.items
-    (part_of s.words.steps.from (length (entries_of s))) (between s.words.steps.from s.words.steps.to (entries_of s)))) old new r)
+    (part_of s.words.from (length (entries_of s))) (between s.words.from s.words.to (entries_of s)))) old new r)
     same_layout
-    (subst (λ (t : List ℕ). Wrote ends (shapes.picture_text (picture layout t (part_of s.words.steps.from (length (entries_of s)))
-    (between s.words.steps.from s.words.steps.to (entries_of s)))) old new r) same_text
-    (subst (λ (n : ℕ). Wrote ends (shapes.picture_text (picture layout text (part_of s.words.steps.from n)
-    (between s.words.steps.from s.words.steps.to (entries_of s)))) old new r) same_whole
-    (subst (λ (es : List Entry). Wrote ends (shapes.picture_text (picture layout text (part_of s.words.steps.from whole) es)) old new r)
+    (subst (λ (t : List ℕ). Wrote ends (shapes.picture_text (picture layout t (part_of s.words.from (length (entries_of s)))
+    (between s.words.from s.words.to (entries_of s)))) old new r) same_text
+    (subst (λ (n : ℕ). Wrote ends (shapes.picture_text (picture layout text (part_of s.words.from n)
+    (between s.words.from s.words.to (entries_of s)))) old new r) same_whole
+    (subst (λ (es : List Entry). Wrote ends (shapes.picture_text (picture layout text (part_of s.words.from whole) es)) old new r)
     same w)))
 
 -- the run, as it came back

@@ -16,7 +16,7 @@ use Rattle.diagnoses.specs.FaultTexts.{fault_diagnosis, fault_sentence}
 use Rattle.diagnoses.specs.Reasons.{Reason, run_reason, unknown}
 use Rattle.diagnoses.specs.RefusedLines.{stop_line}
 use Rattle.diagnoses.specs.Stops.{IsSaid}
-use Rattle.command_messages.specs.Editors.{IsForEditors}
+use Rattle.command_facts.specs.Editors.{IsForEditors}
 use Rattle.command_facts.specs.declared.found.FoundCode.{FoundCode}
 use Rattle.command_facts.specs.declared.found.FoundRun.{FoundRun}
 use Rattle.command_facts.specs.declared.found.Settled.{Settled}
@@ -69,7 +69,7 @@ fault_said source layout fault None = fault_diagnosis source layout fault unknow
 -- why a run faults is told, or that memory to find it was refused
 abbrev pub IsFaultSaid : FoundRun → Fault → List ℕ → Type 0
 IsFaultSaid r fault text =
-    let why = run_reason r.loaded.program r.input.items r.words.options.bound in
+    let why = run_reason r.loaded.program r.input.items r.limit.bound in
     (text ≡ fault_said r.loaded.source r.loaded.program.layout fault (Some why))
     ⊎ (text ≡ fault_said r.loaded.source r.loaded.program.layout fault None)
 
@@ -99,11 +99,11 @@ IsCycleSaid p input text = (text ≡ []) ⊎ ((c : Cycle) × NeverEnds p input �
 -- a run met its bound, and what is known of it without one
 abbrev pub IsBoundSaid : FoundRun → OutState → OutState → Type 0
 IsBoundSaid r old new = (said : List ℕ) × IsCycleSaid r.loaded.program r.input.items said
-    × IsReported old new (bound_sentence r.words.options.bound ++ said)
+    × IsReported old new (bound_sentence r.limit.bound ++ said)
 
 -- why a run within a bound goes on: there was no more time, which is always said, or it met its bound
 abbrev pub IsLimitSaid : (explains : Bool) → (seconds : Option ℕ) → FoundRun → OutState → OutState → Type 0
-IsLimitSaid explains (Some seconds) r old new = IsReported old new (time_sentence seconds r.words.options.bound)
+IsLimitSaid explains (Some seconds) r old new = IsReported old new (time_sentence seconds r.limit.bound)
 IsLimitSaid true None r old new = IsBoundSaid r old new
 IsLimitSaid false None r old new = new ≡ old
 
@@ -116,7 +116,7 @@ IsFaultExplained false r fault old new = new ≡ old
 -- and that its bound was met, or its time over
 abbrev pub IsRunExplained : Bool → FoundRun → Outcome → OutState → OutState → Type 0
 IsRunExplained explains r (Faulted fault output) old new = IsFaultExplained explains r fault old new
-IsRunExplained explains r (GoesOn output) old new = IsLimitSaid explains r.words.seconds r old new
+IsRunExplained explains r (GoesOn output) old new = IsLimitSaid explains r.limit.seconds r old new
 IsRunExplained explains r _ old new = new ≡ old
 
 -- of a listing's code what happened is said, since its lines aren't the program's
@@ -126,6 +126,8 @@ IsCodeExplained _ c o old new = new ≡ old
 
 -- Where that is asked for, the fault of what was found is explained; and nothing is said where there is none.
 abbrev pub IsExplained : Bool → Settled → OutState → OutState → Type 0
-IsExplained explains (settled.Run r) old new = IsRunExplained explains r r.outcome old new
+IsExplained explains (settled.Run r told) old new = IsRunExplained explains r r.outcome old new
+IsExplained explains (settled.Costed r told costs) old new = IsRunExplained explains r r.outcome old new
+IsExplained explains (settled.Traced r told exchanges) old new = IsRunExplained explains r r.outcome old new
 IsExplained explains (settled.Executed c) old new = IsCodeExplained explains c c.outcome old new
 IsExplained explains _ old new = new ≡ old

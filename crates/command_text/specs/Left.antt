@@ -7,14 +7,12 @@ use Rattle.program_texts.specs.declared.status.Status.{Status}
 use Rattle.program_texts.specs.declared.status.Status.TheVariants as status
 use Rattle.program_texts.specs.declared.stop.Stop.{Stop}
 use Rattle.diagnoses.specs.declared.about.About.TheVariants as about
-use Rattle.command_requests.specs.declared.request.Request.{Request}
 use Rattle.command_facts.specs.declared.found.Found.{Found}
 use Rattle.command_facts.specs.declared.found.Found.TheVariants as found
 use Rattle.command_facts.specs.declared.found.FoundSteps.{FoundSteps}
 use Rattle.command_facts.specs.declared.found.Settled.{Settled}
-use Rattle.command_facts.specs.Calls.{status_of_found}
+use Rattle.command_facts.specs.Statuses.{status_of_found}
 use Rattle.command_facts.specs.Found.{IsOutcomeOf, with_outcome}
-use Rattle.command_facts.specs.Left as calls
 use Rattle.command_text.specs.declared.terminal.Terminal.{Terminal}
 use Rattle.command_text.specs.Explained.{IsExplained, IsRefusalReported, IsRunExplained}
 use Rattle.command_facts.specs.Written.{WroteSome}
@@ -34,9 +32,3 @@ pub data LeavesFound (on : Terminal) (words : List (List ℕ)) (f : Found) (out 
       → LeavesFound on words f out out_new err err_new (status_of o)
   BrokenOff : (s : FoundSteps) (why : Stop) → f ≡ found.Stepped s → IsCutOff on s out out_new why
       → IsRefusalReported on words why about.Nothing err err_new → LeavesFound on words f out out_new err err_new status.Refused
-
--- both streams after a call of these words
-abbrev pub Leaves : (List ℕ → Option (List ℕ) → Type 0) → Terminal → List (List ℕ) → Result Request Stop →
-    (out out_new err err_new : OutState) → Status → Type 0
-Leaves holds on words asked out out_new err err_new ends =
-    calls.Leaves (LeavesFound on) (IsRefusalReported on) holds words asked out out_new err err_new ends

@@ -20,18 +20,18 @@ use Rattle.command_text.specs.Texts.{AreStepsText, IsPageOf}
 
 -- the text of a run that came to this, in the form that is asked for
 abbrev pub IsToldText : Terminal → FoundSteps → Outcome → List ℕ → Type 0
-IsToldText on s o text = AreStepsText s.words.form on (with_outcome s o) (entries_of s) text
+IsToldText on s o text = AreStepsText s.words.form on s.words (with_outcome s o) (entries_of s) text
 
 -- ---- in words
 
 -- so its statements are told on these streams
 abbrev pub IsTellingOf : Terminal → FoundSteps → Telling → Type 0
 IsTellingOf on s telling =
-    IsTelling on s.words.steps s.loaded.source.bytes.items (text_in s.loaded.source) s.loaded.program telling
+    IsTelling on s.words s.loaded.source.bytes.items (text_in s.loaded.source) s.loaded.program telling
 
 -- of statements those between the numbers that are asked for, a line each
 abbrev pub lines_of : FoundSteps → Telling → List Entry → List ℕ
-lines_of s telling entries = steps_text s.loaded.program.layout telling s.words.steps.from s.words.steps.to entries
+lines_of s telling entries = steps_text s.loaded.program.layout telling s.words.from s.words.to entries
 
 -- the writer took a beginning of these lines and failed; or memory was refused, and it has those of some of the first statements, whole
 abbrev pub IsCutIn : FoundSteps → Telling → (old new : OutState) → Stop → Type 0
@@ -44,7 +44,7 @@ IsCutIn s telling old new _ = ⊥
 -- a page of the run was taken
 abbrev pub IsPageTaken : FoundSteps → (old new : OutState) → Outcome → Type 0
 IsPageTaken s old new o =
-    (shows : List ℕ) × IsPageOf (with_outcome s o) (entries_of s) shows × (new ≡ with_bytes old shows)
+    (shows : List ℕ) × IsPageOf s.words (with_outcome s o) (entries_of s) shows × (new ≡ with_bytes old shows)
 
 -- ---- what stands on standard output
 

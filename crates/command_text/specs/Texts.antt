@@ -1,5 +1,5 @@
 -- The text by which what was found is told.
-use Rattle.std.specs.Prelude.{◌≡◌, ℕ, List, ◌++◌, Bool, true, false, codes, decimal}
+use Rattle.std.specs.Prelude.{◌≡◌, ℕ, List, ◌++◌, codes, decimal}
 use Rattle.pram_model.specs.Layout.{total_size}
 use Rattle.pram_model.specs.Rules.{rule_word}
 use Rattle.pram_check.specs.Checked.{Checked}
@@ -28,8 +28,9 @@ use Rattle.pages.specs.Pages.{IsPage}
 use Rattle.step_text.specs.declared.telling.Telling.{Telling}
 use Rattle.command_requests.specs.declared.form.Form.{Form}
 use Rattle.command_requests.specs.declared.form.Form.TheVariants as form
-use Rattle.command_facts.specs.declared.found.Facts.{Facts}
-use Rattle.command_facts.specs.declared.found.Facts.TheVariants as facts
+use Rattle.command_requests.specs.declared.step_words.StepWords.{StepWords}
+use Rattle.command_requests.specs.declared.sweep_words.SweepForm.{SweepForm}
+use Rattle.command_requests.specs.declared.sweep_words.SweepForm.TheVariants as sweep
 use Rattle.command_facts.specs.declared.found.FoundRun.{FoundRun}
 use Rattle.command_facts.specs.declared.found.FoundSweep.{FoundSweep}
 use Rattle.command_facts.specs.declared.found.Settled.{Settled}
@@ -41,7 +42,7 @@ use Rattle.command_text.specs.Steps.{IsTelling, told_text}
 use Rattle.command_text.specs.Traces.{counts_text, outcome_text}
 
 abbrev pub version_text : List ℕ
-version_text = line (codes "pramc 1.2.0")
+version_text = line (codes "pramc 1.2.1")
 
 -- `accepted cells 16 procs 8 rule erew`
 abbrev pub accepted_line : Checked → List ℕ
@@ -49,55 +50,42 @@ accepted_line program =
     line (codes "accepted cells " ++ (decimal (total_size program.layout)
     ++ (codes " procs " ++ (decimal program.procs ++ (codes " rule " ++ rule_word program.rule)))))
 
--- runs at several sizes, as values separated by commas, or a line each and how they grow
-abbrev pub table_text : (csv : Bool) → FoundSweep → List ℕ
-table_text true s = csv_text s.sweep.name s.rows.items
-table_text false s = sweep_text s.sweep.name s.rows.items s.growths
-
--- or drawn
-abbrev pub swept_text : Form → (csv : Bool) → FoundSweep → List ℕ
-swept_text form.Picture csv s = drawn_text (sweeps.picture s.sweep.name s.rows.items)
-swept_text form.Words csv s = table_text csv s
-swept_text form.Flow csv s = table_text csv s
-swept_text form.Page csv s = table_text csv s
+-- runs at several sizes: a line each and how they grow, as values separated by commas, or drawn
+abbrev pub swept_text : SweepForm → FoundSweep → List ℕ
+swept_text sweep.Words s = sweep_text s.sweep.name s.rows.items s.growths
+swept_text sweep.Table s = csv_text s.sweep.name s.rows.items
+swept_text sweep.Picture s = drawn_text (sweeps.picture s.sweep.name s.rows.items)
 
 -- a run statement by statement: in words, between the numbers that are asked for, with locals and columns if these are, beside the text as
 -- it stands in its file, and then its outcome
-abbrev pub IsInWords : Terminal → FoundRun → List Entry → List ℕ → Type 0
-IsInWords on r entries text = (telling : Telling)
-    × IsTelling on r.words.steps r.loaded.source.bytes.items (text_in r.loaded.source) r.loaded.program telling
-    × (text ≡ told_text r.loaded.program.layout telling r.outcome entries r.words.steps.from r.words.steps.to)
+abbrev pub IsInWords : Terminal → StepWords → FoundRun → List Entry → List ℕ → Type 0
+IsInWords on w r entries text = (telling : Telling)
+    × IsTelling on w r.loaded.source.bytes.items (text_in r.loaded.source) r.loaded.program telling
+    × (text ≡ told_text r.loaded.program.layout telling r.outcome entries w.from w.to)
 
 -- drawn between the numbers that are asked for, beside the text as it stands in its file
-abbrev pub picture_text : FoundRun → List Entry → List ℕ
-picture_text r entries = shapes.picture_text
-    (steps.picture_from r.loaded.program.layout r.loaded.source.bytes.items entries r.words.steps.from r.words.steps.to)
+abbrev pub picture_text : StepWords → FoundRun → List Entry → List ℕ
+picture_text w r entries =
+    shapes.picture_text (steps.picture_from r.loaded.program.layout r.loaded.source.bytes.items entries w.from w.to)
 
 -- the flow of data between the numbers that are asked for, drawn beside the text that its sizes give, of which statements have their
 -- places; which reads of a statement are for subscripts alone is known by the program's tree; of the cells of the declarations that are
 -- asked for
-abbrev pub flow_text : FoundRun → List Entry → List ℕ
-flow_text r entries = shapes.picture_text (flow r.loaded.program.layout (text_in r.loaded.source) (asides_in r.loaded.program.body)
-    r.input.items entries (chosen_spans r.loaded.program.layout r.words.shown) r.words.steps.from r.words.steps.to)
+abbrev pub flow_text : StepWords → FoundRun → List Entry → List ℕ
+flow_text w r entries = shapes.picture_text (flow r.loaded.program.layout (text_in r.loaded.source) (asides_in r.loaded.program.body)
+    r.input.items entries (chosen_spans r.loaded.program.layout w.drawn) w.from w.to)
 
 -- as a page of the statements between the numbers that are asked for, with the text that its sizes give
-abbrev pub IsPageOf : FoundRun → List Entry → List ℕ → Type 0
-IsPageOf r entries shows = IsPage r.loaded.source.name.now (text_in r.loaded.source) r.loaded.program r.input.items r.outcome entries
-    r.words.steps.from r.words.steps.to shows
+abbrev pub IsPageOf : StepWords → FoundRun → List Entry → List ℕ → Type 0
+IsPageOf w r entries shows = IsPage r.loaded.source.name.now (text_in r.loaded.source) r.loaded.program r.input.items r.outcome entries
+    w.from w.to shows
 
 -- in words, drawn, or as a page
-abbrev pub AreStepsText : Form → Terminal → FoundRun → List Entry → List ℕ → Type 0
-AreStepsText form.Words on r entries text = IsInWords on r entries text
-AreStepsText form.Picture on r entries text = text ≡ picture_text r entries
-AreStepsText form.Flow on r entries text = text ≡ flow_text r entries
-AreStepsText form.Page on r entries text = IsPageOf r entries text
-
--- the text of a run, by what was found beside its outcome
-abbrev pub IsRunText : FoundRun → Facts → List ℕ → Type 0
-IsRunText r facts.Nothing text = text ≡ shown_by r.words.shown r.loaded.program.layout (verdict_of r.outcome)
-IsRunText r (facts.Cost c) text =
-    text ≡ costs_text (verdict_of r.outcome) c r.words.costs.schedule r.words.costs.lines ++ outcome_text r
-IsRunText r (facts.Exchanges t) text = text ≡ counts_text r.words.form r.words.trace (outcome_text r) t
+abbrev pub AreStepsText : Form → Terminal → StepWords → FoundRun → List Entry → List ℕ → Type 0
+AreStepsText form.Words on w r entries text = IsInWords on w r entries text
+AreStepsText form.Picture on w r entries text = text ≡ picture_text w r entries
+AreStepsText form.Flow on w r entries text = text ≡ flow_text w r entries
+AreStepsText form.Page on w r entries text = IsPageOf w r entries text
 
 -- The text of what was found.
 abbrev pub IsTextOf : Settled → List ℕ → Type 0
@@ -110,6 +98,8 @@ IsTextOf (settled.Exported code) text = text ≡ c_text code
 IsTextOf (settled.Compared c) text = text ≡ comparison_text c
 IsTextOf (settled.Explored f) text = text ≡ findings_text f.program.layout (found_is f.findings)
 IsTextOf (settled.Paired p) text = text ≡ pair_texts.comparison_text p.first.layout p.second.layout p.drawn (pairs.found_is p.comparison)
-IsTextOf (settled.Run r) text = IsRunText r r.facts text
-IsTextOf (settled.Swept s) text = text ≡ swept_text s.form s.csv s
+IsTextOf (settled.Run r told) text = text ≡ shown_by told r.loaded.program.layout (verdict_of r.outcome)
+IsTextOf (settled.Costed r told c) text = text ≡ costs_text (verdict_of r.outcome) c told.schedule told.lines ++ outcome_text r
+IsTextOf (settled.Traced r told t) text = text ≡ counts_text told.drawn told (outcome_text r) t
+IsTextOf (settled.Swept s) text = text ≡ swept_text s.form s
 IsTextOf (settled.Executed c) text = text ≡ shown_by c.shown c.code.layout (verdict_of c.outcome)

@@ -1,5 +1,5 @@
 -- The exchanges of a run, in words or drawn.
-use Rattle.std.specs.Prelude.{ℕ, List, [], ◌++◌, Option, Some, None}
+use Rattle.std.specs.Prelude.{ℕ, List, [], ◌++◌, Bool, true, false, Option, Some, None}
 use Rattle.superstep_machine.specs.Trace.{Exchange}
 use Rattle.svg_texts.specs.Shapes.{picture_text}
 use Rattle.tracer.specs.Cost.{cost_text}
@@ -7,8 +7,6 @@ use Rattle.tracer.specs.Picture.{picture}
 use Rattle.tracer.specs.Traced.{trace_text}
 use Rattle.write_rules.specs.Verdict.{verdict_of}
 use Rattle.program_texts.specs.Shown.{shown}
-use Rattle.command_requests.specs.declared.form.Form.{Form}
-use Rattle.command_requests.specs.declared.form.Form.TheVariants as form
 use Rattle.command_requests.specs.declared.trace_words.TraceWords.{TraceWords}
 use Rattle.command_facts.specs.declared.found.FoundRun.{FoundRun}
 use Rattle.command_facts.specs.declared.found.FoundTrace.{FoundTrace}
@@ -32,8 +30,6 @@ abbrev pub exchanges_text : TraceWords → (told : List ℕ) → FoundTrace → 
 exchanges_text w told t = trace_text t.lines.items t.counts ++ behind w told t.counts
 
 -- or drawn
-abbrev pub counts_text : Form → TraceWords → (told : List ℕ) → FoundTrace → List ℕ
-counts_text form.Picture w told t = picture_text (picture t.lines.items t.ends.items t.counts)
-counts_text form.Words w told t = exchanges_text w told t
-counts_text form.Flow w told t = exchanges_text w told t
-counts_text form.Page w told t = exchanges_text w told t
+abbrev pub counts_text : (drawn : Bool) → TraceWords → (told : List ℕ) → FoundTrace → List ℕ
+counts_text true w told t = picture_text (picture t.lines.items t.ends.items t.counts)
+counts_text false w told t = exchanges_text w told t

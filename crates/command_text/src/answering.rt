@@ -1,8 +1,7 @@
 //! What was found is told in words.
 
-ghost use Rattle.std.specs.Prelude.{◌≤◌, length, map};
+ghost use Rattle.std.specs.Prelude.{map};
 ghost use Rattle.std.specs.String.{string_bytes};
-ghost use Rattle.pram_model.specs.Layout.{total_size};
 ghost use Rattle.command_text.specs.Explained.{IsRefusalReported};
 ghost use Rattle.command_text.specs.Left.{LeavesFound};
 ghost use Rattle.command_text.specs.Stepped.{IsToldRun};
@@ -26,7 +25,6 @@ fn write_watched<'a, 'b, V: Watch, O: Out>(
     watch: &mut V,
     out: &mut O,
 ) -> Result<FoundRun<'b>, Stop<'a>>
-    requires fits { length steps.input.items ≤ total_size steps.loaded.program.layout }
     ensures told { IsToldRun on steps.entry (O.Out.state out.old) (O.Out.state out.new) result }
 {
     if on.output {
@@ -47,7 +45,6 @@ fn tell_steps<V: Watch, O: Out, E: Out>(
     out: &mut O,
     err: &mut E,
 ) -> Status
-    requires fits { length steps.input.items ≤ total_size steps.loaded.program.layout }
     ensures leaves { LeavesFound on (map string_bytes words.now) (Found.Stepped steps.entry) (O.Out.state out.old) (O.Out.state out.new)
         (E.Out.state err.old) (E.Out.state err.new) result }
 {

@@ -11,8 +11,7 @@ ghost use Rattle.command_facts.specs.Written.{IsReported};
 ghost use Rattle.command_text.specs.Explained as spec;
 
 use crate::terminal::Terminal;
-use command_facts::{FoundCode, FoundRun, Settled};
-use command_messages::write_for_editors;
+use command_facts::{FoundCode, FoundRun, Settled, write_for_editors};
 use command_requests::{Given, write_word_fault, wrong_option};
 use diagnoses::{
     Halted, Reason, Source, run_reason, write_fault_sentence, write_refused_line, write_run_fault,
@@ -174,7 +173,7 @@ fn say_run_fault<V: Watch, E: Out>(
         × IsReported (E.Out.state err.old) (E.Out.state err.new) said }
 {
     let program = &run.loaded.program;
-    let bound = run.words.options.bound;
+    let bound = run.limit.bound;
     let reason = find_reason(alloc, program, &run.input, bound, watch);
     if write_fault_of(
         alloc,
@@ -222,7 +221,7 @@ fn cycle_of<V: Watch>(alloc: Global, watch: &mut V, run: &FoundRun<'_>) -> Optio
     if program.layout().cells() > MOST_SEARCHED {
         return None;
     }
-    let bound = run.words.options.bound;
+    let bound = run.limit.bound;
     let found = find_cycle(alloc, program, &run.input, bound, watch);
     watch.close();
     found
@@ -243,7 +242,7 @@ fn say_bound<V: Watch, E: Out>(alloc: Global, watch: &mut V, err: &mut E, run: &
     ensures written { spec.IsBoundSaid run.now (E.Out.state err.old) (E.Out.state err.new) }
 {
     let cycle = cycle_of(alloc, watch, run);
-    if write_bound_of(err, run.words.options.bound, cycle).is_ok() {
+    if write_bound_of(err, run.limit.bound, cycle).is_ok() {
         let _ = err.flush();
     }
 }
@@ -277,10 +276,10 @@ fn say_limit<V: Watch, E: Out>(
     run: &FoundRun<'_>,
     explains: bool,
 )
-    ensures left { spec.IsLimitSaid explains run.now.words.seconds run.now (E.Out.state err.old) (E.Out.state err.new) }
+    ensures left { spec.IsLimitSaid explains run.now.limit.seconds run.now (E.Out.state err.old) (E.Out.state err.new) }
 {
-    match run.words.seconds {
-        Some(seconds) => say_time(err, seconds, run.words.options.bound),
+    match run.limit.seconds {
+        Some(seconds) => say_time(err, seconds, run.limit.bound),
         None => {
             if explains {
                 say_bound(alloc, watch, err, run)
@@ -345,7 +344,9 @@ pub(crate) fn explain<V: Watch, E: Out>(
     ensures left { spec.IsExplained explains found.now (E.Out.state err.old) (E.Out.state err.new) }
 {
     match found {
-        Settled::Run(run) => explain_run(alloc, watch, err, run, explains),
+        Settled::Run(run, _) => explain_run(alloc, watch, err, run, explains),
+        Settled::Costed(run, _, _) => explain_run(alloc, watch, err, run, explains),
+        Settled::Traced(run, _, _) => explain_run(alloc, watch, err, run, explains),
         Settled::Executed(run) => explain_code(alloc, err, run, explains),
         Settled::Version => {}
         Settled::Explanation(_) => {}

@@ -1,7 +1,6 @@
 //! Runs of a program of which the flow of data is drawn.
 
-ghost use Rattle.std.specs.Prelude.{◌≡◌, ◌≤◌, IfErr, IfOk, length};
-ghost use Rattle.pram_model.specs.Layout.{total_size};
+ghost use Rattle.std.specs.Prelude.{◌≡◌, IfErr, IfOk};
 ghost use Rattle.text_out.specs.Out.{with_bytes};
 ghost use Rattle.command_facts.specs.Found.{IsOutcomeOf, entries_of, with_outcome};
 ghost use Rattle.command_text.specs.Spans as spans;
@@ -16,7 +15,6 @@ use observing::Watch;
 use pictures::{CellSpan, stream_flow};
 use program_texts::{Refusal, Status, Stop, finish};
 use std::alloc::Global;
-use step_text::StreamFailure;
 use text_out::Out;
 use write_rules::Outcome;
 
@@ -30,19 +28,15 @@ fn write_flow_of<'a, V: Watch, O: Out>(
     out: &mut O,
 ) -> Result<Outcome, Stop<'a>>
     requires form { steps.now.words.form ≡ Form.Flow }
-    requires fits { length steps.now.input.items ≤ total_size steps.now.loaded.program.layout }
-    requires only { only.now ≡ spans.chosen_spans steps.now.loaded.program.layout steps.now.words.shown }
+    requires only { only.now ≡ spans.chosen_spans steps.now.loaded.program.layout steps.now.words.drawn }
     ensures outcome { IfOk result (IsOutcomeOf steps.now) }
     ensures flow { IfOk result (λ o. O.Out.state out.new
-        ≡ with_bytes (O.Out.state out.old) (texts.flow_text (with_outcome steps.now o) (entries_of steps.now))) }
+        ≡ with_bytes (O.Out.state out.old) (texts.flow_text steps.now.words (with_outcome steps.now o) (entries_of steps.now))) }
     ensures cut { IfErr result (λ why. (on : Terminal) → stepped.IsCutOff on steps.now (O.Out.state out.old) (O.Out.state out.new) why) }
 {
     let (text, program) = (steps.loaded.source.text(), &steps.loaded.program);
-    let bound = steps.words.options.bound;
-    let (first, last) = (
-        steps.words.steps.from as usize,
-        steps.words.steps.to as usize,
-    );
+    let bound = steps.limit.bound;
+    let (first, last) = (steps.words.from as usize, steps.words.to as usize);
     match stream_flow(
         alloc,
         text,
@@ -56,9 +50,7 @@ fn write_flow_of<'a, V: Watch, O: Out>(
         out,
     ) {
         Ok(outcome) => Ok(outcome),
-        Err(StreamFailure::WriteFailed) => Err(Stop::WriteFailed),
-        Err(StreamFailure::OutOfMemory) => Err(Stop::Refused(Refusal::OutOfMemory)),
-        Err(StreamFailure::InputTooLong) => Err(Stop::Refused(Refusal::InputTooLong)),
+        Err(failure) => Err(Stop::from(failure)),
     }
 }
 
@@ -70,11 +62,10 @@ pub(crate) fn write_as_flow<'a, V: Watch, O: Out>(
     out: &mut O,
 ) -> Result<Outcome, Stop<'a>>
     requires form { steps.now.words.form ≡ Form.Flow }
-    requires fits { length steps.now.input.items ≤ total_size steps.now.loaded.program.layout }
     ensures told { (on : Terminal) → stepped.IsToldBy on steps.now (O.Out.state out.old) (O.Out.state out.new) result }
 {
     let layout = steps.loaded.program.layout();
-    let Ok(only) = chosen_spans(alloc, layout, steps.words.shown) else {
+    let Ok(only) = chosen_spans(alloc, layout, steps.words.drawn) else {
         return Err(Stop::Refused(Refusal::OutOfMemory));
     };
     let outcome = write_flow_of(alloc, steps, &only, watch, out)?;

@@ -1,7 +1,6 @@
 //! Runs of a program that are told as a page.
 
-ghost use Rattle.std.specs.Prelude.{◌≡◌, ◌≤◌, IfErr, IfOk, length};
-ghost use Rattle.pram_model.specs.Layout.{total_size};
+ghost use Rattle.std.specs.Prelude.{◌≡◌, IfErr, IfOk};
 ghost use Rattle.command_facts.specs.Found.{IsOutcomeOf};
 ghost use Rattle.command_text.specs.Stepped as stepped;
 
@@ -10,9 +9,8 @@ use command_facts::FoundSteps;
 use command_requests::Form;
 use observing::Watch;
 use pages::stream_page;
-use program_texts::{Refusal, Status, Stop, finish};
+use program_texts::{Status, Stop, finish};
 use std::alloc::Global;
-use step_text::StreamFailure;
 use text_out::Out;
 use write_rules::Outcome;
 
@@ -24,17 +22,13 @@ fn write_page_of<'a, V: Watch, O: Out>(
     out: &mut O,
 ) -> Result<Outcome, Stop<'a>>
     requires form { steps.now.words.form ≡ Form.Page }
-    requires fits { length steps.now.input.items ≤ total_size steps.now.loaded.program.layout }
     ensures outcome { IfOk result (IsOutcomeOf steps.now) }
     ensures page { IfOk result (stepped.IsPageTaken steps.now (O.Out.state out.old) (O.Out.state out.new)) }
     ensures cut { IfErr result (λ why. (on : Terminal) → stepped.IsCutOff on steps.now (O.Out.state out.old) (O.Out.state out.new) why) }
 {
     let (source, program) = (&steps.loaded.source, &steps.loaded.program);
-    let bound = steps.words.options.bound;
-    let (first, last) = (
-        steps.words.steps.from as usize,
-        steps.words.steps.to as usize,
-    );
+    let bound = steps.limit.bound;
+    let (first, last) = (steps.words.from as usize, steps.words.to as usize);
     match stream_page(
         alloc,
         source.name.as_bytes(),
@@ -48,9 +42,7 @@ fn write_page_of<'a, V: Watch, O: Out>(
         out,
     ) {
         Ok(outcome) => Ok(outcome),
-        Err(StreamFailure::WriteFailed) => Err(Stop::WriteFailed),
-        Err(StreamFailure::OutOfMemory) => Err(Stop::Refused(Refusal::OutOfMemory)),
-        Err(StreamFailure::InputTooLong) => Err(Stop::Refused(Refusal::InputTooLong)),
+        Err(failure) => Err(Stop::from(failure)),
     }
 }
 
@@ -62,7 +54,6 @@ pub(crate) fn write_as_page<'a, V: Watch, O: Out>(
     out: &mut O,
 ) -> Result<Outcome, Stop<'a>>
     requires form { steps.now.words.form ≡ Form.Page }
-    requires fits { length steps.now.input.items ≤ total_size steps.now.loaded.program.layout }
     ensures told { (on : Terminal) → stepped.IsToldBy on steps.now (O.Out.state out.old) (O.Out.state out.new) result }
 {
     let outcome = write_page_of(alloc, steps, watch, out)?;

@@ -1,7 +1,6 @@
 //! Runs of a program that are told statement by statement: in words as they go, drawn, or as a page.
 
-ghost use Rattle.std.specs.Prelude.{◌≡◌, ◌≤◌, IfErr, IfOk, OnOk, length, map};
-ghost use Rattle.pram_model.specs.Layout.{total_size};
+ghost use Rattle.std.specs.Prelude.{◌≡◌, IfErr, IfOk, OnOk, length, map};
 ghost use Rattle.text_out.specs.Out.{with_bytes};
 ghost use Rattle.write_rules.specs.Verdict.{verdict_of};
 ghost use Rattle.command_facts.specs.Found.{IsOutcomeOf, entries_of};
@@ -30,7 +29,7 @@ use pram_check::Program;
 use pram_trees::{Layout, Tree};
 use program_texts::{Refusal, Status, Stop, finish, show};
 use std::alloc::Global;
-use step_text::{Detail, Focus, Manner, StreamFailure, Telling, stream_steps};
+use step_text::{Detail, Focus, Manner, Telling, stream_steps};
 use text_out::Out;
 use write_rules::Outcome;
 
@@ -117,17 +116,13 @@ fn stream_lines<'a, V: Watch, O: Out>(
     watch: &mut V,
     out: &mut O,
 ) -> Result<Outcome, Stop<'a>>
-    requires fits { length steps.now.input.items ≤ total_size steps.now.loaded.program.layout }
     ensures outcome { IfOk result (IsOutcomeOf steps.now) }
     ensures lines { OnOk result (O.Out.state out.new
         ≡ with_bytes (O.Out.state out.old) (stepped.lines_of steps.now telling.now (entries_of steps.now))) }
     ensures cut { IfErr result (stepped.IsCutIn steps.now telling.now (O.Out.state out.old) (O.Out.state out.new)) }
 {
-    let (program, bound) = (&steps.loaded.program, steps.words.options.bound);
-    let (first, last) = (
-        steps.words.steps.from as usize,
-        steps.words.steps.to as usize,
-    );
+    let (program, bound) = (&steps.loaded.program, steps.limit.bound);
+    let (first, last) = (steps.words.from as usize, steps.words.to as usize);
     match stream_steps(
         alloc,
         program,
@@ -140,9 +135,7 @@ fn stream_lines<'a, V: Watch, O: Out>(
         out,
     ) {
         Ok(outcome) => Ok(outcome),
-        Err(StreamFailure::WriteFailed) => Err(Stop::WriteFailed),
-        Err(StreamFailure::OutOfMemory) => Err(Stop::Refused(Refusal::OutOfMemory)),
-        Err(StreamFailure::InputTooLong) => Err(Stop::Refused(Refusal::InputTooLong)),
+        Err(failure) => Err(Stop::from(failure)),
     }
 }
 
@@ -168,12 +161,11 @@ fn write_in_words<'a, V: Watch, O: Out>(
     out: &mut O,
 ) -> Result<Outcome, Stop<'a>>
     requires form { steps.now.words.form ≡ Form.Words }
-    requires fits { length steps.now.input.items ≤ total_size steps.now.loaded.program.layout }
     ensures told { stepped.IsToldBy on steps.now (O.Out.state out.old) (O.Out.state out.new) result }
 {
     let text = steps.loaded.source.bytes.as_slice();
     let sized = steps.loaded.source.text();
-    let telling = telling_of(on, steps.words.steps, text, sized, &steps.loaded.program);
+    let telling = telling_of(on, steps.words, text, sized, &steps.loaded.program);
     let outcome = stream_lines(alloc, steps, &telling, watch, out)?;
     write_ending(steps.loaded.program.layout(), &outcome, out)?;
     Ok(outcome)
@@ -185,18 +177,14 @@ fn excerpt_of<'a, V: Watch>(
     steps: &FoundSteps<'_>,
     watch: &mut V,
 ) -> Result<(Outcome, Excerpt), Stop<'a>>
-    requires fits { length steps.now.input.items ≤ total_size steps.now.loaded.program.layout }
     ensures outcome { IfOk result (λ r. IsOutcomeOf steps.now r.0) }
     ensures entries { IfOk result (λ r. map entry_is r.1.entries.items
-        ≡ between steps.now.words.steps.from steps.now.words.steps.to (entries_of steps.now)) }
+        ≡ between steps.now.words.from steps.now.words.to (entries_of steps.now)) }
     ensures whole { IfOk result (λ r. r.1.whole ≡ length (entries_of steps.now)) }
     ensures refused { IfErr result (λ stop. stop ≡ Refused OutOfMemory) }
 {
-    let (program, bound) = (&steps.loaded.program, steps.words.options.bound);
-    let (first, last) = (
-        steps.words.steps.from as usize,
-        steps.words.steps.to as usize,
-    );
+    let (program, bound) = (&steps.loaded.program, steps.limit.bound);
+    let (first, last) = (steps.words.from as usize, steps.words.to as usize);
     match steps_between(alloc, program, &steps.input, bound, first, last, watch) {
         Ok(told) => Ok(told),
         Err(_) => Err(Stop::Refused(Refusal::OutOfMemory)),
@@ -228,13 +216,12 @@ fn write_as_picture<'a, V: Watch, O: Out>(
     out: &mut O,
 ) -> Result<Outcome, Stop<'a>>
     requires form { steps.now.words.form ≡ Form.Picture }
-    requires fits { length steps.now.input.items ≤ total_size steps.now.loaded.program.layout }
     ensures told { (on : Terminal) → stepped.IsToldBy on steps.now (O.Out.state out.old) (O.Out.state out.new) result }
 {
     let (outcome, excerpt) = excerpt_of(alloc, steps, watch)?;
     let layout = steps.loaded.program.layout();
     let text = steps.loaded.source.bytes.as_slice();
-    let from = steps.words.steps.from as usize;
+    let from = steps.words.from as usize;
     write_pictured(out, layout, text, &outcome, &excerpt, from)?;
     Ok(outcome)
 }
@@ -247,7 +234,6 @@ fn write_flow_behind<'a, 'b, V: Watch, O: Out>(
     out: &mut O,
 ) -> Result<FoundRun<'b>, Stop<'a>>
     requires form { steps.words.form ≡ Form.Flow }
-    requires fits { length steps.input.items ≤ total_size steps.loaded.program.layout }
     ensures told { (on : Terminal) → stepped.IsToldRun on steps.entry (O.Out.state out.old) (O.Out.state out.new) result }
 {
     let outcome = write_as_flow(alloc, &steps, watch, out)?;
@@ -262,7 +248,6 @@ fn write_page_behind<'a, 'b, V: Watch, O: Out>(
     out: &mut O,
 ) -> Result<FoundRun<'b>, Stop<'a>>
     requires form { steps.words.form ≡ Form.Page }
-    requires fits { length steps.input.items ≤ total_size steps.loaded.program.layout }
     ensures told { (on : Terminal) → stepped.IsToldRun on steps.entry (O.Out.state out.old) (O.Out.state out.new) result }
 {
     let outcome = write_as_page(alloc, &steps, watch, out)?;
@@ -278,7 +263,6 @@ fn write_words_behind<'a, 'b, V: Watch, O: Out>(
     out: &mut O,
 ) -> Result<FoundRun<'b>, Stop<'a>>
     requires form { steps.words.form ≡ Form.Words }
-    requires fits { length steps.input.items ≤ total_size steps.loaded.program.layout }
     ensures told { stepped.IsToldRun on steps.entry (O.Out.state out.old) (O.Out.state out.new) result }
 {
     let outcome = write_in_words(alloc, on, &steps, watch, out)?;
@@ -293,7 +277,6 @@ fn write_picture_behind<'a, 'b, V: Watch, O: Out>(
     out: &mut O,
 ) -> Result<FoundRun<'b>, Stop<'a>>
     requires form { steps.words.form ≡ Form.Picture }
-    requires fits { length steps.input.items ≤ total_size steps.loaded.program.layout }
     ensures told { (on : Terminal) → stepped.IsToldRun on steps.entry (O.Out.state out.old) (O.Out.state out.new) result }
 {
     let outcome = write_as_picture(alloc, &steps, watch, out)?;
@@ -312,7 +295,6 @@ pub(crate) fn write_stepped<'a, 'b, V: Watch, O: Out>(
     watch: &mut V,
     out: &mut O,
 ) -> Result<FoundRun<'b>, Stop<'a>>
-    requires fits { length steps.input.items ≤ total_size steps.loaded.program.layout }
     ensures told { stepped.IsToldRun on steps.entry (O.Out.state out.old) (O.Out.state out.new) result }
 {
     match steps.words.form {

@@ -1,7 +1,6 @@
 //! What was found, told on standard output.
-ghost use Rattle.program_texts.specs.Status.{status_of};
-ghost use Rattle.command_facts.specs.Calls.{status_of_found};
-ghost use Rattle.command_facts.specs.Written.{Wrote, WroteSome};
+ghost use Rattle.command_facts.specs.Statuses.{status_of_found};
+ghost use Rattle.command_facts.specs.Written.{WroteSome};
 ghost use Rattle.command_text.specs.Texts as spec;
 
 use crate::sweeping::write_swept;
@@ -10,22 +9,9 @@ use crate::writing::{
     write_accepted, write_costs, write_exploration, write_export, write_outcome, write_pair,
     write_plan, write_rules, write_subject, write_text, write_version,
 };
-use command_facts::{Facts, FoundRun, Settled, status_of};
+use command_facts::{Settled, status_of};
 use program_texts::{Status, Stop};
 use text_out::Out;
-
-// A run of a program.
-fn write_run<'a, O: Out>(run: &FoundRun<'_>, out: &mut O) -> Result<Status, Stop<'a>>
-    ensures written { WroteSome (status_of run.now.outcome) ⊥ (spec.IsRunText run.now run.now.facts)
-        (O.Out.state out.old) (O.Out.state out.new) result }
-{
-    let layout = run.loaded.program.layout();
-    match &run.facts {
-        Facts::Nothing => write_outcome(out, layout, &run.outcome, run.words.shown),
-        Facts::Cost(cost) => write_costs(out, layout, &run.outcome, cost, run.words.costs),
-        Facts::Exchanges(found) => write_found_trace(out, run, found),
-    }
-}
 
 /// Writes what was found, which takes no memory.
 pub(crate) fn write_found<'a, O: Out>(found: &Settled<'_>, out: &mut O) -> Result<Status, Stop<'a>>
@@ -40,7 +26,13 @@ pub(crate) fn write_found<'a, O: Out>(found: &Settled<'_>, out: &mut O) -> Resul
         Settled::Planned(code) => write_plan(out, code.code()),
         Settled::Exported(code) => write_export(out, code.code()),
         Settled::Compared(comparison) => write_rules(out, comparison),
-        Settled::Run(run) => write_run(run, out),
+        Settled::Run(run, shown) => {
+            write_outcome(out, run.loaded.program.layout(), &run.outcome, *shown)
+        }
+        Settled::Costed(run, words, cost) => {
+            write_costs(out, run.loaded.program.layout(), &run.outcome, cost, *words)
+        }
+        Settled::Traced(run, words, exchanges) => write_found_trace(out, run, *words, exchanges),
         Settled::Swept(swept) => write_swept(out, swept, status_of(found)),
         Settled::Explored(explored) => {
             let (layout, status) = (explored.program.layout(), status_of(found));

@@ -12,7 +12,7 @@ ghost use Rattle.command_text.specs.Costs.{if_asked};
 ghost use Rattle.command_text.specs.Traces as spec;
 
 use command_facts::{FoundRun, FoundTrace};
-use command_requests::{Form, TraceWords};
+use command_requests::TraceWords;
 use exchange_counts::Counts;
 use pram_trees::Layout;
 use program_texts::{Status, Stop, finish, show};
@@ -113,17 +113,16 @@ fn write_drawn<'a, O: Out>(
 pub(crate) fn write_found_trace<'a, O: Out>(
     out: &mut O,
     run: &FoundRun<'_>,
+    words: TraceWords,
     found: &FoundTrace,
 ) -> Result<Status, Stop<'a>>
     ensures written { Wrote (status_of run.now.outcome)
-        (spec.counts_text run.now.words.form run.now.words.trace (spec.outcome_text run.now) found.now)
+        (spec.counts_text words.drawn words (spec.outcome_text run.now) found.now)
         (O.Out.state out.old) (O.Out.state out.new) result }
 {
-    let (layout, words) = (run.loaded.program.layout(), run.words.trace);
-    match run.words.form {
-        Form::Picture => write_drawn(out, &run.outcome, found),
-        Form::Words => write_exchanges(out, layout, &run.outcome, found, words),
-        Form::Flow => write_exchanges(out, layout, &run.outcome, found, words),
-        Form::Page => write_exchanges(out, layout, &run.outcome, found, words),
+    if words.drawn {
+        write_drawn(out, &run.outcome, found)
+    } else {
+        write_exchanges(out, run.loaded.program.layout(), &run.outcome, found, words)
     }
 }

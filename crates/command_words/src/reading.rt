@@ -6,15 +6,18 @@ ghost use Rattle.command_requests.specs.Words.{AsksForVersion, IsOfWords};
 
 use crate::grammar::grammar;
 use crate::options::{
-    BSP, FILE, FLOW, FORMAT, HTML, LINES, LISTING_FILE, OUTCOME, SCHEDULE, SECOND, SECONDS, SIZE,
-    SVG, SWEEP, WORD,
+    BOUND, BSP, FILE, FLOW, FORMAT, HTML, LINES, LISTING_FILE, OUTCOME, SCHEDULE, SECOND, SECONDS,
+    SIZE, SVG, SWEEP, WORD,
 };
 use crate::pair_reading::pair_words;
-use crate::run_reading::{costed_words, run_words};
+use crate::run_reading::{
+    choice_of, cost_words, meaning_words, number_of, opening_of, run_words, step_words,
+    sweep_words, trace_words,
+};
 use crate::scope_reading::scope_words;
 use clap::ArgMatches;
 use clap::error::ErrorKind;
-use command_requests::{ProgramFile, Request, SizeWord, SweepWords, Verb, asks_for_version};
+use command_requests::{ProgramFile, Request, SizeWord, asks_for_version};
 use help::subject_of;
 use program_texts::{Refusal, Stop};
 use std::alloc::{AllocError, Global};
@@ -71,9 +74,8 @@ fn check_drawn<'a>(words: &ArgMatches<'a>, format: Format) -> Result<(), Stop<'a
     Ok(())
 }
 
-// Of a sweep alone there are values separated by commas, of a check alone lines of editors, and nothing is drawn in them. Whether there are
-// such values.
-fn check_format<'a>(words: &ArgMatches<'a>, over: Over) -> Result<bool, Stop<'a>>
+// Of a sweep alone there are values separated by commas, of a check alone lines of editors, and nothing is drawn in them.
+fn check_format<'a>(words: &ArgMatches<'a>, over: Over) -> Result<(), Stop<'a>>
     ensures { IfErr result IsOfWords }
 {
     let format = format_of(words)?;
@@ -84,7 +86,7 @@ fn check_format<'a>(words: &ArgMatches<'a>, over: Over) -> Result<bool, Stop<'a>
     if format == Format::Gnu && over != Over::Text {
         return Err(Stop::Number("gnu"));
     }
-    Ok(format == Format::Csv)
+    Ok(())
 }
 
 // The words that give sizes, in their order.
@@ -115,22 +117,79 @@ fn file_of<'a>(alloc: Global, matches: &ArgMatches<'a>) -> Result<ProgramFile<'a
     file_at(alloc, matches, FILE)
 }
 
-fn asked<'a>(alloc: Global, verb: Verb, matches: &ArgMatches<'a>) -> Result<Request<'a>, Stop<'a>>
+fn asked_check<'a>(alloc: Global, matches: &ArgMatches<'a>) -> Result<Request<'a>, Stop<'a>>
     ensures { IfErr result IsOfWords }
 {
-    let over = if verb == Verb::Check {
-        Over::Text
-    } else {
-        Over::Run
-    };
-    check_format(matches, over)?;
-    let words = if verb == Verb::Cost {
-        costed_words(matches)?
-    } else {
-        run_words(matches)?
-    };
+    check_format(matches, Over::Text)?;
+    Ok(Request::Check(file_of(alloc, matches)?))
+}
+
+fn asked_expansion<'a>(alloc: Global, matches: &ArgMatches<'a>) -> Result<Request<'a>, Stop<'a>>
+    ensures { IfErr result IsOfWords }
+{
+    check_format(matches, Over::Run)?;
+    Ok(Request::Expand(file_of(alloc, matches)?))
+}
+
+fn asked_plan<'a>(alloc: Global, matches: &ArgMatches<'a>) -> Result<Request<'a>, Stop<'a>>
+    ensures { IfErr result IsOfWords }
+{
+    check_format(matches, Over::Run)?;
+    Ok(Request::Plan(file_of(alloc, matches)?))
+}
+
+fn asked_meaning<'a>(alloc: Global, matches: &ArgMatches<'a>) -> Result<Request<'a>, Stop<'a>>
+    ensures { IfErr result IsOfWords }
+{
+    check_format(matches, Over::Run)?;
+    let words = meaning_words(matches)?;
+    let shown = choice_of(matches)?;
     let file = file_of(alloc, matches)?;
-    Ok(Request::Program { verb, file, words })
+    Ok(Request::Meaning { file, words, shown })
+}
+
+fn asked_steps<'a>(alloc: Global, matches: &ArgMatches<'a>) -> Result<Request<'a>, Stop<'a>>
+    ensures { IfErr result IsOfWords }
+{
+    check_format(matches, Over::Run)?;
+    let words = meaning_words(matches)?;
+    let steps = step_words(matches)?;
+    let file = file_of(alloc, matches)?;
+    Ok(Request::Steps { file, words, steps })
+}
+
+fn asked_rules<'a>(alloc: Global, matches: &ArgMatches<'a>) -> Result<Request<'a>, Stop<'a>>
+    ensures { IfErr result IsOfWords }
+{
+    check_format(matches, Over::Run)?;
+    let bound = number_of(matches, BOUND)?;
+    let opening = opening_of(matches)?;
+    let file = file_of(alloc, matches)?;
+    Ok(Request::Rules {
+        file,
+        opening,
+        bound,
+    })
+}
+
+fn asked_run<'a>(alloc: Global, matches: &ArgMatches<'a>) -> Result<Request<'a>, Stop<'a>>
+    ensures { IfErr result IsOfWords }
+{
+    check_format(matches, Over::Run)?;
+    let words = run_words(matches)?;
+    let shown = choice_of(matches)?;
+    let file = file_of(alloc, matches)?;
+    Ok(Request::Run { file, words, shown })
+}
+
+fn asked_trace<'a>(alloc: Global, matches: &ArgMatches<'a>) -> Result<Request<'a>, Stop<'a>>
+    ensures { IfErr result IsOfWords }
+{
+    check_format(matches, Over::Run)?;
+    let words = run_words(matches)?;
+    let trace = trace_words(matches)?;
+    let file = file_of(alloc, matches)?;
+    Ok(Request::Trace { file, words, trace })
 }
 
 // Costs at several sizes: neither rounds nor lines are told of them, and they have the time that they take.
@@ -150,28 +209,32 @@ fn asked_sweep<'a>(
     if matches.get_str(SECONDS).is_some() {
         return Err(Stop::Number("--seconds"));
     }
-    let csv = check_format(matches, Over::Sizes)?;
-    let words = costed_words(matches)?;
+    check_format(matches, Over::Sizes)?;
+    let words = sweep_words(matches, word)?;
     let file = file_of(alloc, matches)?;
-    Ok(Request::Sweep {
-        file,
-        sweep: SweepWords { word, csv },
-        words,
-    })
+    Ok(Request::Sweep { file, words })
 }
 
-// Costs are drawn at several sizes alone.
+// Costs at one size aren't drawn.
+fn asked_cost<'a>(alloc: Global, matches: &ArgMatches<'a>) -> Result<Request<'a>, Stop<'a>>
+    ensures { IfErr result IsOfWords }
+{
+    if matches.get_flag(SVG) {
+        return Err(Stop::Number("--svg"));
+    }
+    check_format(matches, Over::Run)?;
+    let words = meaning_words(matches)?;
+    let costs = cost_words(matches)?;
+    let file = file_of(alloc, matches)?;
+    Ok(Request::Cost { file, words, costs })
+}
+
 fn asked_costs<'a>(alloc: Global, matches: &ArgMatches<'a>) -> Result<Request<'a>, Stop<'a>>
     ensures { IfErr result IsOfWords }
 {
     match matches.get_str(SWEEP) {
         Some(word) => asked_sweep(alloc, word, matches),
-        None => {
-            if matches.get_flag(SVG) {
-                return Err(Stop::Number("--svg"));
-            }
-            asked(alloc, Verb::Cost, matches)
-        }
+        None => asked_cost(alloc, matches),
     }
 }
 
@@ -180,9 +243,9 @@ fn asked_exploration<'a>(alloc: Global, matches: &ArgMatches<'a>) -> Result<Requ
 {
     check_format(matches, Over::Run)?;
     let scope = scope_words(matches)?;
-    let words = run_words(matches)?;
+    let bound = number_of(matches, BOUND)?;
     let file = file_of(alloc, matches)?;
-    Ok(Request::Exploration { file, scope, words })
+    Ok(Request::Exploration { file, scope, bound })
 }
 
 // Two programs, with the same sizes.
@@ -195,13 +258,20 @@ fn asked_pair<'a>(alloc: Global, matches: &ArgMatches<'a>) -> Result<Request<'a>
     Ok(Request::Pair(pair_words(alloc, matches, first, second)?))
 }
 
+fn asked_program_in_c<'a>(alloc: Global, matches: &ArgMatches<'a>) -> Result<Request<'a>, Stop<'a>>
+    ensures { IfErr result IsOfWords }
+{
+    check_format(matches, Over::Run)?;
+    Ok(Request::Export(file_of(alloc, matches)?))
+}
+
 // A program or a listing, in C.
 fn asked_export<'a>(alloc: Global, matches: &ArgMatches<'a>) -> Result<Request<'a>, Stop<'a>>
     ensures { IfErr result IsOfWords }
 {
     let (file, listing) = (matches.get_str(FILE), matches.get_str(LISTING_FILE));
     match (file, listing) {
-        (Some(_), None) => asked(alloc, Verb::Export, matches),
+        (Some(_), None) => asked_program_in_c(alloc, matches),
         (None, Some(file)) => {
             if matches.get_strs(SIZE).is_some() {
                 return Err(Stop::Number("--listing"));
@@ -217,8 +287,9 @@ fn asked_listing<'a>(matches: &ArgMatches<'a>) -> Result<Request<'a>, Stop<'a>>
 {
     check_format(matches, Over::Run)?;
     let words = run_words(matches)?;
+    let shown = choice_of(matches)?;
     let file = matches.get_str(FILE).unwrap_or("");
-    Ok(Request::Listing { file, words })
+    Ok(Request::Listing { file, words, shown })
 }
 
 fn asked_subject<'a>(matches: &ArgMatches<'a>) -> Result<Request<'a>, Stop<'a>>
@@ -345,17 +416,17 @@ pub(crate) fn read_words<'a>(alloc: Global, words: &'a [String]) -> Result<Reque
         Err(error) => return unmatched(alloc, words, error),
     };
     match matches.subcommand() {
-        Some(("check", inner)) => asked(alloc, Verb::Check, inner),
-        Some(("plan", inner)) => asked(alloc, Verb::Plan, inner),
-        Some(("meaning", inner)) => asked(alloc, Verb::Meaning, inner),
+        Some(("check", inner)) => asked_check(alloc, inner),
+        Some(("plan", inner)) => asked_plan(alloc, inner),
+        Some(("meaning", inner)) => asked_meaning(alloc, inner),
         Some(("cost", inner)) => asked_costs(alloc, inner),
-        Some(("steps", inner)) => asked(alloc, Verb::Steps, inner),
-        Some(("rules", inner)) => asked(alloc, Verb::Rules, inner),
-        Some(("run", inner)) => asked(alloc, Verb::Run, inner),
-        Some(("trace", inner)) => asked(alloc, Verb::Trace, inner),
+        Some(("steps", inner)) => asked_steps(alloc, inner),
+        Some(("rules", inner)) => asked_rules(alloc, inner),
+        Some(("run", inner)) => asked_run(alloc, inner),
+        Some(("trace", inner)) => asked_trace(alloc, inner),
         Some(("explore", inner)) => asked_exploration(alloc, inner),
         Some(("compare", inner)) => asked_pair(alloc, inner),
-        Some(("expand", inner)) => asked(alloc, Verb::Expand, inner),
+        Some(("expand", inner)) => asked_expansion(alloc, inner),
         Some(("export", inner)) => asked_export(alloc, inner),
         Some(("exec", inner)) => asked_listing(inner),
         Some((_, inner)) => asked_subject(inner),

@@ -9,7 +9,9 @@ use crate::options::{
     OUTCOME, QUIET, RANDOM, RESERVE, SCHEDULE, SECONDS, SEED, SHOW, SVG, TO, WORKERS,
 };
 use clap::ArgMatches;
-use command_requests::{CostWords, Form, Opening, RunWords, StepWords, TraceWords};
+use command_requests::{
+    CostWords, Form, MeaningWords, Opening, RunWords, StepWords, SweepForm, SweepWords, TraceWords,
+};
 use memory_texts::Choice;
 use program_texts::Stop;
 use run_options::{MapChoice, Options, Reserve, read_map, read_number, read_pair};
@@ -68,14 +70,16 @@ fn count_of<'a>(words: &ArgMatches<'a>, option: &str) -> Result<Option<u32>, Sto
     }
 }
 
-fn cost_words<'a>(words: &ArgMatches<'a>) -> Result<CostWords, Stop<'a>>
+/// What is told of the costs of a run, for so many workers too where the command line says it.
+pub(crate) fn cost_words<'a>(words: &ArgMatches<'a>) -> Result<CostWords, Stop<'a>>
     ensures { IfErr result IsOfWords }
 {
     let schedule = count_of(words, SCHEDULE)?;
+    let workers = count_of(words, WORKERS)?;
     let lines = words.get_flag(LINES);
     Ok(CostWords {
         schedule,
-        workers: None,
+        workers,
         lines,
     })
 }
@@ -97,21 +101,42 @@ fn only_of<'a>(words: &ArgMatches<'a>) -> Result<Choice<'a>, Stop<'a>>
     }
 }
 
-// Both numbers are 0 where the command has no such options.
-fn step_words<'a>(words: &ArgMatches<'a>) -> Result<StepWords<'a>, Stop<'a>>
+// How they are told, of which two are refused together.
+fn form_of(words: &ArgMatches<'_>) -> Form {
+    if words.get_flag(SVG) {
+        Form::Picture
+    } else if words.get_flag(FLOW) {
+        Form::Flow
+    } else if words.get_flag(HTML) {
+        Form::Page
+    } else {
+        Form::Words
+    }
+}
+
+// The declarations that a flow is drawn of.
+fn drawn_of<'a>(words: &ArgMatches<'a>) -> Choice<'a> {
+    match words.get_str(ONLY) {
+        Some(names) if words.get_flag(FLOW) => Choice::Named(names),
+        _ => Choice::All,
+    }
+}
+
+/// Which statements of a run are told, and how.
+pub(crate) fn step_words<'a>(words: &ArgMatches<'a>) -> Result<StepWords<'a>, Stop<'a>>
     ensures { IfErr result IsOfWords }
 {
     let from = number_of(words, FROM)?;
     let to = number_of(words, TO)?;
-    let locals = words.get_flag(LOCALS);
-    let columns = words.get_flag(COLUMNS);
     let only = only_of(words)?;
     Ok(StepWords {
         from,
         to,
-        locals,
-        columns,
+        locals: words.get_flag(LOCALS),
+        columns: words.get_flag(COLUMNS),
         only,
+        form: form_of(words),
+        drawn: drawn_of(words),
     })
 }
 
@@ -140,8 +165,8 @@ fn drawing_of<'a>(words: &ArgMatches<'a>, interval: &'a str) -> Result<Opening<'
     }
 }
 
-// What the cells hold: an input, a memory or numbers that are drawn, and no two of these.
-fn opening_of<'a>(words: &ArgMatches<'a>) -> Result<Opening<'a>, Stop<'a>>
+/// What the cells hold: an input, a memory or numbers that are drawn, and no two of these.
+pub(crate) fn opening_of<'a>(words: &ArgMatches<'a>) -> Result<Opening<'a>, Stop<'a>>
     ensures { IfErr result IsOfWords }
 {
     let (input, memory, random) = (
@@ -162,34 +187,15 @@ fn opening_of<'a>(words: &ArgMatches<'a>) -> Result<Opening<'a>, Stop<'a>>
     }
 }
 
-// Of what memory is written, or drawn.
-fn choice_of<'a>(words: &ArgMatches<'a>) -> Result<Choice<'a>, Stop<'a>>
+/// Of what memory is written.
+pub(crate) fn choice_of<'a>(words: &ArgMatches<'a>) -> Result<Choice<'a>, Stop<'a>>
     ensures { IfErr result IsOfWords }
 {
-    if words.get_flag(FLOW) {
-        return match words.get_str(ONLY) {
-            None => Ok(Choice::All),
-            Some(names) => Ok(Choice::Named(names)),
-        };
-    }
     match (words.get_str(SHOW), words.get_flag(QUIET)) {
         (None, false) => Ok(Choice::All),
         (None, true) => Ok(Choice::Nothing),
         (Some(names), false) => Ok(Choice::Named(names)),
         (Some(_), true) => Err(Stop::Number("--quiet")),
-    }
-}
-
-// How it is told, of which two are refused together.
-fn form_of(words: &ArgMatches<'_>) -> Form {
-    if words.get_flag(SVG) {
-        Form::Picture
-    } else if words.get_flag(FLOW) {
-        Form::Flow
-    } else if words.get_flag(HTML) {
-        Form::Page
-    } else {
-        Form::Words
     }
 }
 
@@ -206,33 +212,44 @@ fn rates_of<'a>(words: &ArgMatches<'a>) -> Result<Option<(u32, u32)>, Stop<'a>>
     }
 }
 
-// A picture and JSON have the lines too.
-fn trace_words<'a>(words: &ArgMatches<'a>) -> Result<TraceWords, Stop<'a>>
+/// What is told of exchanges. A picture and JSON have the lines too.
+pub(crate) fn trace_words<'a>(words: &ArgMatches<'a>) -> Result<TraceWords, Stop<'a>>
     ensures { IfErr result IsOfWords }
 {
     let rates = rates_of(words)?;
-    let is_told = words.get_flag(LINES) || words.get_flag(SVG);
+    let drawn = words.get_flag(SVG);
+    let lines = words.get_flag(LINES) || drawn || words.get_str(FORMAT) == Some("json");
     Ok(TraceWords {
         outcome: words.get_flag(OUTCOME),
-        lines: is_told || words.get_str(FORMAT) == Some("json"),
+        lines,
         rates,
+        drawn,
     })
 }
 
-/// How something is run.
-pub(crate) fn run_words<'a>(words: &ArgMatches<'a>) -> Result<RunWords<'a>, Stop<'a>>
+/// How a program is run by its definition.
+pub(crate) fn meaning_words<'a>(words: &ArgMatches<'a>) -> Result<MeaningWords<'a>, Stop<'a>>
     ensures { IfErr result IsOfWords }
 {
     let bound = number_of(words, BOUND)?;
     let seconds = count_of(words, SECONDS)?;
+    let opening = opening_of(words)?;
+    Ok(MeaningWords {
+        opening,
+        bound,
+        seconds,
+    })
+}
+
+/// How code is run by workers.
+pub(crate) fn run_words<'a>(words: &ArgMatches<'a>) -> Result<RunWords<'a>, Stop<'a>>
+    ensures { IfErr result IsOfWords }
+{
+    let bound = number_of(words, BOUND)?;
     let workers = number_of(words, WORKERS)?;
     let map = map_of(words)?;
     let reserve = reserve_of(words)?;
-    let costs = cost_words(words)?;
-    let steps = step_words(words)?;
-    let trace = trace_words(words)?;
     let opening = opening_of(words)?;
-    let shown = choice_of(words)?;
     Ok(RunWords {
         opening,
         options: Options {
@@ -240,26 +257,36 @@ pub(crate) fn run_words<'a>(words: &ArgMatches<'a>) -> Result<RunWords<'a>, Stop
             map,
             bound,
         },
-        seconds,
         reserve,
-        costs,
-        steps,
-        trace,
-        form: form_of(words),
-        shown,
     })
 }
 
-/// How the run is whose costs are told, for so many workers too where the command line says it.
-pub(crate) fn costed_words<'a>(words: &ArgMatches<'a>) -> Result<RunWords<'a>, Stop<'a>>
+// A table isn't drawn.
+fn sweep_form(words: &ArgMatches<'_>) -> SweepForm {
+    if words.get_flag(SVG) {
+        SweepForm::Picture
+    } else if words.get_str(FORMAT) == Some("csv") {
+        SweepForm::Table
+    } else {
+        SweepForm::Words
+    }
+}
+
+/// The sizes that a word gives, and how a program is run at each.
+pub(crate) fn sweep_words<'a>(
+    words: &ArgMatches<'a>,
+    word: &'a str,
+) -> Result<SweepWords<'a>, Stop<'a>>
     ensures { IfErr result IsOfWords }
 {
-    let run = run_words(words)?;
+    let bound = number_of(words, BOUND)?;
     let workers = count_of(words, WORKERS)?;
-    let costs = CostWords {
-        schedule: run.costs.schedule,
+    let opening = opening_of(words)?;
+    Ok(SweepWords {
+        word,
+        opening,
+        bound,
         workers,
-        lines: run.costs.lines,
-    };
-    Ok(RunWords { costs, ..run })
+        form: sweep_form(words),
+    })
 }

@@ -1,5 +1,6 @@
 pub mod Facts
 pub mod Lines
+pub mod LineLaws
 pub mod Shown
 pub mod Small
 pub mod OutcomeFacts

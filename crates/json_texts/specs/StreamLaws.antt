@@ -4,7 +4,7 @@ use Rattle.std.proofs.Common.{nat_le, nat_lt, refl, subst, sym}
 use Rattle.std.proofs.lemmas.Bool.{le-ltb, ltb-false}
 use Rattle.serde_json.specs.Data.{Data}
 use Rattle.json_texts.specs.Lines.{IsJson}
-use Rattle.json_texts.proofs.Json.{adds_nothing, adds_then}
+use Rattle.json_texts.specs.LineLaws.{adds_nothing, adds_then}
 use Rattle.json_texts.specs.StepFacts.{step_facts, step_within, steps_from}
 use Rattle.pram_model.specs.Layout.{SharedEntry}
 use Rattle.pram_trees.specs.Program.{ProgramTree}

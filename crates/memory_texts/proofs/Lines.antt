@@ -10,7 +10,8 @@ use Rattle.pram_model.specs.Layout.{SharedEntry, total_size}
 use Rattle.memory_texts.specs.declared.front.Run.TheVariants as run
 use Rattle.memory_texts.specs.declared.memory_fault.MemoryFault.{MemoryFault}
 use Rattle.memory_texts.specs.declared.memory_fault.MemoryFault.TheVariants.{OutOfMemory, Text, TooMany, Unknown}
-use Rattle.memory_texts.specs.Front.{◌>>=◌, front, is_of}
+use Rattle.sized_texts.specs.Reading.{◌>>=◌}
+use Rattle.memory_texts.specs.Front.{front, is_of}
 use Rattle.memory_texts.specs.Assignments.{Answers, Assigned, IsFault, ReachesIf}
 use Rattle.memory_texts.proofs.Within.{line_within}
 use Rattle.memory_texts.specs.Memory.{Line, after, after_lines, given, lines, memory_of, with_byte}

@@ -9,7 +9,8 @@ use Rattle.pram_tokens.specs.Plain.{IsPlain}
 use Rattle.memory_texts.specs.declared.front.Run.TheVariants as run
 use Rattle.memory_texts.specs.declared.memory_fault.MemoryFault.{MemoryFault}
 use Rattle.memory_texts.specs.declared.memory_fault.MemoryFault.TheVariants.{OutOfMemory, Text, TooMany, Unknown}
-use Rattle.memory_texts.specs.Front.{◌>>=◌, front, past_blanks}
+use Rattle.sized_texts.specs.Reading.{◌>>=◌}
+use Rattle.memory_texts.specs.Front.{front, past_blanks}
 use Rattle.memory_texts.specs.Headings.{Headed, heading_front}
 use Rattle.memory_texts.specs.Cells.{cells_at, cells_of, declaration, declared_cells, found_cells, left_of, subscripts_of, unknown}
 use Rattle.memory_texts.specs.Assignments.{Answers, Assigned, IsFault, assignment_by, assignment_front, assignment_of, in_line, misplaced}

@@ -7,7 +7,8 @@ use Rattle.std.proofs.lemmas.Bool.Decides.{nat_tests}
 use Rattle.pram_model.specs.Layout.{SharedEntry, cell_of, most_cells, total_size}
 use Rattle.pram_model.proofs.Cells.{cell_below}
 use Rattle.memory_texts.specs.declared.memory_fault.MemoryFault.TheVariants.{TooMany}
-use Rattle.memory_texts.specs.Front.{◌>>=◌, past_blanks}
+use Rattle.sized_texts.specs.Reading.{◌>>=◌}
+use Rattle.memory_texts.specs.Front.{past_blanks}
 use Rattle.memory_texts.specs.Headings.{Headed, heading_front}
 use Rattle.memory_texts.specs.Cells.{between, cells_at, cells_of, declaration, declared_cells, found_cells, left_of, subscripts_of}
 use Rattle.memory_texts.specs.Assignments.{Assigned, Reaches, ReachesIf, assignment_by, assignment_front, assignment_of, in_line}

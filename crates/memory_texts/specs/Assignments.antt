@@ -8,7 +8,8 @@ use Rattle.pram_tokens.specs.declared.error.TextFault.TheVariants.{BadToken}
 use Rattle.memory_texts.specs.declared.assignment.Assignment.{Assignment}
 use Rattle.memory_texts.specs.declared.memory_fault.MemoryFault.{MemoryFault}
 use Rattle.memory_texts.specs.declared.memory_fault.MemoryFault.TheVariants.{OutOfMemory, Text, TooMany, Unknown}
-use Rattle.memory_texts.specs.Front.{◌>>=◌, past_blanks}
+use Rattle.sized_texts.specs.Reading.{◌>>=◌}
+use Rattle.memory_texts.specs.Front.{past_blanks}
 use Rattle.memory_texts.specs.Headings.{heading_front}
 use Rattle.memory_texts.specs.Cells.{cells_of}
 

@@ -10,12 +10,6 @@ use Rattle.pram_tokens.specs.Lexemes.{is_blank}
 use Rattle.memory_texts.specs.declared.front.Run.{Run}
 use Rattle.memory_texts.specs.declared.front.Run.TheVariants as run
 
-infixl 10 ◌>>=◌
--- the second behind the first
-abbrev pub ◌>>=◌ : {A B E : Type 0} → Result A E → (A → Result B E) → Result B E
-Ok x >>= f = f x
-Err e >>= f = Err e
-
 -- what a function answered is what is read
 abbrev pub Gives : {X Y E : Type 0} → (X → Y) → Result X E → Result Y E → Type 0
 Gives view (Ok x) read = read ≡ Ok (view x)

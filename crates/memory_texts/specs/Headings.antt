@@ -4,7 +4,8 @@ use Rattle.std.specs.Prelude.{ℕ, ◌==◌, ℤ, if◌then◌else◌, List, [],
 use Rattle.memory_texts.specs.declared.front.Run.TheVariants as run
 use Rattle.memory_texts.specs.declared.heading.Heading.{Heading}
 use Rattle.memory_texts.specs.declared.heading.Interval.{Interval}
-use Rattle.memory_texts.specs.Front.{◌>>=◌, behind, expect, expect_front, front, number_front, number_next, past_blanks}
+use Rattle.sized_texts.specs.Reading.{◌>>=◌}
+use Rattle.memory_texts.specs.Front.{behind, expect, expect_front, front, number_front, number_next, past_blanks}
 
 -- a name and the interval behind it, and how many bytes are left from the name on
 pub record Headed : Type 0 where

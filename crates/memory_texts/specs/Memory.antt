@@ -9,7 +9,8 @@ use Rattle.pram_tokens.specs.declared.error.TextFault.TheVariants as told
 use Rattle.memory_texts.specs.declared.front.Run.TheVariants as run
 use Rattle.memory_texts.specs.declared.memory_fault.MemoryFault.{MemoryFault}
 use Rattle.memory_texts.specs.declared.memory_fault.MemoryFault.TheVariants.{OutOfMemory, Text, TooMany, Unknown}
-use Rattle.memory_texts.specs.Front.{◌>>=◌, front}
+use Rattle.sized_texts.specs.Reading.{◌>>=◌}
+use Rattle.memory_texts.specs.Front.{front}
 use Rattle.memory_texts.specs.Assignments.{Assigned, line_assignment}
 
 -- the bytes of a line up to its end, and the offset of the first one

@@ -1,6 +1,7 @@
 -- One entry that passes: its changes, and its line.
 use Rattle.std.proofs.Common.{◌≡◌, ◌<◌, ◌≤◌, ◌∙◌, ◌+◌, ◌-◌, ◌&&◌, ℕ, suc, Bool, true, false, List, [], ◌∷◌, ◌++◌, ap, append-nil, arith}
 use Rattle.std.proofs.Common.{if◌then◌else◌, nat_le, refl, subst, sym, take}
+use Rattle.std.proofs.Math.Bool.{and-false}
 use Rattle.std.proofs.lemmas.Bool.{le-leb, lt-leb}
 use Rattle.std.proofs.lemmas.List.{take_all}
 use Rattle.std.specs.List.{fold}
@@ -74,12 +75,8 @@ module _ (a : Asked) (count number : ℕ) (e : Entry) (n : number ≡ count + 1)
   before_first : number < a.first → (nat_le a.first number && nat_le number a.last) ≡ false
   before_first lt = ap (λ b. b && nat_le number a.last) (lt-leb a.first number lt)
 
-  and_none : (b : Bool) → (b && false) ≡ false
-  and_none true = refl
-  and_none false = refl
-
   behind_last : a.last < number → (nat_le a.first number && nat_le number a.last) ≡ false
-  behind_last lt = ap (λ b. nat_le a.first number && b) (lt-leb number a.last lt) ∙ and_none (nat_le a.first number)
+  behind_last lt = ap (λ b. nat_le a.first number && b) (lt-leb number a.last lt) ∙ and-false (nat_le a.first number)
 
   among : a.first ≤ number → number ≤ a.last → (nat_le a.first number && nat_le number a.last) ≡ true
   among from to = ap (λ b. b && nat_le number a.last) (le-leb a.first number from) ∙ le-leb number a.last to

@@ -6,9 +6,11 @@ use Rattle.program_texts.specs.declared.stop.Stop.{Stop}
 use Rattle.command_requests.specs.Words.{AsksForVersion, IsOfWords, asks_for_gnu, asks_for_json, asks_to_explain}
 use Rattle.command_requests.specs.declared.request.Request.{Request}
 use Rattle.command_requests.specs.declared.request.Request.TheVariants as request
-use Rattle.command_text.specs.Left.{Leaves}
+use Rattle.command_text.specs.Left.{LeavesFound}
+use Rattle.command_text.specs.Explained.{IsRefusalReported}
 use Rattle.command_text.specs.declared.terminal.Terminal.{Terminal}
-use Rattle.command_json.specs.Left.{LeavesJson}
+use Rattle.command_json.specs.Left as json
+use Rattle.pramc.specs.Left.{Leaves}
 
 -- the streams of a call: what is refused, and a fault, is explained where standard error is a terminal or a word asks for it, and told in
 -- the lines that editors read where words ask for these
@@ -23,8 +25,10 @@ IsAsked words asked = (AsksForVersion words → asked ≡ Ok request.Version) ×
 -- what is left, in JSON or in words
 abbrev pub LeavesIn : Bool → (List ℕ → Option (List ℕ) → Type 0) → Terminal → List (List ℕ) → Result Request Stop
     → (out out_new err err_new : OutState) → Status → Type 0
-LeavesIn true holds on words asked out out_new err err_new ends = LeavesJson holds words asked out out_new err err_new ends
-LeavesIn false holds on words asked out out_new err err_new ends = Leaves holds on words asked out out_new err err_new ends
+LeavesIn true holds on words asked out out_new err err_new ends =
+    Leaves json.LeavesFound json.IsRefusalSaid holds words asked out out_new err err_new ends
+LeavesIn false holds on words asked out out_new err err_new ends =
+    Leaves (LeavesFound on) (IsRefusalReported on) holds words asked out out_new err err_new ends
 
 abbrev pub LeavesAs : (List ℕ → Option (List ℕ) → Type 0) → Terminal → List (List ℕ) → (out out_new err err_new : OutState) →
     Status → Type 0

@@ -1,12 +1,3 @@
-pub use Rattle.program_runs.specs.Runs
-pub use Rattle.program_runs.specs.Headline
-pub use Rattle.program_runs.specs.Reserved
-pub use Rattle.program_runs.specs.Compiled
-pub use Rattle.program_texts.specs.Report
-pub use Rattle.program_texts.specs.Shown
-pub use Rattle.program_texts.specs.Status
-pub use Rattle.program_texts.specs.Stopped
-pub use Rattle.program_texts.specs.StoppedFields
-pub use Rattle.system_files.specs.Held
-pub use Rattle.system_files.specs.Files
+pub mod Calls
+pub mod Left
 pub mod Command

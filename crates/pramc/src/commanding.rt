@@ -4,7 +4,7 @@ ghost use Rattle.std.specs.Prelude.{◌≡◌, map};
 ghost use Rattle.std.specs.String.{string_bytes};
 ghost use Rattle.pramc.specs.Command as spec;
 
-use command_facts::answer;
+use crate::answering::answer;
 use command_json::Json;
 use command_requests::{Reader, asks_for_gnu, asks_for_json, asks_to_explain};
 use command_text::Terminal;

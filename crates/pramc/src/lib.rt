@@ -1,10 +1,11 @@
 //! Programs compiled, run and shown, and the whole command, but for the system's files and streams.
 #![tactic(auto)]
 
+mod answering;
 mod commanding;
+mod finding;
 
 pub use command_text::Terminal;
-pub use command_words::CommandLine;
 pub use commanding::command;
 pub use exchange_counts::{Count, Counts};
 pub use observing::Watch;

@@ -1,6 +1,7 @@
 -- What findings say of the runs.
 use Rattle.std.proofs.Common.{◌≡◌, ℕ, zero, suc, ◌+◌, Bool, true, false, not, cond, ◌||◌, Option, Some, None, ℤ, List, [], ◌∷◌, ◌++◌}
 use Rattle.std.proofs.Common.{length, refl, ap, sym, subst, ◌∙◌, arith}
+use Rattle.std.proofs.lemmas.Bool.{not-true}
 use Rattle.std.proofs.lemmas.Bool.Decides.{nat_tests}
 use Rattle.std.proofs.lemmas.List.Elements.{All-cons, All-filter, All-head, All-nil, All-tail, All-weaker, filter_map-append, filter_passes}
 use Rattle.std.proofs.lemmas.List.Kept.{AllPairs-cons, AllPairs-filter}
@@ -69,17 +70,13 @@ occur p n inputs =
 
 -- ---- no two alike
 
-was_not : (b : Bool) → not b ≡ true → b ≡ false
-was_not true h = sym h
-was_not false h = refl
-
 firsts_once : (ms : List Met) → AllPairs (λ (a b : Met). are_alike a.fault b.fault ≡ false) (firsts ms)
 firsts_once [] = λ i j d lt le. absurd (omega arith)
 firsts_once (m ∷ ms) =
     let R : Met → Met → Type 0 = λ a b. are_alike a.fault b.fault ≡ false in
     let t : Met → Bool = λ q. not (are_alike m.fault q.fault) in
     AllPairs-cons R m (filter t (firsts ms))
-    (All-weaker (λ (q : Met). t q ≡ true) (R m) (λ q h. was_not (are_alike m.fault q.fault) h) (filter t (firsts ms))
+    (All-weaker (λ (q : Met). t q ≡ true) (R m) (λ q h. not-true (are_alike m.fault q.fault) h) (filter t (firsts ms))
     (filter_passes t (firsts ms)))
     (AllPairs-filter R t (firsts ms) (firsts_once ms))
 

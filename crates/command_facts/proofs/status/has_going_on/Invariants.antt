@@ -1,6 +1,6 @@
 use Rattle.std.proofs.Common.{◌≡◌, drop}
 use Rattle.std.specs.List.{list_any}
-use Rattle.command_facts.specs.Calls.{is_going_on}
+use Rattle.command_facts.specs.Statuses.{is_going_on}
 use Rattle.command_facts.proofs.status.has_going_on.Given as goal
 
 abbrev pub invariant-loop-row : goal.invariant-loop-row

@@ -18,7 +18,7 @@ returns-then-is_ok g c =
       written = (
         _,
         fault_is_said run c.args.fault.now found
-            (subst (λ (i : List ℤ). IfSome found (λ reason. reason_is reason ≡ run_reason run.loaded.program i run.words.options.bound))
+            (subst (λ (i : List ℤ). IfSome found (λ reason. reason_is reason ≡ run_reason run.loaded.program i run.limit.bound))
             c.deref.ensures.value c.find_reason-reason.ensures),
         reported _ _ _ _ _ c.write_fault_of.result c.flush.result same c.write_fault_of.ensures.written c.if-is_ok.ensures.value
             c.flush.ensures.ok c.flush.ensures.failed,
@@ -35,7 +35,7 @@ returns g c =
       written = (
         _,
         fault_is_said run c.args.fault.now found
-            (subst (λ (i : List ℤ). IfSome found (λ reason. reason_is reason ≡ run_reason run.loaded.program i run.words.options.bound))
+            (subst (λ (i : List ℤ). IfSome found (λ reason. reason_is reason ≡ run_reason run.loaded.program i run.limit.bound))
             c.deref.ensures.value c.find_reason-reason.ensures),
         reported_in_part _ _ _ _ c.write_fault_of.result same c.write_fault_of.ensures.written c.if-is_ok.ensures.value,
       );

@@ -19,7 +19,7 @@ pub returns-in_err-finish : goal.returns-in_err-finish
 returns-in_err-finish g c =
     let s = c.args.steps.now in
     let o = c.in_ok-outcome.outcome in
-    let shows = flow_text (with_outcome s o) (entries_of s) in
+    let shows = flow_text s.words (with_outcome s o) (entries_of s) in
     record {
       told = λ on. cut_told on s _ _ _ c.in_err-finish.field-0.0 c.from_residual-in_err-finish.ensures.1
           (cut_in_text on s _ form.Flow c.requires.form o c.in_ok-outcome.ensures.outcome _ (status_of o) _ shows refl
@@ -31,7 +31,7 @@ pub returns : goal.returns
 returns g c =
     let s = c.args.steps.now in
     let o = c.in_ok-outcome.outcome in
-    let shows = flow_text (with_outcome s o) (entries_of s) in
+    let shows = flow_text s.words (with_outcome s o) (entries_of s) in
     let w = wrote _ _ shows _ _ _ (Ok _) c.of.ensures c.in_ok-outcome.ensures.flow c.in_ok-finish.ensures.ok
     c.in_ok-finish.ensures.failed in
     record { told = λ on. whole on s _ form.Flow c.requires.form o c.in_ok-outcome.ensures.outcome _ shows refl w.1 }

@@ -21,7 +21,7 @@ returns-in_err-write_pictured g c =
     record {
       told = λ on. cut_told on s _ _ _ c.in_err-write_pictured.field-0.0 c.from_residual-in_err-write_pictured.ensures.1
           (cut_in_text on s _ form.Picture c.requires.form o c.in_ok-outcome.ensures.outcome _ (status_of o) _
-          (picture_text (with_outcome s o) (entries_of s)) refl w);
+          (picture_text s.words (with_outcome s o) (entries_of s)) refl w);
     }
 
 pub returns : goal.returns
@@ -32,5 +32,5 @@ returns g c =
     c.in_ok-outcome.ensures.entries c.in_ok-write_pictured.ensures.written in
     record {
       told = λ on. whole on s _ form.Picture c.requires.form o c.in_ok-outcome.ensures.outcome _
-          (picture_text (with_outcome s o) (entries_of s)) refl w.1;
+          (picture_text s.words (with_outcome s o) (entries_of s)) refl w.1;
     }

@@ -1,7 +1,7 @@
 use Rattle.std.proofs.Common.{ap, subst, sym}
 use Rattle.mpi_export.specs.Program.{c_text}
 use Rattle.program_texts.specs.declared.status.Status.TheVariants as status
-use Rattle.command_facts.specs.Calls.{status_of_found}
+use Rattle.command_facts.specs.Statuses.{status_of_found}
 use Rattle.command_facts.specs.Written.{WroteSome}
 use Rattle.command_facts.specs.declared.found.Settled.{Settled}
 use Rattle.command_facts.specs.declared.found.Settled.TheVariants as settled

@@ -1,5 +1,0 @@
-use Rattle.command_facts.proofs.WordsTold.{costs_bound_words}
-use Rattle.command_facts.proofs.cost_laws.costs_bound_words.Goals as goal
-
-pub returns : goal.returns
-returns c = costs_bound_words

@@ -1,0 +1,3 @@
+pub mod PairParts
+pub mod Fitting
+pub mod PairInputs

@@ -1,0 +1,7 @@
+pub mod Refusals
+pub mod Same
+pub mod Comparisons
+pub mod Costs
+pub mod Rules
+pub mod Steps
+pub mod WordsTold

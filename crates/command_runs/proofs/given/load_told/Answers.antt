@@ -1,0 +1,50 @@
+use Rattle.std.proofs.Common.{List, inl, inr, subst}
+use Rattle.pram_model.specs.Layout.{SharedEntry}
+use Rattle.pram_trees.specs.Program.{ProgramTree}
+use Rattle.command_facts.specs.Found.{IsOpening}
+use Rattle.command_facts.specs.Refused.{StopsAtOpening}
+use Rattle.command_facts.proofs.Programs.{program_in}
+use Rattle.command_facts.proofs.Same.{opening_held, opening_stops}
+use Rattle.command_requests.proofs.Sizes.{hands_on}
+use Rattle.command_runs.specs.Refused.{IsForeignTo, IsUnknownIn}
+use Rattle.command_runs.proofs.given.load_told.Goals as goal
+
+pub returns-in_err-check_names-clause-refused : goal.returns-in_err-check_names-clause-refused
+returns-in_err-check_names-clause-refused g c =
+    let loaded = c.in_ok-loaded.loaded in
+    let h = c.in_err-check_names.field-0.0 in
+    hands_on _ h _ c.from_residual-in_err-check_names.ensures.1 (inr (
+      loaded.program,
+      program_in (g.S.Sources.holds c.args.sources.now) c.args.file.now loaded c.in_ok-loaded.ensures.loaded,
+      inl (inl (subst (λ (l : List SharedEntry). IsUnknownIn l c.args.steps.drawn h.stop h.about) c.layout.ensures
+          c.in_err-check_names.ensures.unknown)),
+    ))
+
+pub returns-in_err-check_told-clause-refused : goal.returns-in_err-check_told-clause-refused
+returns-in_err-check_told-clause-refused g c =
+    let loaded = c.in_ok-loaded.loaded in
+    let h = c.in_err-check_told.field-0.0 in
+    hands_on _ h _ c.from_residual-in_err-check_told.ensures.1 (inr (
+      loaded.program,
+      program_in (g.S.Sources.holds c.args.sources.now) c.args.file.now loaded c.in_ok-loaded.ensures.loaded,
+      inl (inr (subst (λ (t : ProgramTree). IsForeignTo t c.args.steps h.stop h.about) c.tree.ensures.tree
+          c.in_err-check_told.ensures.foreign)),
+    ))
+
+pub returns-in_err-input-clause-refused : goal.returns-in_err-input-clause-refused
+returns-in_err-input-clause-refused g c =
+    let loaded = c.in_ok-loaded.loaded in
+    let h = c.in_err-input.field-0.0 in
+    let stops = opening_stops _ _ c.in_ok-loaded.ensures.same c.layout-2.result.now c.args.opening h c.in_err-input.ensures.refused in
+    hands_on _ h _ c.from_residual-in_err-input.ensures.1 (inr (
+      loaded.program,
+      program_in (g.S.Sources.holds c.args.sources.now) c.args.file.now loaded c.in_ok-loaded.ensures.loaded,
+      inr (subst (λ (l : List SharedEntry). StopsAtOpening (g.S.Sources.holds c.args.sources.now) l c.args.opening h) c.layout-2.ensures
+          stops),
+    ))
+
+pub returns-clause-input : goal.returns-clause-input
+returns-clause-input g c =
+    let input = c.in_ok-input.input.items in
+    subst (λ (l : List SharedEntry). IsOpening (g.S.Sources.holds c.args.sources.now) l c.args.opening input) c.layout-2.ensures
+    (opening_held _ _ c.in_ok-loaded.ensures.same c.layout-2.result.now c.args.opening input c.in_ok-input.ensures.values)

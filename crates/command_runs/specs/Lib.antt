@@ -1,0 +1,5 @@
+pub mod Timed
+pub mod Runs
+pub mod Refused
+pub mod Scopes
+pub mod CostLaws

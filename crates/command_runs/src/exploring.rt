@@ -1,0 +1,103 @@
+//! Runs of a program on every input of a scope.
+
+ghost use Rattle.std.specs.Prelude.{◌≡◌, ◌<◌, ◌≤◌, IfOk, IfErr, ℕ};
+ghost use Rattle.command_runs.specs.Scopes as spec;
+
+use command_facts::{FoundScope, load_program};
+use command_requests::{ProgramFile, ScopeWords};
+use diagnoses::{About, Halted};
+use observing::Watch;
+use pram_check::Program;
+use pram_meaning::MeaningRefusal;
+use pram_trees::Rule;
+use program_texts::{Refusal, Stop};
+use scopes::explore_by;
+use std::alloc::Global;
+use std::thread::Threads;
+use system_files::Sources;
+
+// The most workers that share the inputs.
+const MOST_WORKERS: u32 = 32;
+
+// The program under the rule that is asked for, or its own.
+fn under(program: Program, rule: Option<Rule>) -> Program
+    ensures { result ≡ spec.under_rule rule program }
+{
+    match rule {
+        None => program,
+        Some(rule) => program.under(rule),
+    }
+}
+
+// No run begins: the inputs have more values than there are cells, or memory was refused.
+fn halted<'a>(why: MeaningRefusal, values: u32, cells: u32) -> Halted<'a>
+    requires too_long { why ≡ MeaningRefusal.InputTooLong → cells < values }
+    ensures { (workers : ℕ) → spec.IsRefusedFor workers values cells result.stop result.about }
+{
+    match why {
+        MeaningRefusal::InputTooLong => Halted {
+            stop: Stop::Refused(Refusal::InputTooLong),
+            about: About::Values {
+                values: values as usize,
+                cells,
+            },
+        },
+        MeaningRefusal::OutOfMemory => Halted {
+            stop: Stop::Refused(Refusal::OutOfMemory),
+            about: About::Nothing,
+        },
+    }
+}
+
+// There have to be 1 to 32 workers.
+fn check_workers<'a>(workers: u32) -> Result<(), Halted<'a>>
+    ensures some { IfOk result (λ u. 0 < workers) }
+    ensures few { IfOk result (λ u. workers ≤ 32) }
+    ensures refused { IfErr result (λ h. (values cells : ℕ) → spec.IsRefusedFor workers values cells h.stop h.about) }
+{
+    if 0 < workers && workers <= MOST_WORKERS {
+        Ok(())
+    } else {
+        Err(Halted {
+            stop: Stop::Refused(Refusal::BadWorkers),
+            about: About::Nothing,
+        })
+    }
+}
+
+/// The runs of the file's program on every input of the scope, each for at most `bound` statements, by the workers that are asked for.
+///
+/// It is refused as [`load_program`] refuses the file, for other than 1 to 32 workers (E13), for inputs with too many values (E11), and for
+/// want of memory (E16).
+pub fn find_scope<'a, R: Threads + Sync, S: Sources, V: Watch>(
+    rt: &R,
+    alloc: Global,
+    file: &ProgramFile<'a>,
+    scope: ScopeWords,
+    bound: u32,
+    sources: &mut S,
+    watch: &mut V,
+) -> Result<FoundScope, Halted<'a>>
+    // What is found is of all inputs of the scope, of the file's program under the rule that is asked for, within the bound.
+    ensures found { IfOk result (spec.IsExplored (S.Sources.holds sources.old) file.now scope bound) }
+    // Nothing is found only for the program's file, the number of workers, inputs with too many values, or want of memory.
+    ensures refused { IfErr result (spec.StopsAtExploration (S.Sources.holds sources.old) file.now scope) }
+{
+    let loaded = load_program(alloc, sources, file)?;
+    let program = under(loaded.program, scope.rule);
+    if let Err(halted) = check_workers(scope.workers) {
+        return Err(halted);
+    }
+    match explore_by(
+        rt,
+        alloc,
+        &program,
+        scope.scope,
+        bound,
+        scope.workers,
+        watch,
+    ) {
+        Ok(findings) => Ok(FoundScope { program, findings }),
+        Err(why) => Err(halted(why, scope.scope.count, program.layout().cells())),
+    }
+}
