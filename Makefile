@@ -91,10 +91,12 @@ SEED ?= 1
 COUNT ?= 500
 
 # Compares the program with the interpreter of gate/oracle on COUNT drawn programs and some changed texts and listings, and all that it says
-# of drawn programs with one another; what differs is kept in bin/differs.
+# of drawn programs with one another; with FROM=FOLDER both on the programs NAME.pram of that folder, on the inputs NAME.in. What differs is
+# kept in bin/differs.
+FUZZED = $(if $(FROM),--from $(FROM),--seed $(SEED) --count $(COUNT))
 fuzz: bin/pramc
-	python3 gate/oracle/compare.py bin/pramc --seed $(SEED) --count $(COUNT)
-	python3 gate/drawn_outputs.py bin/pramc --seed $(SEED) --count $(COUNT)
+	python3 gate/oracle/compare.py bin/pramc $(FUZZED)
+	python3 gate/drawn_outputs.py bin/pramc $(FUZZED)
 
 # Shows that memory is given back, and that each allocation may be refused.
 memory:

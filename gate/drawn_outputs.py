@@ -3,7 +3,8 @@
 
 drawn_outputs.py PROGRAM [--seed S] [--count N]: what the scripts of examples ask of theirs is asked of drawn programs: JSON says what the
 words say, its changes give the memory, the pictures have the statements, the exchanges and the flow that are told, and the facts in the
-page are those of JSON. One that fails is kept in bin/differs.
+page are those of JSON. One that fails is kept in bin/differs. With `--from FOLDER` so are the programs NAME.pram of that folder and of
+those in it that are accepted, on the input NAME.in, or on none, with their sizes put in.
 """
 import argparse
 import json
@@ -67,9 +68,18 @@ def wrong(file):
     return found + pictures.wrong(file, "--bound", BOUND) + wrong_page(steps)
 
 
-def judged(folder, seed):
-    """Whether a drawn program is accepted, and what is wrong with what is said of it."""
-    file = drawn(folder, seed)
+def given(folder, path):
+    """A program of somebody else, with its sizes put in, and its input."""
+    file = folder / path.name
+    status, text = called("expand", path)
+    file.write_text(text if status == 0 else path.read_text(errors="replace"))
+    beside = path.with_suffix(".in")
+    file.with_suffix(".in").write_text(beside.read_text() if beside.exists() else "")
+    return file
+
+
+def judged(file):
+    """Whether a program is accepted, and what is wrong with what is said of it."""
     if called("check", file)[0] != 0:
         return False, []
     found = wrong(file)
@@ -81,18 +91,32 @@ def judged(folder, seed):
     return True, found
 
 
+def files_of(words, folder):
+    """The programs, each in a folder of its own."""
+    seeds = range(words.seed * 1000003, words.seed * 1000003 + words.count)
+    if words.folder is None:
+        return [drawn(folder, it) for it in seeds]
+    paths = sorted(words.folder.rglob("*.pram"))
+    places = [folder / str(at) for at in range(len(paths))]
+    for it in places:
+        it.mkdir()
+    return [given(*it) for it in zip(places, paths)]
+
+
 def main():
     words = argparse.ArgumentParser(description=__doc__.splitlines()[0])
     words.add_argument("program")
     words.add_argument("--seed", type=int, default=1)
     words.add_argument("--count", type=int, default=60)
+    words.add_argument("--from", dest="folder", type=Path)
     words = words.parse_args()
     with tempfile.TemporaryDirectory() as folder, ThreadPoolExecutor(JOBS) as pool:
-        found = list(pool.map(lambda it: judged(Path(folder), words.seed * 1000003 + it), range(words.count)))
+        found = list(pool.map(judged, files_of(words, Path(folder))))
     found = [it for accepted, it in found if accepted]
     for it in sum(found, []):
         print(it)
-    print(f"drawn outputs: of {found.count([])} of {len(found)} drawn programs all that is said of a run agrees")
+    kind = "drawn" if words.folder is None else "given"
+    print(f"outputs: of {found.count([])} of {len(found)} {kind} programs all that is said of a run agrees")
     sys.exit(1 if any(found) or not found else 0)
 
 

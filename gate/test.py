@@ -57,6 +57,8 @@ PARTS = [
          ("tar", "xz", "gzip", "objdump", "dpkg-deb", "man"), True),
     hostile("streams", "each write fails in turn", "cc"),
     Part("examples", "each example by its definition, by workers, under each rule, and from its listing", ("examples.py",)),
+    Part("corpus", "the examples, as a folder of somebody's programs, beside that interpreter",
+         ("oracle/compare.py", "--from", str(GATE.parent / "examples"), "--bound", "2000")),
     Part("drawn", "what the commands say of 60 drawn programs agrees", ("drawn_outputs.py",)),
     hostile("crowds", "all workers on one core, and 32 runs at once", "taskset"),
     Part("texts", "texts and inputs are read, or refused at their byte", ("syntax.py",)),

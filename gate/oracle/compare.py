@@ -3,6 +3,10 @@
 
 compare.py PROGRAM [--seed S] [--count N] [--keep FOLDER]: N drawn programs by their meaning, by workers and by their code, and 3/5 as many
 changed texts and changed listings. What differs is kept in a folder with what was wanted, and the last line tells what all came to.
+
+compare.py PROGRAM --from FOLDER [--bound B] [--keep FOLDER]: so each NAME.pram of a folder and of those in it, on the input NAME.in where
+that stands beside it, for at most B statements. Of a text with sizes what `pramc expand` makes of it is compared, and nothing where that
+refuses them.
 """
 import argparse
 import collections
@@ -68,8 +72,8 @@ def kind_of(wanted):
 
 
 class Comparison:
-    def __init__(self, program, keep):
-        self.program, self.keep, self.wrong = program, keep, 0
+    def __init__(self, program, keep, bound):
+        self.program, self.keep, self.bound, self.wrong = program, keep, bound, 0
         self.met = collections.Counter()
 
     def called(self, *words):
@@ -102,20 +106,16 @@ def program_of(text):
         return None, told_refusal(it)
 
 
-def drawn_program(comparison, folder, seed):
-    """A drawn program by its meaning, by workers, and its code by workers."""
-    pick = random.Random(seed)
-    drawer = draw.Drawer(pick)
-    text, values = drawer.text().encode(), drawer.input()
+def compared(comparison, name, folder, text, values, pick, bound):
+    """A program by its meaning, by workers, and its code by workers."""
     source, numbers, plan = folder / "program.pram", folder / "input", folder / "plan"
     source.write_bytes(text)
     numbers.write_text(" ".join(map(str, values)) + "\n")
     program, refusal = program_of(text)
-    name = f"program-{seed}"
     if program is None:
         return comparison.expect(name, [source], refusal, "check", source)
-    wanted = told(program.entries, meaning.run(program, values, BOUND))
-    given = ["--input", numbers, "--bound", BOUND]
+    wanted = told(program.entries, meaning.run(program, values, bound))
+    given = ["--input", numbers, "--bound", bound]
     workers = ["--workers", pick.choice([1, 2, 3, 4, 7]), "--map", pick.choice(["identity", "affine:5,3", "affine:1,1"])]
     files = [source, numbers]
     good = comparison.expect(name, files, wanted, "meaning", source, *given)
@@ -123,11 +123,29 @@ def drawn_program(comparison, folder, seed):
     found, _ = comparison.called("plan", source)
     plan.write_text(found)
     code = listing.read_listing(found.encode())
-    if listing.first_wrong(code) or told(code.entries, machine.run(code, values, BOUND)) != wanted:
+    if listing.first_wrong(code) or told(code.entries, machine.run(code, values, bound)) != wanted:
         comparison.wrong += 1
         print(f"{name}: its plan means something else by docs/MACHINE.md", flush=True)
         return False
     return good
+
+
+def drawn_program(comparison, folder, seed):
+    pick = random.Random(seed)
+    drawer = draw.Drawer(pick)
+    return compared(comparison, f"program-{seed}", folder, drawer.text().encode(), drawer.input(), pick, comparison.bound)
+
+
+def given_program(comparison, folder, file):
+    """A program of a folder, with its sizes put in, on the input beside it."""
+    text, beside = file.read_bytes(), file.with_suffix(".in")
+    expanded, status = comparison.called("expand", file)
+    if expanded.startswith(("refused E19", "refused P1")):
+        comparison.met["sizes refused"] += 1
+        return True
+    values = [int(it) for it in beside.read_text().split()] if beside.exists() else []
+    text = text if status else expanded.encode()
+    return compared(comparison, file.stem, folder, text, values, random.Random(file.name), comparison.bound)
 
 
 def changed_program(comparison, folder, seed):
@@ -177,17 +195,30 @@ def changed_listing(comparison, folder, seed):
     return comparison.expect(f"listing-{seed}", [plan, numbers], wanted, *words)
 
 
+def drawn_jobs(seed, count):
+    fewer = count * 3 // 5
+    kinds = ((drawn_program, count), (changed_program, fewer), (changed_listing, fewer))
+    return [(kind, seed * 1000003 + it) for kind, many in kinds for it in range(many)]
+
+
+def given_jobs(folder):
+    files = sorted(folder.rglob("*.pram"))
+    if not files:
+        sys.exit(f"{folder}: no file NAME.pram stands there")
+    return [(given_program, it) for it in files]
+
+
 def main():
     words = argparse.ArgumentParser(description=__doc__.splitlines()[0])
     words.add_argument("program")
     words.add_argument("--seed", type=int, default=1)
     words.add_argument("--count", type=int, default=500)
+    words.add_argument("--from", dest="folder", type=Path)
+    words.add_argument("--bound", type=int, default=BOUND)
     words.add_argument("--keep", default=TOP / "bin/differs")
     words = words.parse_args()
-    comparison = Comparison(str(Path(words.program).resolve()), Path(words.keep))
-    fewer = words.count * 3 // 5
-    kinds = ((drawn_program, words.count), (changed_program, fewer), (changed_listing, fewer))
-    jobs = [(kind, words.seed * 1000003 + it) for kind, many in kinds for it in range(many)]
+    comparison = Comparison(str(Path(words.program).resolve()), Path(words.keep), words.bound)
+    jobs = drawn_jobs(words.seed, words.count) if words.folder is None else given_jobs(words.folder)
 
     def done(job):
         with tempfile.TemporaryDirectory() as folder:
