@@ -15,10 +15,11 @@ use Rattle.combining.proofs.Ascents.{place_above}
 use Rattle.combining.proofs.CompactLemmas.{held_back}
 use Rattle.combining.proofs.Pairs.{hold_new}
 
-after_append : (rule : Rule) (xs ys : List HeldWrite) (held : List CellPut) →
+-- writes are held one behind the other
+pub held_after_append : (rule : Rule) (xs ys : List HeldWrite) (held : List CellPut) →
     held_after rule (xs ++ ys) held ≡ held_after rule ys (held_after rule xs held)
-after_append rule [] ys held = refl
-after_append rule (x ∷ xs) ys held = after_append rule xs ys (put rule x held)
+held_after_append rule [] ys held = refl
+held_after_append rule (x ∷ xs) ys held = held_after_append rule xs ys (put rule x held)
 
 there : List (Option HeldWrite) → List HeldWrite
 there = filter_map (λ w. w)
@@ -39,7 +40,7 @@ module _ (rule : Rule) (number : ℕ → ℤ) (written : ℕ → Option (ℕ × 
   writes_more j held =
       ap (λ xs. held_after rule (there xs) held) (map-range_with_len_more at 0 j j (omega arith))
       ∙ ap (λ xs. held_after rule xs held) (there_more (map at (range_with_len 0 j)) (at j))
-      ∙ after_append rule (first_writes number written j) (there (at j ∷ [])) held
+      ∙ held_after_append rule (first_writes number written j) (there (at j ∷ [])) held
 
   -- one that writes, and one that doesn't
   pub writes_next : (j cell : ℕ) (value : ℤ) (held : List CellPut) → written j ≡ Some (cell, value) →

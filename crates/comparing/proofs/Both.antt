@@ -10,7 +10,7 @@ use Rattle.std.specs.Option.{option_map}
 use Rattle.std.specs.Ordering.{int_eq}
 use Rattle.pram_model.specs.Layout.{SharedEntry, size, total_size}
 use Rattle.pram_model.specs.Names.{same_text}
-use Rattle.pram_names.proofs.Chains.{same_is}
+use Rattle.pram_model.proofs.Texts.{same_is, same_itself}
 use Rattle.comparing.specs.declared.compared.CommonRange.{CommonRange}
 use Rattle.comparing.specs.Common.{Placed, Shared, StandsAt, both, common, placed, range_of, same_bounds, same_entry, shared, shared_with}
 
@@ -37,17 +37,13 @@ one_entry e f h =
     let bounds = one_bounds e.bounds f.bounds parts.1 in
     λ i. record { name = names i; bounds = bounds i }
 
-text_itself : (x : List ℕ) → same_text x x ≡ true
-text_itself [] = refl
-text_itself (a ∷ x) = ap (λ (b : Bool). b && same_text x x) ((Decides-eqb a a).1 refl) ∙ text_itself x
-
 bounds_itself : (a : Option (ℤ × ℤ)) → same_bounds a a ≡ true
 bounds_itself None = refl
 bounds_itself (Some (low, high)) =
     ap (λ (b : Bool). b && int_eq high high) ((Decides-int_eq low low).1 refl) ∙ (Decides-int_eq high high).1 refl
 
 pub entry_itself : (e : SharedEntry) → same_entry e e ≡ true
-entry_itself e = ap (λ (b : Bool). b && same_bounds e.bounds e.bounds) (text_itself e.name) ∙ bounds_itself e.bounds
+entry_itself e = ap (λ (b : Bool). b && same_bounds e.bounds e.bounds) (same_itself e.name) ∙ bounds_itself e.bounds
 
 -- ---- some item
 

@@ -120,16 +120,6 @@ rest_holds w s ss m new p = (
 
 -- ---- a statement of each kind
 
-pub while_told : (w : Checked) (n : ℕ) (here : Location) (s : Statement) (e : Expression) (body : Vec Statement Global) (m : State) →
-    s ≡ While here e body → moments w n s m ≡ turns_moments (n + 1) (test_moment w n here (Turns e) e) (tested w n here.line e)
-    (list_moments w n body.items) (perform_list w n body.items) m
-while_told w n here s e body m is =
-    ap (λ s. moments w n s m) is
-    ∙ ap (λ f. turns_moments (n + 1) (test_moment w n here (Turns e) e) (tested w n here.line e) f
-    (perform_row w n (hidden-the_row-Statement-0 body)) m) (told_is w n body)
-    ∙ ap (λ f. turns_moments (n + 1) (test_moment w n here (Turns e) e) (tested w n here.line e) (list_moments w n body.items) f m)
-    (block_is w n body)
-
 abbrev Branch : Checked → ℕ → (a b : List Statement) → Bool → State → List Moment
 Branch w n a b z m = if z then list_moments w n a m else list_moments w n b m
 

@@ -21,7 +21,7 @@ use Rattle.endless_runs.specs.declared.stop.Stop.{Stop}
 use Rattle.endless_runs.specs.declared.stop.Stop.TheVariants as stop
 use Rattle.endless_runs.proofs.Cycles.{IsSure, endless_first, endless_then, sure}
 use Rattle.endless_runs.proofs.Told.{Holds, branch_holds, first_holds, holds_on, holds_same, list_of_means, rest_holds, shown_in}
-use Rattle.endless_runs.proofs.Told.{while_told}
+use Rattle.pram_meaning.proofs.HeardBlocks.{while_told}
 
 -- ---- statements and lists of them
 

@@ -12,6 +12,7 @@ use Rattle.superstep_machine.specs.declared.mark.HeaderMark.TheVariants.{Clear}
 use Rattle.superstep_machine.specs.Setting.{Setting, workers}
 use Rattle.superstep_machine.specs.Parts.{PrivatePart}
 use Rattle.superstep_machine.specs.Words.{CellPut, CellAsk, Message, put_words, ask_words, values_words, words}
+use Rattle.superstep_machine.proofs.WordLengths.{length-ask_words, length-values_words}
 use Rattle.superstep_machine.specs.Worker.{Worker}
 use Rattle.superstep_machine.specs.Sending.{puts_held, asks_held, sent, own_sent, after_send}
 use Rattle.superstep_machine.specs.Answering.{replied, own_answered, value_came, after_reply}
@@ -38,21 +39,13 @@ of_puts rule (x ∷ xs) =
     let d : of_write rule * suc (length xs) ≡ of_write rule + of_write rule * length xs = omega arith in
     omega (arith, a, b, c, d)
 
-of_asks : (xs : List CellAsk) → length (ask_words xs) ≡ length xs
-of_asks [] = refl
-of_asks (x ∷ xs) = ap suc (of_asks xs)
-
-of_values : (xs : List ℤ) → length (values_words xs) ≡ length xs
-of_values [] = refl
-of_values (x ∷ xs) = ap suc (of_values xs)
-
 of_message : (rule : Rule) (m : Message) → length (words rule m) ≡ of_write rule * length m.puts + (length m.asks + length m.values)
 of_message rule m =
     let a = length-append (flat_map (put_words rule) m.puts) (ask_words m.asks ++ values_words m.values) in
     let b = length-append (ask_words m.asks) (values_words m.values) in
     let c = of_puts rule m.puts in
-    let d = of_asks m.asks in
-    let e = of_values m.values in
+    let d = length-ask_words m.asks in
+    let e = length-values_words m.values in
     omega (arith, a, b, c, d, e)
 
 module _ (t : Setting) where

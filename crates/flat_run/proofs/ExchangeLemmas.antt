@@ -15,14 +15,7 @@ use Rattle.flat_machine.specs.ByInstructions.{instructed, step_by, step, everywh
 use Rattle.flat_machine.specs.Exchanges.{Exchange, exchanges_at, exchanges_by, exchanges_from}
 use Rattle.flat_run.specs.RunViews.{AreSameStates, is_going}
 use Rattle.flat_run.specs.Exchanged.{exchanges_here, exchanges_for}
-use Rattle.flat_run.proofs.AlikeLemmas.{alike_step, steps_over}
-
-abbrev nothing : List Exchange
-nothing = []
-
-nothing_either_way : (b : Bool) → cond b nothing nothing ≡ nothing
-nothing_either_way true = refl
-nothing_either_way false = refl
+use Rattle.flat_run.proofs.AlikeLemmas.{alike_step, nothing_either_way, steps_over}
 
 module _ (code : SuperstepCode) (bound : ℕ) where
   -- what the instruction at a place exchanges

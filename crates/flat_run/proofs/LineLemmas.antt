@@ -15,14 +15,7 @@ use Rattle.flat_machine.specs.ByInstructions.{instructed, step_by, step, everywh
 use Rattle.exchange_lines.specs.Lines.{lines_at, lines_here, lines_within}
 use Rattle.flat_run.specs.RunViews.{AreSameStates, is_going}
 use Rattle.flat_run.specs.Lined.{lines_in, lines_for}
-use Rattle.flat_run.proofs.AlikeLemmas.{alike_step, steps_over}
-
-abbrev nothing : List ℕ
-nothing = []
-
-nothing_either_way : (b : Bool) → cond b nothing nothing ≡ nothing
-nothing_either_way true = refl
-nothing_either_way false = refl
+use Rattle.flat_run.proofs.AlikeLemmas.{alike_step, nothing_either_way, steps_over}
 
 module _ (code : SuperstepCode) (bound : ℕ) where
   -- the lines of the instruction at a place

@@ -13,6 +13,7 @@ use Rattle.pram_values.specs.Truth.{is_equal}
 use Rattle.pram_values.specs.Value.{Value, fits}
 use Rattle.write_rules.specs.declared.write.Write.{Write}
 use Rattle.write_rules.specs.Rule.{common_value, shares_reads, sum_of, written}
+use Rattle.write_rules.proofs.CommonFaults.{common_kind}
 use Rattle.pram_meaning.specs.declared.key.Key.{Key}
 use Rattle.pram_meaning.specs.declared.read.Read.{Read}
 use Rattle.pram_meaning.specs.Attempt.{Attempt, Effect, Fails, Gives}
@@ -121,15 +122,6 @@ whose rule xs k told =
         let w = found (λ (x : Part). write_conflict rule xs x.attempt) xs k h in inr (inr (in_write rule xs w.0.attempt k w.2))
 
 -- ---- what a rule has against writers
-
-common_by : (b : Bool) (v : Value) (d : Kind) → (v ≡ Err d → d ≡ WriteConflict) → (if b then v else Err WriteConflict) ≡ Err d →
-    d ≡ WriteConflict
-common_by true v d rest e = rest e
-common_by false v d rest e = cc e
-
-common_kind : (x : ℤ) (ws : List Write) (d : Kind) → common_value x ws ≡ Err d → d ≡ WriteConflict
-common_kind x [] d e = absurd (cc e)
-common_kind x (w ∷ ws) d e = common_by (is_equal x w.value) (common_value x ws) d (common_kind x ws d) e
 
 checked_kind : (b : Bool) (z : ℤ) (d : Kind) → ◌≡◌ {A = Value} (if b then Ok z else Err Overflow) (Err d) → d ≡ Overflow
 checked_kind true z d e = absurd (cc e)

@@ -15,6 +15,7 @@ use Rattle.superstep_machine.specs.Setting.{Setting, workers, processors}
 use Rattle.superstep_machine.specs.Parts.{Read, PrivatePart}
 use Rattle.superstep_machine.specs.Words.{CellPut, CellAsk, Message, put_words, ask_words, values_words, words}
 use Rattle.superstep_machine.specs.WordReading.{put_length}
+use Rattle.superstep_machine.proofs.WordLengths.{length-ask_words, length-values_words}
 use Rattle.superstep_machine.specs.Worker.{HeldWrite, Worker, after_instr}
 use Rattle.superstep_machine.specs.Stretch.{ToSend, ToReply, ToVote, ToClose, Arrival, Nowhere, At}
 use Rattle.superstep_machine.specs.Machine.{phase, phases, column}
@@ -64,14 +65,6 @@ length-puts rule (x ∷ xs) =
     length-append (put_words rule x) (flat_map (put_words rule) xs)
     ∙ ap (λ n. n + length (flat_map (put_words rule) xs)) (put_long rule x)
     ∙ ap (λ n. put_length rule + n) (length-puts rule xs) ∙ z
-
-length-ask_words : (xs : List CellAsk) → length (ask_words xs) ≡ length xs
-length-ask_words [] = refl
-length-ask_words (x ∷ xs) = let h = length-ask_words xs in omega (arith, h)
-
-length-values_words : (zs : List ℤ) → length (values_words zs) ≡ length zs
-length-values_words [] = refl
-length-values_words (z ∷ zs) = let h = length-values_words zs in omega (arith, h)
 
 for_each : (rule : Rule) → words_for_each rule ≡ 8 + put_length rule
 for_each Erew = refl

@@ -8,6 +8,7 @@ use Rattle.pram_model.specs.Layout.{SharedEntry, cell_of, most_cells, total_size
 use Rattle.pram_model.proofs.Cells.{cell_below}
 use Rattle.memory_texts.specs.declared.memory_fault.MemoryFault.TheVariants.{TooMany}
 use Rattle.sized_texts.specs.Reading.{◌>>=◌}
+use Rattle.sized_texts.proofs.Bound.{bind_ok}
 use Rattle.memory_texts.specs.Front.{past_blanks}
 use Rattle.memory_texts.specs.Headings.{Headed, heading_front}
 use Rattle.memory_texts.specs.Cells.{between, cells_at, cells_of, declaration, declared_cells, found_cells, left_of, subscripts_of}
@@ -21,11 +22,6 @@ few_cells layout i z r n is total most = by r is
     by : (r : Option ℕ) → r ≡ cell_of layout i z → IfSome r (λ b. b < 2 ^ 20)
     by None e = tt
     by (Some b) e = let k = cell_below layout i z b (sym e) in omega (arith, k, total, most)
-
--- a step that went on
-bound : {A B E : Type 0} (r : Result A E) (f : A → Result B E) (y : B) → (r >>= f) ≡ Ok y → (x : A) × (r ≡ Ok x) × (f x ≡ Ok y)
-bound (Ok x) f y is = (x, refl, is)
-bound (Err e) f y is = absurd (cc is)
 
 -- those cells are among the first so many
 abbrev IsWithin : ℕ → ℕ × ℕ → Type 0
@@ -78,9 +74,9 @@ of_within total first cells values a below is = by (nat_lt cells (length values)
 front_within : (layout : List SharedEntry) (end : ℕ) (text : List ℕ) (a : Assigned) → assignment_front layout end text ≡ Ok a →
     Reaches (total_size layout) a
 front_within layout end text a is =
-    let h = bound (in_line end (heading_front text)) _ a is in
-    let v = bound (in_line end (values_of h.0.1)) _ a h.2 in
-    let c = bound (cells_of layout end h.0.0) _ a v.2 in
+    let h = bind_ok (in_line end (heading_front text)) _ a is in
+    let v = bind_ok (in_line end (values_of h.0.1)) _ a h.2 in
+    let c = bind_ok (cells_of layout end h.0.0) _ a v.2 in
     of_within (total_size layout) c.0.0 c.0.1 v.0 a
     (declared_within layout end h.0.0 (declaration 0 layout h.0.0.name) c.0 c.1) c.2
 
@@ -88,7 +84,7 @@ by_within : (layout : List SharedEntry) (end : ℕ) (text : List ℕ) (o : Optio
     ReachesIf (total_size layout) o
 by_within layout end [] o is = let k : None ≡ o = cc is in subst (ReachesIf (total_size layout)) k tt
 by_within layout end (b ∷ rest) o is =
-    let a = bound (assignment_front layout end (b ∷ rest)) (λ a. Ok (Some a)) o is in
+    let a = bind_ok (assignment_front layout end (b ∷ rest)) (λ a. Ok (Some a)) o is in
     let k : Some a.0 ≡ o = cc (a.2) in
     subst (ReachesIf (total_size layout)) k (front_within layout end (b ∷ rest) a.0 a.1)
 

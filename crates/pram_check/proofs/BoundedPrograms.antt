@@ -14,6 +14,7 @@ use Rattle.pram_model.specs.Declarations.{IsEntry, IsNew, AreDifferent, names_of
 use Rattle.pram_model.specs.Layout.{SharedEntry, size, total_size, most_cells}
 use Rattle.pram_trees.specs.Program.{IsTree, limit, declarations_tokens, program_tokens}
 use Rattle.pram_model.specs.Names.{same_text}
+use Rattle.pram_model.proofs.Texts.{same_itself}
 use Rattle.pram_tokens.specs.Tokens.{AreReal, IsNumber}
 use Rattle.pram_tokens.proofs.Real.{front_real}
 use Rattle.pram_names.specs.declared.fault.Breach.{Breach}
@@ -70,10 +71,6 @@ declared_there layout uniforms front u (declare.Uniform x ∷ ds) all count =
     (omega (arith, count), declared_there layout uniforms front (u + 1) ds all (omega (arith, count)))
 
 -- ---- names are different
-
-same_itself : (text : List ℕ) → same_text text text ≡ true
-same_itself [] = refl
-same_itself (b ∷ text) = let h = same_itself text in grind (arith, nat_tests, h)
 
 -- a name that is in a scope
 abbrev Has : Scope → List ℕ → Type 0

@@ -85,7 +85,7 @@ told_is w n body = λ j m. (sym (items_are_told w n (hidden-the_row-Statement-0 
 
 -- ---- a statement of each kind
 
-while_told : (w : Checked) (n : ℕ) (here : Location) (s : Statement) (e : Expression) (body : Vec Statement Global) (m : State) →
+pub while_told : (w : Checked) (n : ℕ) (here : Location) (s : Statement) (e : Expression) (body : Vec Statement Global) (m : State) →
     s ≡ While here e body → moments w n s m ≡ turns_moments (n + 1) (test_moment w n here (Turns e) e) (tested w n here.line e)
     (list_moments w n body.items) (perform_list w n body.items) m
 while_told w n here s e body m is =

@@ -1,21 +1,11 @@
 -- A name's chain says of it what the whole scope says.
-use Rattle.std.proofs.Common.{◌≡◌, ℕ, Bool, true, false, ◌&&◌, ◌==◌, nat_eq, List, [], ◌∷◌, refl, ap, ◌∙◌, eqb-true, eq-eqb}
+use Rattle.std.proofs.Common.{◌≡◌, ℕ, Bool, true, false, nat_eq, List, [], ◌∷◌, refl, ap, ◌∙◌, eq-eqb}
 use Rattle.std.specs.List.{filter}
 use Rattle.pram_model.specs.Names.{same_text}
+use Rattle.pram_model.proofs.Texts.{same_is}
 use Rattle.pram_names.specs.declared.scope.Binding.{Binding}
 use Rattle.pram_names.specs.Scope.{meaning_of}
 use Rattle.pram_names.specs.ScopeFields.{bound, chain_of, is_in_chain}
-
-pub same_is : (x y : List ℕ) → same_text x y ≡ true → x ≡ y
-same_is [] [] h = refl
-same_is [] (b ∷ y) h = absurd (cc)
-same_is (a ∷ x) [] h = absurd (cc)
-same_is (a ∷ x) (b ∷ y) h = by (a == b) (same_text x y) refl (same_is x y) h
-  where
-    by : (p q : Bool) → (a == b) ≡ p → (q ≡ true → x ≡ y) → (p && q) ≡ true → (a ∷ x) ≡ (b ∷ y)
-    by true true e f g = ap (λ c. c ∷ x) (eqb-true a b e) ∙ ap (λ l. b ∷ l) (f refl)
-    by true false e f g = absurd (cc)
-    by false q e f g = absurd (cc)
 
 pub found_in_chain : (bs : List Binding) (text : List ℕ) →
     meaning_of (bound (filter (is_in_chain (chain_of text)) bs)) text ≡ meaning_of (bound bs) text

@@ -64,7 +64,8 @@ no_keyword word is =
     (none_of_two (spellings statement_words) (spellings operator_words) word (unlisted statement_words word q.1)
     (unlisted operator_words word p.1))
 
-are_words-front : (b : Bool) (x n m : ℕ) (rest : List ℕ) → m ≡ suc n → is_word x ≡ b → are_words (take n rest) ≡ true →
+-- one word more in front of words
+pub are_words-front : (b : Bool) (x n m : ℕ) (rest : List ℕ) → m ≡ suc n → is_word x ≡ b → are_words (take n rest) ≡ true →
     are_words (take (cond b m 0) (x ∷ rest)) ≡ true
 are_words-front true x n m rest e is h = rw e (simp is h)
 are_words-front false x n m rest e is h = refl

@@ -14,6 +14,7 @@ use Rattle.pram_values.proofs.Checked.{checked_some}
 use Rattle.pram_values.proofs.TruthValues.{is_equal-true}
 use Rattle.write_rules.specs.declared.write.Write.{Write}
 use Rattle.write_rules.specs.Rule.{common_value, is_sum, least_writer, only_value, rule_value, shares_reads}
+use Rattle.write_rules.proofs.CommonFaults.{common_kind}
 use Rattle.pram_meaning.specs.Values.{IsValue}
 
 -- what is needed under sum alone
@@ -52,15 +53,6 @@ only_kind w [] k e = absurd (cc e)
 only_kind w (u ∷ us) k e = cc e
 
 -- ---- a common value
-
-common_kind : (x : ℤ) (ws : List Write) (k : Kind) → common_value x ws ≡ Err k → k ≡ WriteConflict
-common_kind x [] k e = absurd (cc e)
-common_kind x (w ∷ ws) k e = by (is_equal x w.value) e (λ d. common_kind x ws k d)
-  where
-    by : (b : Bool) → (if b then common_value x ws else Err WriteConflict) ≡ Err k → (common_value x ws ≡ Err k → k ≡ WriteConflict) →
-        k ≡ WriteConflict
-    by true d rest = rest d
-    by false d rest = cc d
 
 -- the writer of least index has that value
 least_common : (w : Write) (ws : List Write) (v : ℤ) → common_value w.value ws ≡ Ok v → (least_writer w ws).value ≡ v

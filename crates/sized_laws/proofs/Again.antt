@@ -18,7 +18,8 @@ use Rattle.sized_laws.proofs.Braces.{opened_outside}
 use Rattle.sized_laws.proofs.Digits.{AreDigits, decimal_digits}
 use Rattle.sized_laws.proofs.Heads.{head_again}
 use Rattle.sized_laws.proofs.Names.{head_other, names, undeclared_same}
-use Rattle.sized_laws.proofs.Pieces.{IsExpandedBy, IsPieces, bind_ok, byte, expanded_ok, none, number, pieces_ok, plain, short_ok}
+use Rattle.sized_texts.proofs.Bound.{bind_ok}
+use Rattle.sized_laws.proofs.Pieces.{IsExpandedBy, IsPieces, byte, expanded_ok, none, number, pieces_ok, plain, short_ok}
 use Rattle.sized_laws.proofs.Pieces.{sized, skipped}
 
 -- a text from an offset on, as it stands

@@ -12,9 +12,6 @@ abbrev pub AreDigits : List ℕ → Type 0
 AreDigits [] = Unit {0}
 AreDigits (b ∷ rest) = IsDigit b × AreDigits rest
 
-glyph : (d : ℕ) → d < 10 → digit_glyph false d ≡ 48 + d
-glyph d small = grind (arith, nat_tests)
-
 onto : (k n : ℕ) (acc : List ℕ) → AreDigits acc → AreDigits (digits_onto k 10 false n acc)
 onto zero n acc are = are
 onto (suc k) n acc are = by (n / 10 == 0) (onto k (n / 10) (x ∷ acc) (first, are))
@@ -25,7 +22,7 @@ onto (suc k) n acc are = by (n / 10 == 0) (onto k (n / 10) (x ∷ acc) (first, a
     first : IsDigit (digit_glyph false (n % 10))
     first =
         let small : n % 10 < 10 = omega arith in
-        let e = glyph (n % 10) small in record { low = omega (arith, e); high = omega (arith, e, small) }
+        let e : digit_glyph false (n % 10) ≡ 48 + n % 10 = grind (arith, nat_tests, small) in record { low = omega (arith, e); high = omega (arith, e, small) }
 
     by : (t : Bool) → AreDigits (digits_onto k 10 false (n / 10) (x ∷ acc)) →
         AreDigits (if t then x ∷ acc else digits_onto k 10 false (n / 10) (x ∷ acc))

@@ -15,7 +15,8 @@ use Rattle.sized_texts.specs.SizeLines.{sizes_of}
 use Rattle.sized_texts.proofs.Exits.{found_in}
 use Rattle.sized_laws.specs.Expands.{Expands, ExpandsBy, IsExpansion, IsFilled, IsItself, TextsAreFilled, TextsExpand}
 use Rattle.sized_laws.proofs.Expanding.{are_pieces, pieces_expand}
-use Rattle.sized_laws.proofs.Pieces.{bind_ok, pieces_ok, short_ok}
+use Rattle.sized_texts.proofs.Bound.{bind_ok}
+use Rattle.sized_laws.proofs.Pieces.{pieces_ok, short_ok}
 
 -- ---- a text as it stands
 

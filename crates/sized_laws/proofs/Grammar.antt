@@ -5,6 +5,7 @@ use Rattle.std.specs.Prelude.{◌&&◌, if◌then◌else◌}
 use Rattle.std.specs.List.{prefix_len}
 use Rattle.std.proofs.lemmas.Bool.Decides.{nat_tests}
 use Rattle.pram_model.specs.Names.{is_word, same_text}
+use Rattle.pram_model.proofs.Texts.{same_is}
 use Rattle.sized_texts.specs.declared.line.Line.{Line}
 use Rattle.sized_texts.specs.declared.line.Line.TheVariants as line
 use Rattle.sized_texts.specs.declared.operation.Function.{Function}
@@ -19,16 +20,6 @@ use Rattle.sized_texts.specs.Reading.{◌>>=◌, expect, expect_front, misplaced
 use Rattle.sized_texts.specs.Values.{applied, called}
 use Rattle.sized_texts.proofs.Chains.{begins, more_none, turn}
 use Rattle.sized_laws.proofs.Covers.{Keeps, Over, chain_over, further_over, operand_over}
-
-same_is : (x y : List ℕ) → same_text x y ≡ true → x ≡ y
-same_is [] [] is = refl
-same_is [] (b ∷ y) is = absurd (cc)
-same_is (a ∷ x) [] is = absurd (cc)
-same_is (a ∷ x) (b ∷ y) is = by (a == b) refl is (same_is x y)
-  where
-    by : (t : Bool) → t ≡ (a == b) → (t && same_text x y) ≡ true → (same_text x y ≡ true → x ≡ y) → a ∷ x ≡ b ∷ y
-    by true same h on = let k : a ≡ b = grind (arith, nat_tests) in let j = on h in cc
-    by false same h on = absurd (cc)
 
 -- an operator of sums is none of products
 sum_only : (token : List ℕ) (o : Operator) → Some o ≡ e.operator_of line.Sum token → e.operator_of line.Product token ≡ None

@@ -12,7 +12,8 @@ use Rattle.sized_texts.specs.Reading.{◌>>=◌, placed}
 use Rattle.sized_texts.specs.SizeLines.{comment_length, declaration, declare, head, line_of, size_of}
 use Rattle.sized_laws.proofs.Braces.{opened_outside}
 use Rattle.sized_laws.proofs.Digits.{AreDigits, decimal_digits, decimal_some}
-use Rattle.sized_laws.proofs.Pieces.{IsPieces, bind_ok, byte, none, number, skipped}
+use Rattle.sized_texts.proofs.Bound.{bind_ok}
+use Rattle.sized_laws.proofs.Pieces.{IsPieces, byte, none, number, skipped}
 
 still_open : (b : ℕ) → false ≡ (b == 10) → true ≡ in_comment true b
 still_open b is = ap (λ t. if t then false else true) is

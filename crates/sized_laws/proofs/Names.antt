@@ -16,7 +16,7 @@ use Rattle.sized_texts.specs.Reading.{◌>>=◌, placed}
 use Rattle.sized_texts.specs.SizeLines.{begins_name, comment_length, declaration, declare, head, is_none, line_of, number_in, size_of}
 use Rattle.sized_texts.specs.Sizes.{value_in}
 use Rattle.sized_laws.proofs.Heads.{turn}
-use Rattle.sized_laws.proofs.Pieces.{bind_ok}
+use Rattle.sized_texts.proofs.Bound.{bind_ok}
 
 abbrev pub names : List Size → List (List ℕ)
 names [] = []

@@ -12,6 +12,7 @@ use Rattle.sized_texts.specs.Faults.{in_text}
 use Rattle.sized_texts.specs.Pieces.{Expansion, from_there, in_comment, opens, pieces, pieces_of}
 use Rattle.sized_texts.specs.Reading.{◌>>=◌}
 use Rattle.sized_texts.specs.SizeLines.{sizes_of}
+use Rattle.sized_texts.proofs.Bound.{bind_ok}
 use Rattle.sized_texts.proofs.Exits.{found_in}
 
 -- the bytes and the places that a text from an offset on is expanded to
@@ -25,10 +26,6 @@ pub data IsPieces (sizes : List Size) : ℕ → Bool → ℕ → List ℕ → Li
   byte : (at b : ℕ) (comment : Bool) (rest to places : List ℕ) → false ≡ opens comment b →
       IsPieces sizes 0 (in_comment comment b) (at + 1) rest to places →
       IsPieces sizes 0 comment at (b ∷ rest) (b ∷ to) (at ∷ places)
-
-pub bind_ok : {A B E : Type 0} (r : Result A E) (f : A → Result B E) (x : B) → (r >>= f) ≡ Ok x → (y : A) × (r ≡ Ok y) × (f y ≡ Ok x)
-bind_ok (Ok y) f x is = (y, refl, is)
-bind_ok (Err w) f x is = absurd (cc)
 
 from_there_ok : (bytes : List ℕ) (at : ℕ) (r : Result Expansion Wrong) (e : Expansion) → from_there bytes at r ≡ Ok e →
     (d : Expansion) × (r ≡ Ok d) × (bytes ++ d.text ≡ e.text) × (map (λ _. at) bytes ++ d.places ≡ e.places)

@@ -10,21 +10,17 @@ use Rattle.pram_model.proofs.Truths.{both, unsome}
 use Rattle.pram_model.specs.Names.{are_words, is_word}
 use Rattle.pram_tokens.specs.Input.{are_digits, is_value}
 use Rattle.pram_tokens.specs.Lexemes.{largest, value_after}
+use Rattle.pram_tokens.proofs.Lexing.{are_words-front}
 use Rattle.sized_texts.specs.declared.reason.Reason.TheVariants as reason
 use Rattle.sized_texts.specs.declared.size.Size.{Size}
 use Rattle.sized_texts.specs.SizeWords.{IsSizeWord, digits_value, equals_value, name_of, rest_of, value_by}
 
 -- ---- what is read is a size's word
 
-words_by : (t : Bool) (b n m : ℕ) (rest : List ℕ) → m ≡ suc n → is_word b ≡ t → are_words (take n rest) ≡ true →
-    are_words (take (cond t m 0) (b ∷ rest)) ≡ true
-words_by true b n m rest e is h = rw e (simp is h)
-words_by false b n m rest e is h = refl
-
 front_words : (word : List ℕ) → are_words (name_of word) ≡ true
 front_words [] = refl
 front_words (b ∷ rest) =
-    words_by (is_word b) b (prefix_len is_word rest) (1 + prefix_len is_word rest) rest (omega arith) refl (front_words rest)
+    are_words-front (is_word b) b (prefix_len is_word rest) (1 + prefix_len is_word rest) rest (omega arith) refl (front_words rest)
 
 number_found : (digits small : Bool) (n v : ℕ) →
     result_ok (if digits then (if small then Ok n else Err reason.OutOfRange) else Err reason.Unexpected) ≡ Some v →

@@ -20,10 +20,7 @@ use Rattle.sized_texts.specs.Front.{behind, front, past_spaces}
 use Rattle.sized_texts.specs.Grammar as g
 use Rattle.sized_texts.specs.Reading.{◌>>=◌, expect, expect_front, misplaced, placed, wrong_at}
 use Rattle.sized_texts.specs.Values.{applied, called}
-
-bind_ok : {A B : Type 0} (r : Result A Wrong) (f : A → Result B Wrong) (x : B) → (r >>= f) ≡ Ok x → (y : A) × (r ≡ Ok y) × (f y ≡ Ok x)
-bind_ok (Ok y) f x is = (y, refl, is)
-bind_ok (Err w) f x is = absurd (cc)
+use Rattle.sized_texts.proofs.Bound.{bind_ok}
 
 placed_ok : (left : ℕ) (r : Result ℕ Reason) (v : ℕ) → placed left r ≡ Ok v → r ≡ Ok v
 placed_ok left (Ok u) v is = let k : u ≡ v = cc in ap Ok k

@@ -5,6 +5,7 @@ use Rattle.std.specs.Prelude.{ℤ, pos, negsuc, decimal, if◌then◌else◌}
 use Rattle.std.specs.Fmt.{digit_glyph, digits, digits_onto, signed_decimal}
 use Rattle.std.proofs.lemmas.Bool.Decides.{nat_tests}
 use Rattle.svg_texts.specs.Letters.{letter, letters}
+use Rattle.svg_texts.proofs.Pieces.{glyph}
 
 pub letters_append : (a b : List ℕ) → letters (a ++ b) ≡ letters a ++ letters b
 letters_append [] b = refl
@@ -12,9 +13,6 @@ letters_append (x ∷ a) b = ap (λ l. letter x ++ l) (letters_append a b) ∙ s
 
 digit_letter : (d : ℕ) → 48 ≤ d → d ≤ 57 → letter d ≡ d ∷ []
 digit_letter d low high = grind (arith, nat_tests)
-
-glyph : (d : ℕ) → d < 10 → digit_glyph false d ≡ 48 + d
-glyph d small = grind (arith, nat_tests)
 
 digits_letters : (k n : ℕ) (rest : List ℕ) → letters rest ≡ rest → letters (digits_onto k 10 false n rest) ≡ digits_onto k 10 false n rest
 digits_letters zero n rest is = is

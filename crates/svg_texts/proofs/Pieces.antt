@@ -66,7 +66,7 @@ digit_is_quoted d low high = grind (arith, nat_tests)
 digit_is_letter : (d : ℕ) → 48 ≤ d → d ≤ 57 → is_letter d ≡ true
 digit_is_letter d low high = grind (arith, nat_tests)
 
-glyph : (d : ℕ) → d < 10 → digit_glyph false d ≡ 48 + d
+pub glyph : (d : ℕ) → d < 10 → digit_glyph false d ≡ 48 + d
 glyph d small = grind (arith, nat_tests)
 
 module _ (P : ℕ → Type 0) (each : (d : ℕ) → 48 ≤ d → d ≤ 57 → P d) where

@@ -8,7 +8,7 @@ use Rattle.std.specs.List.{fold}
 use Rattle.std.specs.Prelude.{if◌then◌else◌}
 use Rattle.journal.specs.declared.change.Change.{Change}
 use Rattle.pictures.specs.Flows.Values.{changed, value_at}
-use Rattle.sweeps.proofs.Items.{at_item}
+use Rattle.text_out.proofs.Items.{at_item}
 
 -- a 0 behind them changes nothing
 pub with_zero : (xs : List ℤ) (k : ℕ) → value_at (xs ++ pos 0 ∷ []) k ≡ value_at xs k

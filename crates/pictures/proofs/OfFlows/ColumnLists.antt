@@ -33,7 +33,7 @@ use Rattle.pictures.specs.Flows.Drawing.{column_is, write_value, written_by}
 use Rattle.pictures.specs.Flows.Places.{y_at}
 use Rattle.pictures.specs.Flows.Rows.{row_head}
 use Rattle.pictures.specs.Flows.Table.{columns, row_heads}
-use Rattle.sweeps.proofs.Items.{at_item}
+use Rattle.text_out.proofs.Items.{at_item}
 
 -- ---- rows
 

@@ -4,7 +4,7 @@ use Rattle.std.proofs.Common.{sym}
 use Rattle.std.specs.List.{filter, flat_map}
 use Rattle.std.specs.Prelude.{if◌then◌else◌}
 use Rattle.svg_texts.specs.Shapes.{Shape, Empty, shape_text}
-use Rattle.sweeps.proofs.Items.{at_item}
+use Rattle.text_out.proofs.Items.{at_item}
 use Rattle.pictures.specs.Flows.MarkShapes.{each}
 use Rattle.pictures.proofs.OfFlows.EachShape.{joined}
 

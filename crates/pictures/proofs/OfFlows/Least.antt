@@ -13,7 +13,7 @@ use Rattle.pictures.specs.declared.flows.column as column
 use Rattle.pictures.specs.Flows.Cells.{act_cells, entry_cells, fault_cells, least_from, nearer, nearer_if, optional, is_chosen, touched}
 use Rattle.pictures.specs.Acts.{acts_in}
 use Rattle.pictures.specs.Flows.Drawing.{column_is, entries_of}
-use Rattle.sweeps.proofs.Items.{at_item}
+use Rattle.text_out.proofs.Items.{at_item}
 
 pub record InReads (only : List CellSpan) (x : ℕ) (start : Option ℕ) (cs : List ℕ) (i : ℕ) (now : Option ℕ) : Type 0 where
   pub same : fold (nearer_if only x) start cs ≡ fold (nearer_if only x) now (drop i cs)

@@ -1,6 +1,6 @@
 -- Labels from one on.
 use Rattle.std.proofs.Common.{◌≡◌, ◌∙◌, ℕ, ◌+◌, ◌<◌, List, Option, ap, drop, get_or, length, sym}
-use Rattle.sweeps.proofs.Items.{at_item}
+use Rattle.text_out.proofs.Items.{at_item}
 use Rattle.sweeps.specs.declared.size_row.SizeRow.{SizeRow}
 use Rattle.svg_texts.specs.Shapes.{Over}
 use Rattle.pictures.specs.declared.sizes.frame.Frame.{Frame}

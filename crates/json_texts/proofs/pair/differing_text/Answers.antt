@@ -1,6 +1,6 @@
 use Rattle.std.proofs.Common.{List, map}
 use Rattle.json_texts.proofs.Json.{goes_on}
-use Rattle.sweeps.proofs.Items.{at_item}
+use Rattle.text_out.proofs.Items.{at_item}
 use Rattle.comparing.specs.Found.{differing_is}
 use Rattle.comparing.specs.declared.comparison.FoundDifference.{FoundDifference}
 use Rattle.json_texts.specs.PairFacts.{differing_facts}

@@ -1,6 +1,6 @@
 use Rattle.std.proofs.Common.{List, map}
 use Rattle.json_texts.proofs.Json.{goes_on}
-use Rattle.sweeps.proofs.Items.{at_item}
+use Rattle.text_out.proofs.Items.{at_item}
 use Rattle.sweeps.specs.declared.size_row.SizeRow.{SizeRow}
 use Rattle.json_texts.specs.SweepFacts.{row_facts}
 use Rattle.json_texts.proofs.sweep.rows_text.Goals as goal

@@ -4,7 +4,7 @@ use Rattle.text_out.proofs.Progress.{goes_on, stops}
 use Rattle.scopes.specs.declared.findings.FoundFault.{FoundFault}
 use Rattle.scopes.specs.Found.{met_is}
 use Rattle.scopes.specs.FindingsText.{met_lines}
-use Rattle.scopes.proofs.Items.{at_item}
+use Rattle.text_out.proofs.Items.{at_item}
 use Rattle.scopes.proofs.findings_text.write_all_met.Goals as goal
 
 pub returns-in_err-write_met : goal.returns-in_err-write_met

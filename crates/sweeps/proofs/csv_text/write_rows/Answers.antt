@@ -3,7 +3,7 @@ use Rattle.text_out.proofs.Writing.{writes_stopped}
 use Rattle.text_out.proofs.Progress.{goes_on, stops}
 use Rattle.sweeps.specs.declared.size_row.SizeRow.{SizeRow}
 use Rattle.sweeps.specs.CsvText.{records_text, row_fields}
-use Rattle.sweeps.proofs.Items.{at_item}
+use Rattle.text_out.proofs.Items.{at_item}
 use Rattle.sweeps.proofs.csv_text.write_rows.Goals as goal
 
 pub returns-in_err-write_row : goal.returns-in_err-write_row

@@ -1,7 +1,7 @@
 use Rattle.text_out.proofs.Writing.{writes_stopped}
 use Rattle.text_out.proofs.Progress.{goes_on, stops}
 use Rattle.sweeps.specs.SweepText.{rows_text}
-use Rattle.sweeps.proofs.Items.{at_item}
+use Rattle.text_out.proofs.Items.{at_item}
 use Rattle.sweeps.proofs.sweep_text.write_rows.Goals as goal
 
 pub returns-in_err-write_row : goal.returns-in_err-write_row

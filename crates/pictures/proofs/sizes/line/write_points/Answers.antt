@@ -1,5 +1,5 @@
 use Rattle.std.proofs.Common.{ap}
-use Rattle.sweeps.proofs.Items.{at_item}
+use Rattle.text_out.proofs.Items.{at_item}
 use Rattle.text_out.proofs.Writing.{writes_stopped}
 use Rattle.text_out.proofs.Progress.{goes_on, stops}
 use Rattle.svg_texts.specs.Shapes.{points_text}
