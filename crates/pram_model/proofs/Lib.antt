@@ -1,3 +1,4 @@
 pub mod Truths
 pub mod Layouts
 pub mod Cells
+pub mod Texts

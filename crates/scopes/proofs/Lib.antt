@@ -18,4 +18,3 @@ pub mod Told
 pub mod Merges
 pub mod Shared
 pub mod Blocks
-pub mod Items

@@ -10,3 +10,4 @@ pub mod SizeWords
 pub mod Sweeps
 pub mod Ranges
 pub mod SweepNames
+pub mod Bound

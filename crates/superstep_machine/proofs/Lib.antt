@@ -7,3 +7,4 @@ pub mod HeaderBack
 pub mod Written
 pub mod Numbers
 pub mod CellPuts
+pub mod WordLengths

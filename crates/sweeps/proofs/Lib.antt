@@ -10,6 +10,5 @@ pub mod Linear
 pub mod Sizes
 pub mod Digits
 pub mod Terms
-pub mod Items
 mod ReadBack
 pub mod Tabled

@@ -1,3 +1,4 @@
 pub mod Writing
 pub mod Progress
 pub mod Printed
+pub mod Items
