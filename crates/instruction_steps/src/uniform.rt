@@ -3,13 +3,14 @@
 ghost use Rattle.std.specs.Prelude.{◌≤ℤ◌, ◌+ℤ◌, ◌^◌, pos};
 
 use crate::read::{Moment, Read};
+use prepared_division::RecentDivisors;
 use smallvec::SmallVec;
 
 /// The uniform part. The range of processors begins at the index `low`; `asks` are the reads that
 /// are held, and `awaited` those that were sent and have no answer yet: eight of each, which verified code has at most, stand in the value
 /// itself; `put` is the moment of the put that is held; an item of the output has the count at which it was printed; `reserved` says that
-/// its memory was taken in advance, so that the output doesn't grow past that. A register is 0 until it is set, and is set where it has a
-/// place.
+/// its memory was taken in advance, so that the output doesn't grow past that; `divisors` are those of the divisions before. A register is 0
+/// until it is set, and is set where it has a place.
 #[derive(Drop)]
 pub struct UniformState {
     pub count: u32,
@@ -22,5 +23,6 @@ pub struct UniformState {
     pub put: Option<Moment>,
     pub output: Vec<(u32, i64)>,
     pub reserved: bool,
+    pub(crate) divisors: RecentDivisors,
     ghost fits: { (low +ℤ pos width) ≤ℤ pos (2 ^ 63) },
 }

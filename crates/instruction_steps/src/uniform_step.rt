@@ -15,6 +15,7 @@ use crate::registers::{make_room, register};
 use crate::uniform::UniformState;
 use crate::uniform_registers::{put_result, put_zero_without};
 use pram_values::Kind;
+use prepared_division::RecentDivisors;
 use smallvec::SmallVec;
 use std::alloc::{AllocError, Global};
 use superstep_instructions::{Code, Instr, Side};
@@ -37,6 +38,7 @@ pub fn open_uniform(alloc: Global, places: u32) -> Result<UniformState, AllocErr
         put: None,
         output: Vec::new(alloc),
         reserved: false,
+        divisors: RecentDivisors::none(),
     })
 }
 

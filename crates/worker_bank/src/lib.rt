@@ -8,6 +8,7 @@ mod bank;
 pub mod bank_laws;
 mod cells;
 mod decisions;
+mod divisions;
 mod instruct;
 mod level;
 mod listed;

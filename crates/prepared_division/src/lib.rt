@@ -1,0 +1,8 @@
+//! A divisor that is prepared once, so that a division by it is a multiplication and a shift.
+#![tactic(auto)]
+
+mod divisor;
+mod recent;
+
+pub use divisor::Divisor;
+pub use recent::RecentDivisors;
