@@ -29,6 +29,8 @@ STUB, GUARD = FOLDER / "refuse.so", FOLDER / "guard.so"
 EXAMPLES = INPUTS.parent.parent / "examples"
 LONGEST = 60  # seconds of one call, far more than it takes
 EVERY = 20  # of the changes of a text by one byte
+SIZES = 40_000  # of one text, each in a line of its own
+SIZES_SECONDS = 5  # of a processor at most, for all these sizes
 WORKERS = 3
 
 LONG = """rule crew; procs 32;
@@ -206,12 +208,28 @@ def judge_listing(text, values):
         raise Wrong(f"{text}: {given}")
 
 
+def many_sizes(count):
+    """Sizes take processor time by their number, not by its square: in lines, in braces and in words of the call."""
+    lines, file = "".join(f"# size n{size}={size}\n" for size in range(count)), own_file("sizes")
+    file.write_text(lines + " ".join(f"{{n{size}}}" for size in range(0, count, 2)))
+    given = [word for size in range(0, count, 8) for word in ("--size", f"n{size}={size + 1}")]
+    filled = " ".join(str(size + (size % 8 == 0)) for size in range(0, count, 2))
+    before = os.times().children_user
+    expanded = run(["expand", file, *given])
+    spent = os.times().children_user - before
+    if expanded != (0, (lines + filled).encode(), b""):
+        raise Wrong(f"{count} sizes: {expanded[0]} {expanded[2]}")
+    if spent > SIZES_SECONDS:
+        raise Wrong(f"{count} sizes take {spent:.1f} s of a processor")
+
+
 def texts():
+    many_sizes(SIZES)
     program, listing = INPUTS / "changed.pram", INPUTS / "broadcast.bsp"
     count = all_of(judge_program, ((text,) for text in broken(program.read_bytes())))
     values = listing.with_suffix(".in")
     count += all_of(judge_listing, ((text, values) for text in broken(listing.read_bytes())))
-    return f"{count} fronts and changes of texts are refused or come to an outcome"
+    return f"{count} fronts and changes of texts are refused or come to an outcome, and {SIZES} sizes are put in"
 
 
 # ---- standard output

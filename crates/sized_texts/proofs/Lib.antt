@@ -11,3 +11,4 @@ pub mod Sweeps
 pub mod Ranges
 pub mod SweepNames
 pub mod Bound
+pub mod SizeTables

@@ -14,3 +14,4 @@ pub mod Filling
 pub mod SizeRanges
 pub mod Sweeps
 pub mod Formulas
+pub mod SizeTables

@@ -7,7 +7,7 @@ use crate::front::number;
 use crate::line::Line;
 use crate::operation::{Function, Operator};
 use crate::reason::Reason;
-use crate::size::{Size, value_in};
+use crate::size_table::SizeTable;
 use pram_model::is_keyword;
 use pram_tokens::LARGEST;
 
@@ -104,17 +104,17 @@ pub(crate) fn function_atom(word: &[u8]) -> Option<Atom>
 }
 
 // A word as an operand.
-fn word_atom(sizes: &[Size], word: &[u8]) -> Atom
+fn word_atom(sizes: &SizeTable<'_>, word: &[u8]) -> Atom
     ensures { result ≡ spec.word_atom sizes.now word.now }
 {
     match function_atom(word) {
         Some(atom) => atom,
-        None => size_atom(word, value_in(sizes, word)),
+        None => size_atom(word, sizes.value_of(word)),
     }
 }
 
 /// What a token is as the beginning of an operand.
-pub(crate) fn atom_of(sizes: &[Size], token: &[u8]) -> Atom
+pub(crate) fn atom_of(sizes: &SizeTable<'_>, token: &[u8]) -> Atom
     ensures { result ≡ spec.atom_of sizes.now token.now }
 {
     if token.is_empty() {

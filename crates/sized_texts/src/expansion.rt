@@ -9,7 +9,8 @@ use crate::expanded::{Expanded, add_byte, nothing};
 use crate::fault::SizeFault;
 use crate::head::sizes_of;
 use crate::pieces::pieces;
-use crate::size::{Size, value_in};
+use crate::size::Size;
+use crate::size_table::{SizeTable, table_of};
 use pram_tokens::LONGEST;
 use std::alloc::Global;
 
@@ -26,12 +27,12 @@ fn itself(alloc: Global, text: &[u8]) -> Result<Expanded, SizeFault>
 }
 
 // The number of the first given name that is no size.
-fn undeclared(sizes: &[Size], given: &[Size]) -> Option<usize>
+fn undeclared(sizes: &SizeTable<'_>, given: &[Size]) -> Option<usize>
     ensures { result ≡ spec.undeclared sizes.now given.now }
 {
     given
         .iter()
-        .position(|size| value_in(sizes, size.name.as_slice()).is_none())
+        .position(|size| sizes.value_of(size.name.as_slice()).is_none())
 }
 
 // An expansion that is not too long.
@@ -45,7 +46,7 @@ fn short(expanded: Expanded) -> Result<Expanded, SizeFault>
 }
 
 // What a text expands to where these are its sizes.
-fn expanded(alloc: Global, sizes: &[Size], text: &[u8]) -> Result<Expanded, SizeFault>
+fn expanded(alloc: Global, sizes: &SizeTable<'_>, text: &[u8]) -> Result<Expanded, SizeFault>
     requires fits { length text.now ≤ longest }
     ensures { Answers shown result (spec.expanded sizes.now text.now) }
 {
@@ -69,9 +70,10 @@ pub fn expand(alloc: Global, text: &[u8], given: &[Size]) -> Result<Expanded, Si
     // unless memory was refused.
     ensures answers { Answers shown result (spec.expansion given.now text.now) }
 {
-    let sizes = sizes_of(alloc, given, text)?;
-    match undeclared(sizes.as_slice(), given) {
+    let table = table_of(alloc, given)?;
+    let sizes = sizes_of(alloc, &table, text)?;
+    match undeclared(&sizes, given) {
         Some(number) => Err(SizeFault::NotDeclared(number)),
-        None => expanded(alloc, sizes.as_slice(), text),
+        None => expanded(alloc, &sizes, text),
     }
 }

@@ -12,7 +12,7 @@ use crate::front::{past_spaces, split_token};
 use crate::line::Line;
 use crate::operation::{Function, Operator, applied, called};
 use crate::reason::Reason;
-use crate::size::Size;
+use crate::size_table::SizeTable;
 use crate::stop::{Wrong, placed, wrong_at};
 
 /// The greatest number of levels that are open at once.
@@ -75,7 +75,7 @@ fn operator_at(line: Line, text: &[u8]) -> Option<(Operator, &[u8])>
 // A sum one level further in. The level is opened by a token with that many bytes left.
 #[cycle(expression)]
 fn inner<'a>(
-    sizes: &[Size],
+    sizes: &SizeTable<'_>,
     left: usize,
     text: &'a [u8],
     depth: u8,
@@ -95,7 +95,7 @@ fn inner<'a>(
 // A sum one level further in, and the byte that closes it.
 #[cycle(expression)]
 fn nested<'a>(
-    sizes: &[Size],
+    sizes: &SizeTable<'_>,
     close: u8,
     left: usize,
     text: &'a [u8],
@@ -112,7 +112,7 @@ fn nested<'a>(
 // A sum in parentheses, and what the function makes of it.
 #[cycle(expression)]
 fn group<'a>(
-    sizes: &[Size],
+    sizes: &SizeTable<'_>,
     function: Function,
     left: usize,
     text: &'a [u8],
@@ -129,7 +129,7 @@ fn group<'a>(
 // A function and the sum in parentheses behind it.
 #[cycle(expression)]
 fn call<'a>(
-    sizes: &[Size],
+    sizes: &SizeTable<'_>,
     function: Function,
     left: usize,
     text: &'a [u8],
@@ -145,7 +145,7 @@ fn call<'a>(
 // A power of two sums in parentheses.
 #[cycle(expression)]
 fn power<'a>(
-    sizes: &[Size],
+    sizes: &SizeTable<'_>,
     left: usize,
     text: &'a [u8],
     depth: u8,
@@ -163,7 +163,7 @@ fn power<'a>(
 // An operand by its first token, with that many bytes left there, and the text behind the token.
 #[cycle(expression)]
 fn operand_by<'a>(
-    sizes: &[Size],
+    sizes: &SizeTable<'_>,
     atom: Atom,
     left: usize,
     rest: &'a [u8],
@@ -184,7 +184,7 @@ fn operand_by<'a>(
 // An operand.
 #[cycle(expression)]
 #[tactic(auto, unfolding(crate::specs::Expressions::operand))]
-fn operand<'a>(sizes: &[Size], text: &'a [u8], depth: u8) -> Result<(u64, &'a [u8]), Wrong>
+fn operand<'a>(sizes: &SizeTable<'_>, text: &'a [u8], depth: u8) -> Result<(u64, &'a [u8]), Wrong>
     ensures gives { Gives (λ f. (f.0, f.1.now)) result (spec.operand sizes.now (spec.further sizes.now depth) text.now) }
     ensures shorter { IfOk result (λ f. length f.1.now ≤ length text.now) }
 {
@@ -196,7 +196,7 @@ fn operand<'a>(sizes: &[Size], text: &'a [u8], depth: u8) -> Result<(u64, &'a [u
 // What a line stands on.
 #[cycle(expression)]
 fn tight<'a>(
-    sizes: &[Size],
+    sizes: &SizeTable<'_>,
     line: Line,
     text: &'a [u8],
     depth: u8,
@@ -213,7 +213,7 @@ fn tight<'a>(
 // Operands with operators of a line between them, from left to right.
 #[cycle(expression)]
 fn chain<'a>(
-    sizes: &[Size],
+    sizes: &SizeTable<'_>,
     line: Line,
     text: &'a [u8],
     depth: u8,
@@ -234,7 +234,7 @@ fn chain<'a>(
 
 /// The number of an expression behind its opening brace, and the text behind the closing one.
 #[tactic(auto, unfolding(crate::specs::Expressions::braced))]
-pub(crate) fn braced<'a>(sizes: &[Size], text: &'a [u8]) -> Result<(u64, &'a [u8]), Wrong>
+pub(crate) fn braced<'a>(sizes: &SizeTable<'_>, text: &'a [u8]) -> Result<(u64, &'a [u8]), Wrong>
     ensures gives { Gives (λ f. (f.0, f.1.now)) result (spec.braced sizes.now text.now) }
     ensures shorter { IfOk result (λ f. length f.1.now < length text.now) }
 {
@@ -245,7 +245,7 @@ pub(crate) fn braced<'a>(sizes: &[Size], text: &'a [u8]) -> Result<(u64, &'a [u8
 
 /// The number of an expression that is all of a text.
 #[tactic(auto, unfolding(crate::specs::Expressions::whole))]
-pub(crate) fn whole(sizes: &[Size], text: &[u8]) -> Result<u64, Wrong>
+pub(crate) fn whole(sizes: &SizeTable<'_>, text: &[u8]) -> Result<u64, Wrong>
     ensures gives { Gives (λ v. v) result (spec.whole sizes.now text.now) }
 {
     let (value, rest) = chain(sizes, Line::Sum, text, DEEPEST)?;

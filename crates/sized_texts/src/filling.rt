@@ -6,6 +6,7 @@ ghost use Rattle.sized_texts.specs.Filling as spec;
 use crate::fault::SizeFault;
 use crate::pieces::pieces;
 use crate::size::Size;
+use crate::size_table::table_of;
 use pram_tokens::LONGEST;
 use std::alloc::Global;
 
@@ -22,6 +23,7 @@ pub fn fill(alloc: Global, sizes: &[Size], text: &[u8]) -> Result<Vec<u8>, SizeF
     if text.len() > LONGEST {
         return Err(SizeFault::TooLong);
     }
-    let expanded = pieces(alloc, sizes, text)?;
+    let table = table_of(alloc, sizes)?;
+    let expanded = pieces(alloc, &table, text)?;
     Ok(expanded.text)
 }

@@ -10,6 +10,7 @@ use crate::fault::SizeFault;
 use crate::head::sizes_of;
 use crate::pieces::fault_in;
 use crate::size::Size;
+use crate::size_table::table_of;
 use pram_tokens::LONGEST;
 use std::alloc::Global;
 
@@ -32,7 +33,8 @@ pub fn number_by(
     if expression.len() > LONGEST {
         return Err(SizeFault::TooLong);
     }
-    let sizes = sizes_of(alloc, given, text)?;
+    let given = table_of(alloc, given)?;
+    let sizes = sizes_of(alloc, &given, text)?;
     match whole(&sizes, expression) {
         Ok(value) => Ok(value),
         Err(wrong) => Err(fault_in(expression.len(), wrong)),

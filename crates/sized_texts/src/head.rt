@@ -6,14 +6,14 @@ ghost use Rattle.pram_tokens.specs.Lexemes as lexemes;
 ghost use Rattle.pram_tokens.specs.Scanning.{longest};
 ghost use Rattle.sized_texts.specs.Faults.{Answers, in_text};
 ghost use Rattle.sized_texts.specs.SizeLines as spec;
+ghost use Rattle.sized_texts.specs.SizeTables.{size_by};
 
 use crate::fault::SizeFault;
 use crate::pieces::fault_in;
-use crate::size::{Size, value_in};
 use crate::size_line::{declaration, line_of};
+use crate::size_table::SizeTable;
 use crate::stop::Wrong;
-use sqlite_items::Items;
-use std::alloc::{AllocError, Global};
+use std::alloc::Global;
 
 // White space: space, tab, LF, CR.
 fn is_blank(b: u8) -> bool
@@ -34,36 +34,31 @@ fn comment_len(text: &[u8]) -> usize
     end
 }
 
-// A size of that name, whose number is the given one, if one is given.
-fn size_of(alloc: Global, given: &[Size], name: &[u8], value: u64) -> Result<Size, AllocError>
-    ensures { IfOk result (λ s. s ≡ spec.size_of given.now name.now value) }
+// The number of a size of that name: the given one, if one is given.
+fn value_of(given: &SizeTable<'_>, name: &[u8], value: u64) -> u64
+    ensures { size_by name.now result ≡ spec.size_of given.now name.now value }
 {
-    let value = value_in(given, name).unwrap_or(value);
-    Ok(Size {
-        name: Items::from_slice(alloc, name)?,
-        value,
-    })
+    given.value_of(name).unwrap_or(value)
 }
 
 // Takes in what a comment declares, where so many bytes of a text are left.
-fn declare(
-    alloc: Global,
-    given: &[Size],
-    sizes: &mut Vec<Size>,
-    comment: &[u8],
+fn declare<'a>(
+    given: &SizeTable<'_>,
+    sizes: &mut SizeTable<'a>,
+    comment: &'a [u8],
     total: usize,
     left: usize,
 ) -> Result<(), SizeFault>
     requires { total ≤ longest }
-    ensures { Answers (λ _. sizes.new.items) result
-        (in_text total (spec.declare given.now sizes.old.items left (spec.line_of comment.now))) }
+    ensures { Answers (λ _. sizes.new) result
+        (in_text total (spec.declare given.now sizes.old left (spec.line_of comment.now))) }
 {
     match line_of(comment) {
         None => Ok(()),
         Some((name, text)) => match declaration(sizes, name, text) {
             Err(reason) => Err(fault_in(total, Wrong { reason, left })),
             Ok(value) => {
-                sizes.push(size_of(alloc, given, name, value)?)?;
+                sizes.declare(name, value_of(given, name, value))?;
                 Ok(())
             }
         },
@@ -71,11 +66,15 @@ fn declare(
 }
 
 /// The sizes that a text declares, where those numbers are given.
-pub(crate) fn sizes_of(alloc: Global, given: &[Size], text: &[u8]) -> Result<Vec<Size>, SizeFault>
+pub(crate) fn sizes_of<'a>(
+    alloc: Global,
+    given: &SizeTable<'_>,
+    text: &'a [u8],
+) -> Result<SizeTable<'a>, SizeFault>
     requires fits { length text.now ≤ longest }
-    ensures answers { Answers (λ s. s.items) result (in_text (length text.now) (spec.sizes_of given.now text.now)) }
+    ensures answers { Answers (λ s. s) result (in_text (length text.now) (spec.sizes_of given.now text.now)) }
 {
-    let mut sizes = Vec::new(alloc);
+    let mut sizes = SizeTable::new(alloc);
     let mut at = 0;
     while at < text.len() {
         let byte = text[at];
@@ -85,14 +84,7 @@ pub(crate) fn sizes_of(alloc: Global, given: &[Size], text: &[u8]) -> Result<Vec
         } else if byte == b'#' {
             let length = comment_len(rest);
             let (comment, _) = rest.split_at(length);
-            declare(
-                alloc,
-                given,
-                &mut sizes,
-                comment,
-                text.len(),
-                text.len() - at,
-            )?;
+            declare(given, &mut sizes, comment, text.len(), text.len() - at)?;
             at += 1 + length;
         } else {
             return Ok(sizes);

@@ -20,6 +20,7 @@ pub mod size_laws;
 mod size_line;
 mod size_list;
 mod size_range;
+mod size_table;
 mod size_word;
 mod stop;
 mod sweep;

@@ -9,7 +9,7 @@ ghost use Rattle.sized_texts.specs.Pieces as spec;
 use crate::expanded::{Expanded, add_byte, add_number, nothing};
 use crate::expression::braced;
 use crate::fault::SizeFault;
-use crate::size::Size;
+use crate::size_table::SizeTable;
 use crate::stop::Wrong;
 use std::alloc::Global;
 
@@ -40,7 +40,11 @@ pub(crate) fn fault_in(total: usize, wrong: Wrong) -> SizeFault
 }
 
 /// What a text expands to where these are its sizes.
-pub(crate) fn pieces(alloc: Global, sizes: &[Size], text: &[u8]) -> Result<Expanded, SizeFault>
+pub(crate) fn pieces(
+    alloc: Global,
+    sizes: &SizeTable<'_>,
+    text: &[u8],
+) -> Result<Expanded, SizeFault>
     requires fits { length text.now ≤ longest }
     ensures answers { Answers shown result (in_text (length text.now) (spec.pieces_of sizes.now text.now)) }
 {

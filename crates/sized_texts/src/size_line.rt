@@ -8,7 +8,7 @@ ghost use Rattle.sized_texts.specs.SizeLines as spec;
 use crate::atom::function_atom;
 use crate::front::{goes_on, number, past_spaces, split_token};
 use crate::reason::Reason;
-use crate::size::{Size, value_in};
+use crate::size_table::SizeTable;
 use pram_model::is_keyword;
 
 // The first token behind white space, and what is behind it and white space.
@@ -81,7 +81,7 @@ fn number_in(text: &[u8]) -> Result<u64, Reason>
 }
 
 /// The number of a size line, behind these sizes.
-pub(crate) fn declaration(sizes: &[Size], word: &[u8], text: &[u8]) -> Result<u64, Reason>
+pub(crate) fn declaration(sizes: &SizeTable<'_>, word: &[u8], text: &[u8]) -> Result<u64, Reason>
     ensures { result ≡ spec.declaration sizes.now word.now text.now }
 {
     if !begins_name(word) {
@@ -90,7 +90,7 @@ pub(crate) fn declaration(sizes: &[Size], word: &[u8], text: &[u8]) -> Result<u6
     if is_keyword(word) || function_atom(word).is_some() {
         return Err(Reason::Keyword);
     }
-    if value_in(sizes, word).is_some() {
+    if sizes.value_of(word).is_some() {
         return Err(Reason::Repeated);
     }
     number_in(text)

@@ -4,7 +4,7 @@ use Rattle.sized_texts.proofs.head.sizes_of.Given as goal
 
 abbrev pub invariant-loop-at : goal.invariant-loop-at
 invariant-loop-at l = record {
-  so : sizes_of l.given l.text ≡ head l.given l.sizes.items 0 (drop l.at l.text);
+  so : sizes_of l.given l.text ≡ head l.given l.sizes 0 (drop l.at l.text);
   fits : l.at ≤ length l.text;
 }
 
