@@ -9,7 +9,7 @@ use Rattle.std.specs.Fmt.{digit_glyph, digits, digits_onto}
 use Rattle.std.proofs.lemmas.List.{append-nil}
 use Rattle.text_places.specs.Escaped.{HasNoControl, escaped, is_control}
 use Rattle.text_places.specs.Excerpts.{shown, shown_byte}
-use Rattle.text_places.proofs.Escaping.{no_control}
+use Rattle.text_places.proofs.Escaping.{control_free, no_control}
 use Rattle.text_places.specs.Places.{place_of}
 use Rattle.help.specs.declared.message.Other.{Other}
 use Rattle.help.specs.declared.message.Point.{Point}
@@ -50,7 +50,7 @@ no_end b is = by (b == 10) refl
 
 escaped_stays : (text : List ℕ) → HasNoControl text → IsOneLine text
 escaped_stays [] has = refl
-escaped_stays (b ∷ rest) has = one_more b rest (no_end b has.0) (escaped_stays rest has.1)
+escaped_stays (b ∷ rest) has = one_more b rest (no_end b (control_free b rest has.0)) (escaped_stays rest has.1)
 
 shown_stays : (text : List ℕ) → IsOneLine (shown text)
 shown_stays [] = refl

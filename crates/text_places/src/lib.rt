@@ -6,7 +6,7 @@ mod excerpt;
 mod lines;
 mod place;
 
-pub use escaped::{names_stay_on_their_line, write_escaped};
+pub use escaped::{escaped_name, names_stay_on_their_line, write_escaped};
 pub use excerpt::{write_excerpt, write_line, write_line_excerpt, write_shown};
 pub use lines::line_text;
 pub use place::{Place, place_of};
