@@ -1,5 +1,6 @@
 """The program's commands and their options, by the tables of crates/command_words, and what files make of them."""
 import re
+import sys
 import textwrap
 from dataclasses import dataclass
 from pathlib import Path
@@ -216,23 +217,23 @@ def said_of(option):
     """What the text of all options says of one: its name, and its help behind that."""
     name = f"--{option.word} {option.value}".rstrip()
     said = option.help[0].lower() + option.help[1:] + (f", else {option.default}" if option.default else "")
-    lines = textwrap.wrap(said, 60)
-    wide = [name] if len(name) > 19 else []
-    return [*wide, *(f"{'' if wide or number else name:20}{it}" for number, it in enumerate(lines))]
+    return textwrap.wrap(f"{name:17} {said}", 80, subsequent_indent="    ")
 
 
 def overview():
-    """The text of all options, by the commands that take them: first what most of them take."""
+    """The text of all options, by the commands that take them: first what most of them take.
+
+    It goes out in one write, of 4,096 bytes at most, as all that is explained does: who reads its first lines alone gets no E17.
+    """
     everywhere, several = [it.word for it in commands()], {}
     for sayings in entries().values():
         for it, takers_of_it in sayings.items():
             several.setdefault(tuple(takers_of_it), []).append(it)
-    lines = ["The options, and which commands take them."]
+    lines = ["The options, and which commands take them.", "", "Of all:", "--help            says what there is to type"]
     for words, options in sorted(several.items(), key=lambda it: -len(it[0])):
         missing = [it for it in everywhere if it not in words]
         head = f"All but {joined(missing)}:" if len(missing) < 3 else f"Of {joined(words)}:"
-        lines += ["", *textwrap.wrap(head, 80), "", *(line for it in options for line in said_of(it))]
-        lines += ["--help              says what there is to type"] if missing == ["explain"] else []
+        lines += ["", *textwrap.wrap(head, 80), *(line for it in options for line in said_of(it))]
     lines += ["", "Of --input, --memory and --random one is given; cells that get no value are 0."]
     lines += ["A FILE named - is standard input, once in a call.", ""]
     return [*lines, "`pramc --version` writes the version. `pramc explain cost` says what cost takes."]
@@ -241,6 +242,8 @@ def overview():
 def overview_code():
     """The constant of help that is this text."""
     text = "".join(f"{it}\n" for it in overview())
+    if len(text.encode()) > 4096:
+        sys.exit(f"the text of all options has {len(text.encode())} bytes, and one write takes 4096")
     head = f"//! What is said of all options. {MADE}\n\n"
     return f'{head}pub(crate) const OPTIONS: [u8; {len(text.encode())}] = *b"{text}";\n'
 

@@ -41,7 +41,7 @@ AreFactsOf (settled.Compared c) told = told ≡ comparison_facts c ∷ []
 AreFactsOf (settled.Run r shown) told = told ≡ chosen_facts shown r.loaded.program.layout (verdict_of r.outcome) ∷ []
 AreFactsOf (settled.Costed r w c) told = told ≡ cost_facts r.loaded.program.layout (verdict_of r.outcome) c w.schedule w.lines ∷ []
 AreFactsOf (settled.Traced r w t) told =
-    told ≡ trace_facts t.lines.items (cost_asked w.rates t.counts) t.counts (verdict_of r.outcome)
+    told ≡ trace_facts t.lines.items w.outcome r.loaded.program.layout (cost_asked w.rates t.counts) t.counts (verdict_of r.outcome)
 AreFactsOf (settled.Explored f) told = told ≡ exploration_facts f.program.layout (found_is f.findings) ∷ []
 AreFactsOf (settled.Paired p) told = told ≡ pair_facts p.first.layout p.second.layout p.drawn (pairs.found_is p.comparison)
 AreFactsOf (settled.Swept s) told = told ≡ sweep_facts s.sweep.name s.rows.items s.growths

@@ -18,7 +18,7 @@ use crate::writing::write_json;
 use command_facts::{
     FoundCode, FoundPair, FoundRun, FoundScope, FoundSweep, FoundTrace, Settled, status_of,
 };
-use command_requests::CostWords;
+use command_requests::{CostWords, TraceWords};
 use costs::Cost;
 use exchange_counts::Counts;
 use json_texts::{
@@ -30,7 +30,6 @@ use program_texts::{Status, Stop};
 use std::alloc::{AllocError, Global};
 use text_out::Out;
 use tracer::{Rates, bsp_cost};
-use write_rules::Outcome;
 
 /// The word that a call is refused for which isn't told as JSON.
 const JSON: &str = "json";
@@ -48,15 +47,23 @@ fn cost_of(counts: &Counts, rates: Option<(u32, u32)>) -> Option<u128>
 // The exchanges of a run.
 fn trace_text(
     alloc: Global,
+    run: &FoundRun<'_>,
+    words: TraceWords,
     found: &FoundTrace,
-    rates: Option<(u32, u32)>,
-    outcome: &Outcome,
 ) -> Result<String, AllocError>
-    ensures told { IfOk result (λ text. IsJson (trace_facts found.now.lines.items (spec.cost_asked rates found.now.counts)
-        found.now.counts (verdict_of outcome.now)) (string_bytes text)) }
+    ensures told { IfOk result (λ text. IsJson (trace_facts found.now.lines.items words.outcome run.now.loaded.program.layout
+        (spec.cost_asked words.rates found.now.counts) found.now.counts (verdict_of run.now.outcome)) (string_bytes text)) }
 {
-    let cost = cost_of(&found.counts, rates);
-    json_trace(alloc, &found.counts, &found.lines, cost, outcome)
+    let (layout, cost) = (run.loaded.program.layout(), cost_of(&found.counts, words.rates));
+    json_trace(
+        alloc,
+        &found.counts,
+        &found.lines,
+        layout,
+        words.outcome,
+        cost,
+        &run.outcome,
+    )
 }
 
 // The outcome of a run of a program.
@@ -136,7 +143,7 @@ fn text_of<'a>(alloc: Global, found: &Settled<'_>) -> Result<String, Stop<'a>>
         Settled::Run(run, shown) => Ok(run_text(alloc, run, *shown)?),
         Settled::Costed(run, words, cost) => Ok(cost_text(alloc, run, *words, cost)?),
         Settled::Traced(run, words, exchanges) => {
-            Ok(trace_text(alloc, exchanges, words.rates, &run.outcome)?)
+            Ok(trace_text(alloc, run, *words, exchanges)?)
         }
         Settled::Swept(swept) => Ok(sweep_text(alloc, swept)?),
         Settled::Explored(found) => Ok(scope_text(alloc, found)?),

@@ -1,8 +1,11 @@
 //! The program `pramc`, over the system's files and streams.
 #![tactic(auto)]
 
+use command_requests::{NotText, Reader, Request};
 use command_words::CommandLine;
-use pramc::{ErrorStream, ProgressLine, Terminal, command};
+use pramc::{ErrorStream, ProgressLine, Stop, Terminal, command};
+use std::alloc::{AllocError, Global};
+use std::env::{Env, FillError};
 use std::io::{IsTerminal, Print};
 use std::process::ExitCode;
 use std::{env, io};
@@ -36,48 +39,121 @@ fn terminal(rt: &HostRuntime) -> Terminal {
     }
 }
 
-// What is told where a word of the command line isn't UTF-8, as the parser of command lines tells the rest of P1.
-const NOT_UTF_8: &[u8] = b"error: invalid UTF-8 was detected in one or more arguments
-
-For more information, try '--help'.
-More: pramc explain
-";
-
 // What is told where memory for the words was refused.
 const NO_MEMORY: &[u8] = b"refused E16 OutOfMemory\n";
 
-// The words behind the program's name, or what is told of them.
-fn words(rt: &HostRuntime) -> Result<Vec<String>, &'static [u8]> {
-    let args = match env::args(rt) {
-        Ok(args) => args,
-        Err(e) if e.kind() == io::ErrorKind::InvalidData => return Err(NOT_UTF_8),
-        Err(_) => return Err(NO_MEMORY),
-    };
-    match args.skip(1).collect(rt.alloc()) {
-        Ok(words) => Ok(words),
-        Err(_) => Err(NO_MEMORY),
+// The system gives a program no longer word.
+const LONGEST: usize = 131_072;
+
+// The words behind the program's name, and the first that isn't UTF-8, by its place.
+#[derive(Drop)]
+struct Words {
+    texts: Vec<String>,
+    wrong: Option<usize>,
+}
+
+// Bytes that are no UTF-8: those that are printed in ASCII as they are, and others by their numbers.
+fn numbered(alloc: Global, bytes: &[u8]) -> Result<String, AllocError> {
+    let mut text = String::new(alloc);
+    for byte in bytes {
+        if *byte >= b' ' && *byte < 127 {
+            text.push(char::from(*byte))?;
+        } else {
+            text.push_str(format!(in alloc; "\\x{:02x}", *byte)?.as_str())?;
+        }
+    }
+    Ok(text)
+}
+
+impl Words {
+    fn push(&mut self, alloc: Global, bytes: &[u8]) -> Result<(), AllocError> {
+        match String::from_utf8(Vec::from_slice(alloc, bytes)?) {
+            Ok(text) => Ok(self.texts.push(text)?),
+            Err(_) => {
+                if self.wrong.is_none() {
+                    self.wrong = Some(self.texts.len());
+                }
+                Ok(self.texts.push(numbered(alloc, bytes)?)?)
+            }
+        }
     }
 }
 
-fn main(rt: HostRuntime) -> ExitCode {
+// The words one by one, where one of them isn't UTF-8.
+fn words_by_bytes(rt: &HostRuntime) -> Result<Words, AllocError> {
+    let mut words = Words {
+        texts: Vec::new(rt.alloc()),
+        wrong: None,
+    };
+    let mut buffer = Vec::new(rt.alloc());
+    buffer.resize(LONGEST, 0u8)?;
+    for place in 1..usize::MAX {
+        match rt.arg(place, buffer.as_mut_slice()) {
+            Ok(count) => words.push(rt.alloc(), &buffer.as_slice()[..count])?,
+            Err(FillError::NotPresent) => break,
+            Err(FillError::TooLong) => return Err(AllocError),
+        }
+    }
+    Ok(words)
+}
+
+// The words behind the program's name.
+fn words(rt: &HostRuntime) -> Result<Words, AllocError> {
+    match env::args(rt) {
+        Ok(args) => Ok(Words {
+            texts: args.skip(1).collect(rt.alloc())?,
+            wrong: None,
+        }),
+        Err(e) if e.kind() == io::ErrorKind::InvalidData => words_by_bytes(rt),
+        Err(_) => Err(AllocError),
+    }
+}
+
+// Reads the words, or tells which of them isn't UTF-8.
+struct AnyLine<'w> {
+    wrong: Option<&'w str>,
+}
+
+impl<'w> Reader for AnyLine<'w> {
+    fn read<'a>(&self, alloc: Global, words: &'a [String]) -> Result<Request<'a>, Stop<'a>> {
+        match self.wrong {
+            None => CommandLine {}.read(alloc, words),
+            Some(word) => NotText { word }.read(alloc, words),
+        }
+    }
+}
+
+fn reader(words: &Words) -> AnyLine<'_> {
+    match words.wrong {
+        Some(place) if place < words.texts.len() => AnyLine {
+            wrong: Some(words.texts[place].as_str()),
+        },
+        _ => AnyLine { wrong: None },
+    }
+}
+
+fn refused(rt: &HostRuntime) -> ExitCode {
     let mut err = Stream::new(rt.stderr());
+    let _ = err.write_all(NO_MEMORY);
+    let _ = err.flush();
+    ExitCode::from(2)
+}
+
+fn main(rt: HostRuntime) -> ExitCode {
     let words = match words(&rt) {
         Ok(words) => words,
-        Err(told) => {
-            let _ = err.write_all(told);
-            let _ = err.flush();
-            return ExitCode::from(2);
-        }
+        Err(AllocError) => return refused(&rt),
     };
     let terminal = terminal(&rt);
     let mut files = SystemFiles::new(&rt, rt.stdin());
     let mut progress = ProgressLine::new(&rt, Errors { rt: &rt }, terminal.errors);
     let mut out = Stream::new(rt.stdout());
+    let mut err = Stream::new(rt.stderr());
     let status = command(
         &rt,
         rt.alloc(),
-        &CommandLine {},
-        words.as_slice(),
+        &reader(&words),
+        words.texts.as_slice(),
         terminal,
         &mut files,
         &mut progress,

@@ -1,24 +1,10 @@
 -- What is said of a word of the command line that is wrong.
-use Rattle.std.specs.Prelude.{ℕ, ◌==◌, ◌+◌, ◌/◌, ◌%◌, nat_lt, ◌||◌, List, [], ◌∷◌, ◌++◌, Option, Some, None, codes, if◌then◌else◌}
+use Rattle.std.specs.Prelude.{ℕ, List, [], ◌++◌, Option, Some, None, codes, if◌then◌else◌}
 use Rattle.pram_model.specs.Names.{same_text}
 use Rattle.command_requests.specs.declared.given.Given.{Given}
 use Rattle.command_requests.specs.declared.given.Given.TheVariants as given
 use Rattle.command_requests.specs.Names.{name}
-
--- 0 to 9 and a to f
-abbrev pub digit : ℕ → ℕ
-digit n = if nat_lt n 10 then 48 + n else 87 + n
-
--- a byte in a sentence, which is one line: a control byte as `\n` or `\x1b`
-abbrev pub letter : ℕ → List ℕ
-letter b =
-    if b == 10 then codes "\\n"
-    else if nat_lt b 32 || b == 127 then codes "\\x" ++ (digit (b / 16) ∷ digit (b % 16) ∷ [])
-    else b ∷ []
-
-abbrev pub letters : List ℕ → List ℕ
-letters [] = []
-letters (b ∷ bytes) = letter b ++ letters bytes
+use Rattle.text_places.specs.Escaped.{escaped}
 
 -- what an option wants
 abbrev pub wanted : Given → List ℕ
@@ -55,7 +41,7 @@ wanted_text g = codes "` for `" ++ (name g ++ (codes "`: it wants " ++ (wanted g
 
 -- `invalid `x` for `--bound`: it wants a number from 0 to 4294967295`
 abbrev pub value_sentence : Given → (word : List ℕ) → List ℕ
-value_sentence g word = codes "invalid `" ++ (letters word ++ wanted_text g)
+value_sentence g word = codes "invalid `" ++ (escaped word ++ wanted_text g)
 
 -- an option that a command wants, in the place of others; of any other word nothing
 abbrev pub command_sentence : (word : List ℕ) → List ℕ

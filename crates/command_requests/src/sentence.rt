@@ -1,45 +1,13 @@
 //! What is said of a word that is wrong.
 
-ghost use Rattle.std.specs.Prelude.{◌≡◌, ◌<◌};
+ghost use Rattle.std.specs.Prelude.{◌≡◌};
 ghost use Rattle.text_out.specs.Out.{Writes};
 ghost use Rattle.command_requests.specs.Sentences as spec;
 
 use crate::given::Given;
 use crate::named::is_same;
 use text_out::{Out, WriteFault};
-
-fn digit(number: u8) -> u8
-    requires { number < 16 }
-    ensures { result ≡ spec.digit number }
-{
-    if number < 10 {
-        48 + number
-    } else {
-        87 + number
-    }
-}
-
-// A control byte must not reach a terminal, nor end the line.
-fn write_letter<W: Out>(byte: u8, out: &mut W) -> Result<(), WriteFault>
-    ensures written { Writes (W.Out.state out.old) (W.Out.state out.new) (spec.letter byte) result }
-{
-    if byte == b'\n' {
-        out.write_all(b"\\n")
-    } else if byte < 32 || byte == 127 {
-        out.write_parts(&[b"\\x", &[digit(byte / 16), digit(byte % 16)]])
-    } else {
-        out.write_all(&[byte])
-    }
-}
-
-fn write_letters<W: Out>(bytes: &[u8], out: &mut W) -> Result<(), WriteFault>
-    ensures written { Writes (W.Out.state out.old) (W.Out.state out.new) (spec.letters bytes.now) result }
-{
-    for byte in bytes {
-        write_letter(*byte, out)?;
-    }
-    Ok(())
-}
+use text_places::write_escaped;
 
 // What an option wants.
 fn wanted(given: Given) -> &'static [u8]
@@ -100,7 +68,7 @@ fn write_value_sentence<W: Out>(given: Given, word: &[u8], out: &mut W) -> Resul
     ensures written { Writes (W.Out.state out.old) (W.Out.state out.new) (spec.value_sentence given word.now) result }
 {
     out.write_all(b"invalid `")?;
-    write_letters(word, out)?;
+    write_escaped(out, word)?;
     write_wanted(given, out)
 }
 

@@ -21,6 +21,7 @@ use command_requests::{ProgramFile, Request, SizeWord, asks_for_version};
 use help::subject_of;
 use program_texts::{Refusal, Stop};
 use std::alloc::{AllocError, Global};
+use text_places::escaped_name;
 
 // How something is told. Whether it is JSON `asks_for_json` says, and whether it is in the lines of editors `asks_for_gnu`.
 #[derive(Clone, Copy, PartialEq, Eq)]
@@ -350,23 +351,14 @@ fn told(alloc: Global, words: &[String], error: &clap::Error) -> Result<String, 
     Ok(kept)
 }
 
-fn has_control(text: &[u8]) -> bool {
-    for byte in text {
-        if *byte < 32 || *byte == 127 {
-            return true;
-        }
-    }
-    false
-}
-
-// The first word with a control byte, which the parser would write as it is.
-fn steering(words: &[String]) -> Option<&str> {
+// The first word that isn't told as it is, but the parser would write it so.
+fn steering(alloc: Global, words: &[String]) -> Result<Option<&str>, AllocError> {
     for word in words {
-        if has_control(word.as_bytes()) {
-            return Some(word.as_str());
+        if escaped_name(alloc, word.as_bytes())?.len() != word.len() {
+            return Ok(Some(word.as_str()));
         }
     }
-    None
+    Ok(None)
 }
 
 // The words of the parser, where it refused the command line; of one that could end its lines or steer a terminal that word.
@@ -376,8 +368,10 @@ fn refused<'a>(alloc: Global, words: &'a [String], error: clap::Error) -> Stop<'
     if error.kind() == ErrorKind::OutOfMemory {
         return Stop::Refused(Refusal::OutOfMemory);
     }
-    if let Some(word) = steering(words) {
-        return Stop::Number(word);
+    match steering(alloc, words) {
+        Ok(None) => {}
+        Ok(Some(word)) => return Stop::Number(word),
+        Err(AllocError) => return Stop::Refused(Refusal::OutOfMemory),
     }
     match told(alloc, words, &error) {
         Ok(text) => Stop::Words(text),

@@ -2,12 +2,10 @@
 use Rattle.std.proofs.Common.{◌≡◌, ◌∙◌, ◌<◌, ◌+◌, ◌-◌, ◌∷◌, List, ℕ, ◌++◌, Option, None, Some, ap, arith, codes, drop, get_or, length, lit≤}
 use Rattle.std.proofs.lemmas.List.{drop_more}
 use Rattle.json_texts.specs.Small.{IsReadable}
-use Rattle.json_texts.proofs.Small.{HasSmall, has_all, small_count, small_counts, small_large, small_object, small_word, smaller}
+use Rattle.json_texts.proofs.Small.{HasSmall, has_all, small_count, small_counts, small_object, small_word, smaller}
 use Rattle.superstep_machine.specs.Trace.{Exchange, relation_of}
-use Rattle.write_rules.specs.Verdict.{Verdict}
 use Rattle.exchange_counts.specs.CountedExchanges.{exchange_at, no_exchange}
-use Rattle.json_texts.specs.TraceFacts.{cost_fields, exchange_facts, exchange_fields, exchanges_from, line_fields, line_of, purpose_word}
-use Rattle.json_texts.specs.TraceFacts.{way, way_facts}
+use Rattle.json_texts.specs.TraceFacts.{exchange_facts, exchange_fields, exchanges_from, line_fields, line_of, purpose_word}
 
 -- the exchange at i, and those behind it
 pub exchanges_at : (lines : List ℕ) (exchanges : List Exchange) (i : ℕ) → i < length exchanges →
@@ -43,12 +41,3 @@ pub readable_exchange : (k : ℕ) (line : Option ℕ) (e : Exchange) → IsReada
 readable_exchange k line e =
     smaller 2 127 (exchange_facts k line e) (lit≤ tt) (small_object 1 (exchange_fields k e ++ line_fields line)
     (has_all 1 (exchange_fields k e) (line_fields line) (small_exchange e k) (small_line line)))
-
-small_cost : (cost : Option ℕ) → HasSmall 0 (cost_fields cost)
-small_cost None = tt
-small_cost (Some n) = (small_large 0 n, tt)
-
-pub readable_way : (v : Verdict) (cost : Option ℕ) → IsReadable (way_facts v cost)
-readable_way v cost =
-    smaller 1 127 (way_facts v cost) (lit≤ tt) (small_object 0 ((codes "outcome", _) ∷ cost_fields cost)
-    (small_word 0 (way v), small_cost cost))

@@ -5,6 +5,7 @@ pub mod DeclarationFacts
 pub mod HeldLocals
 pub mod ExchangeFacts
 pub mod Readable
+pub mod WayReadable
 pub mod SweepReadable
 pub mod ExplorationReadable
 pub mod PairReadable

@@ -74,7 +74,7 @@ readable_opening layout memory =
     smaller 4 127 (opening_facts layout memory) (lit≤ tt)
     (small_object 3 ((codes "opening", list (memory_facts ds)) ∷ []) (small_list 2 (memory_facts ds) (small_memory ds), tt))
 
-small_outcome : (layout : List SharedEntry) (v : Verdict) → HasSmall 3 (outcome_fields layout v)
+pub small_outcome : (layout : List SharedEntry) (v : Verdict) → HasSmall 3 (outcome_fields layout v)
 small_outcome layout v = small_chosen All layout v
 
 pub readable : (fields : List Field) → HasSmall 3 fields → IsReadable (object_of fields)

@@ -4,6 +4,7 @@ use Rattle.std.specs.Fmt.{signed_decimal}
 use Rattle.std.specs.Str.Lossy.{utf8_lossy}
 use Rattle.serde_json.specs.Data.{Data, boolean, number, unsigned, string, array, object, Members, no_members, put}
 use Rattle.serde_json.specs.View.{items_of}
+use Rattle.text_places.specs.Escaped.{escaped}
 
 abbrev pub flag : Bool → Data
 flag b = boolean b
@@ -14,6 +15,10 @@ word text = string text
 -- bytes as a text, where what is no UTF-8 is replaced
 abbrev pub letters : List ℕ → Data
 letters bytes = string (utf8_lossy bytes)
+
+-- the name of a file or a word of the call, as it is told in words
+abbrev pub told : List ℕ → Data
+told text = letters (escaped text)
 
 -- a value of a program, in decimal
 abbrev pub value : ℤ → Data

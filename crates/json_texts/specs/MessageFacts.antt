@@ -1,7 +1,7 @@
 -- What JSON says of a refusal and of its message.
 use Rattle.std.specs.Prelude.{ℕ, List, [], ◌∷◌, ◌++◌, Option, Some, None, codes, map}
 use Rattle.serde_json.specs.Data.{Data}
-use Rattle.json_texts.specs.Facts.{Field, count, letters, list, object_of}
+use Rattle.json_texts.specs.Facts.{Field, count, letters, list, object_of, told}
 use Rattle.program_texts.specs.declared.stop.Stop.{Stop}
 use Rattle.help.specs.declared.message.Other.{Other}
 use Rattle.help.specs.declared.message.Point.{Point}
@@ -21,7 +21,7 @@ point_fields source (Byte at) =
 point_fields source (Line line) = (codes "line", count line) ∷ []
 
 abbrev pub point_facts : (name source : List ℕ) → Point → Data
-point_facts name source p = object_of ((codes "file", letters name) ∷ point_fields source p)
+point_facts name source p = object_of ((codes "file", told name) ∷ point_fields source p)
 
 -- where there is one
 abbrev pub place_field : (name source : List ℕ) → Option Point → List Field
@@ -48,7 +48,7 @@ list_field name (d ∷ ds) = (name, list (d ∷ ds)) ∷ []
 
 abbrev pub meant_field : Option (List ℕ) → List Field
 meant_field None = []
-meant_field (Some name) = (codes "meant", letters name) ∷ []
+meant_field (Some name) = (codes "meant", told name) ∷ []
 
 -- ---- notes
 

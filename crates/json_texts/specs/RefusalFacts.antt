@@ -1,7 +1,7 @@
 -- What JSON says of a refusal.
 use Rattle.std.specs.Prelude.{ℕ, List, [], ◌∷◌, ◌++◌, Option, Some, None, codes, length}
 use Rattle.serde_json.specs.Data.{Data}
-use Rattle.json_texts.specs.Facts.{Field, count, object_of, word}
+use Rattle.json_texts.specs.Facts.{Field, count, object_of, told, word}
 use Rattle.pram_names.specs.declared.fault.Limit.{Limit}
 use Rattle.pram_names.specs.declared.fault.Spot.{Spot}
 use Rattle.pram_names.specs.declared.fault.Spot.TheVariants as spot
@@ -38,7 +38,11 @@ reason_fields r = named (refusal_number r) ++ limit_fields (limit_of r)
 
 -- a word of the command line or a file that was refused
 abbrev pub about : Number → (name text : List ℕ) → List Field
-about n name text = (codes "refused", word (code n)) ∷ (name, word text) ∷ []
+about n name text = (codes "refused", word (code n)) ∷ (name, told text) ∷ []
+
+-- the words of the parser of command lines
+abbrev pub parsed : (text : List ℕ) → List Field
+parsed text = (codes "refused", word (code number.CommandLine)) ∷ (codes "message", word text) ∷ []
 
 abbrev pub unverified_fields : ℕ → List ℕ → List Field
 unverified_fields at reason =
@@ -66,7 +70,7 @@ told_place source refusal.OutOfReserve = None
 
 -- why a call stops, where this text was refused
 abbrev pub stop_fields : List ℕ → Stop → List Field
-stop_fields source (stop.Words message) = about number.CommandLine (codes "message") message.bytes.items
+stop_fields source (stop.Words message) = parsed message.bytes.items
 stop_fields source (stop.Number w) = about number.CommandLine (codes "word") w.now
 stop_fields source (stop.Unreadable file) = about number.UnreadableFile (codes "file") file.now
 stop_fields source (stop.Refused r) = reason_fields r ++ place_fields source (told_place source r)

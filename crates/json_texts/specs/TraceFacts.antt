@@ -1,10 +1,12 @@
 -- What JSON says of the exchanges of a run.
-use Rattle.std.specs.Prelude.{ℕ, ◌+◌, ◌-◌, List, [], ◌∷◌, ◌++◌, Option, Some, None, codes}
+use Rattle.std.specs.Prelude.{ℕ, ◌+◌, ◌-◌, Bool, true, false, List, [], ◌∷◌, ◌++◌, Option, Some, None, codes}
 use Rattle.std.specs.List.{slice_get}
 use Rattle.serde_json.specs.Data.{Data}
 use Rattle.json_texts.specs.Facts.{Field, count, counts, large, object_of, word}
 use Rattle.superstep_machine.specs.Run.{Purpose, Sends, Replies, Votes, Closes}
 use Rattle.superstep_machine.specs.Trace.{Exchange, relation_of}
+use Rattle.pram_model.specs.Layout.{SharedEntry}
+use Rattle.json_texts.specs.OutcomeFacts.{outcome_fields}
 use Rattle.write_rules.specs.Verdict.{Verdict, Ended, Faulted, GoesOn}
 
 -- what an exchange was for
@@ -48,9 +50,14 @@ abbrev pub cost_fields : Option ℕ → List Field
 cost_fields None = []
 cost_fields (Some n) = (codes "cost", large n) ∷ []
 
-abbrev pub way_facts : Verdict → (cost : Option ℕ) → Data
-way_facts v cost = object_of ((codes "outcome", word (way v)) ∷ cost_fields cost)
+-- how a run came out, and where all of its outcome is told what it printed and its memory or its fault too
+abbrev pub end_fields : (whole : Bool) → List SharedEntry → Verdict → List Field
+end_fields true layout v = outcome_fields layout v
+end_fields false layout v = (codes "outcome", word (way v)) ∷ []
+
+abbrev pub way_facts : (whole : Bool) → List SharedEntry → Verdict → (cost : Option ℕ) → Data
+way_facts whole layout v cost = object_of (end_fields whole layout v ++ cost_fields cost)
 
 -- the exchanges of a run, from number 1 on, and behind them how it came out
-abbrev pub trace_facts : (lines : List ℕ) → (cost : Option ℕ) → List Exchange → Verdict → List Data
-trace_facts lines cost es v = exchanges_from lines 1 es ++ way_facts v cost ∷ []
+abbrev pub trace_facts : (lines : List ℕ) → (whole : Bool) → List SharedEntry → (cost : Option ℕ) → List Exchange → Verdict → List Data
+trace_facts lines whole layout cost es v = exchanges_from lines 1 es ++ way_facts whole layout v cost ∷ []

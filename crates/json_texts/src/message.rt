@@ -40,7 +40,7 @@ fn point_facts(alloc: Global, name: &[u8], source: &[u8], point: Point) -> Resul
     ensures { IfOk result (λ v. view v ≡ spec.point_facts name.now source.now point) }
 {
     let mut object = Object::new(alloc);
-    object.put_letters("file", name)?;
+    object.put_told("file", name)?;
     put_point(&mut object, source, point)?;
     Ok(object.into_value())
 }
@@ -117,7 +117,7 @@ fn put_meant(object: &mut Object, meant: &Option<Vec<u8>>) -> Result<(), AllocEr
 {
     match meant {
         None => Ok(()),
-        Some(name) => object.put_letters("meant", name.as_slice()),
+        Some(name) => object.put_told("meant", name.as_slice()),
     }
 }
 

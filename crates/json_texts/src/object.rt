@@ -9,6 +9,7 @@ ghost use Rattle.json_texts.specs.Shown.{shown};
 use crate::values::{large_of, letters_of, value_of, values_of};
 use serde_json::{Map, Value, put};
 use std::alloc::{AllocError, Global};
+use text_places::escaped_name;
 
 /// An object of JSON that takes its members one after another. Where memory was refused it is as it was.
 #[derive(Drop)]
@@ -59,6 +60,17 @@ impl Object {
     {
         let text = letters_of(self.alloc, bytes)?;
         self.put(name, text)
+    }
+
+    /// The name of a file or a word of the call, escaped as in words.
+    pub fn put_told(&mut self, name: &str, text: &[u8]) -> Result<(), AllocError>
+        // The object has the escaped text under its name, and the others as before.
+        ensures ok { OnOk result (shown self.new ≡ with_member name.now (facts.told text.now) (shown self.old)) }
+        // Where memory was refused the object is as it was.
+        ensures err { OnErr result (shown self.new ≡ shown self.old) }
+    {
+        let told = escaped_name(self.alloc, text)?;
+        self.put_letters(name, told.as_slice())
     }
 
     /// A value of a program: a string, in decimal.

@@ -134,7 +134,15 @@ fn put_about(object: &mut Object, number: Number, name: &str, word: &str) -> Res
     ensures { OnOk result (shown object.new ≡ with_fields (spec.about number name.now word.now) (shown object.old)) }
 {
     object.put_word("refused", number.code())?;
-    object.put_word(name, word)
+    object.put_told(name, word.as_bytes())
+}
+
+// The words of the parser of command lines.
+fn put_parsed(object: &mut Object, text: &String) -> Result<(), AllocError>
+    ensures { OnOk result (shown object.new ≡ with_fields (spec.parsed text.now.bytes.items) (shown object.old)) }
+{
+    object.put_word("refused", Number::CommandLine.code())?;
+    object.put_word("message", text.as_str())
 }
 
 /// Why a call stops.
@@ -146,7 +154,7 @@ pub(crate) fn put_stop(
     ensures { OnOk result (shown object.new ≡ with_fields (spec.stop_fields source.now stop.now) (shown object.old)) }
 {
     match stop {
-        Stop::Words(message) => put_about(object, Number::CommandLine, "message", message.as_str()),
+        Stop::Words(message) => put_parsed(object, message),
         Stop::Number(word) => put_about(object, Number::CommandLine, "word", word),
         Stop::Unreadable(file) => put_about(object, Number::UnreadableFile, "file", file),
         Stop::Refused(refusal) => put_refusal(object, source, *refusal),

@@ -35,21 +35,21 @@ drawing_size : length drawing ≤ 8000
 drawing_size =
     let whole = length-append PLACING DRAWING in
     let a : length PLACING ≡ 1983 = refl in
-    let b : length DRAWING ≡ 3421 = refl in
+    let b : length DRAWING ≡ 3988 = refl in
     omega (arith, whole, a, b)
 
 telling_size : length telling ≤ 8000
 telling_size =
     let whole = length-append TELLING MARKING in
     let a : length TELLING ≡ 3001 = refl in
-    let b : length MARKING ≡ 3225 = refl in
+    let b : length MARKING ≡ 3228 = refl in
     omega (arith, whole, a, b)
 
 stepping_size : length stepping ≤ 8000
 stepping_size =
     let whole = length-append STEPPING GUIDING in
     let a : length STEPPING ≡ 2383 = refl in
-    let b : length GUIDING ≡ 3034 = refl in
+    let b : length GUIDING ≡ 3126 = refl in
     omega (arith, whole, a, b)
 
 front_size : length front ≤ 11000

@@ -44,7 +44,7 @@ function show_line(s) {
 ";
 
 /// The boxes of the cells, and which rows of them are seen.
-pub(crate) const DRAWING: [u8; 3421] =
+pub(crate) const DRAWING: [u8; 3988] =
     *b"// Shared memory: a box for each cell. Of a large array only the rows that a statement touches, unless all are asked for.
 var ROW = 16, FOLDED = 64, MOST_ROWS = 64, boxes = Object.create(null);
 function widen(name, text) {
@@ -102,19 +102,27 @@ function show_row(entry, i, on) {
   }
   if (entry.rows[i]) { entry.rows[i].hidden = !on; }
 }
-function show_rows(marks) {
-  var all = touched_by(marks);
+// Which rows are seen: of so many that are wanted, and the row of a fault, where it has one.
+function told_rows(entry, touched, seen, fault) {
+  var first = grouped(Math.min(entry.size, MOST_ROWS * ROW)) + (fault < MOST_ROWS ? '' : ' and the row of the fault');
+  if (entry.all) { return 'the first ' + first + ' are shown. '; }
+  if (touched === 0) { return 'this statement touches none. '; }
+  return seen < touched ? 'of the ' + grouped(touched) + ' rows that this statement touches ' + seen + ' are shown. '
+    : 'the rows that this statement touches are shown. ';
+}
+function show_rows(marks, s) {
+  var all = touched_by(marks), met = s && s.met !== undefined ? place(s.place) : null;
   known.cells.forEach(function (c) {
-    var entry = entries[c.name], touched = all[c.name], seen = 0, i, on;
+    var entry = entries[c.name], touched = all[c.name] || {}, fault = met && met.entry === entry ? Math.floor(met.at / ROW) : -1;
+    var seen = 0, i, on;
     if (entry.size <= FOLDED) { show_row(entry, 0, true); return; }
     for (i = 0; i * ROW < entry.size; i += 1) {
-      on = seen < MOST_ROWS && (entry.all || (touched !== undefined && touched[i] === true));
+      on = i === fault || (seen < MOST_ROWS && (entry.all || touched[i] === true));
       show_row(entry, i, on);
       seen += on ? 1 : 0;
     }
-    entry.told.textContent = c.name + ' has ' + grouped(entry.size) + ' cells; ' + (entry.all ? 'the first '
-      + grouped(Math.min(entry.size, MOST_ROWS * ROW)) + ' are shown. '
-      : touched ? 'the rows that this statement touches are shown. ' : 'this statement touches none. ');
+    entry.told.textContent = c.name + ' has ' + grouped(entry.size) + ' cells; '
+      + told_rows(entry, Object.keys(touched).length, seen, fault);
     entry.button.textContent = entry.all ? 'Only rows that are touched' : 'Show rows';
   });
 }

@@ -62,14 +62,16 @@ function follow() {
 ";
 
 /// What stands above the run, and the buttons and keys.
-pub(crate) const GUIDING: [u8; 3034] = *b"// What stands above the run, and the buttons and keys.
+pub(crate) const GUIDING: [u8; 3126] = *b"// What stands above the run, and the buttons and keys.
 function about() {
   var seen = [], i, from;
   for (i = 0; i < last; i = Math.max(i, from + 1)) {
     for (from = i; i < last && !steps[i].gap; i += 1) { }
     if (i > from) { seen.push(ranged(steps[from].step, steps[i - 1].step)); }
   }
-  var text = gaps.length ? 'This page has statements ' + (seen.join(' and ') || 'none') + ' of ' + grouped(total) + '.' : '';
+  var whole = grouped(total) + (total === 1 ? ' statement' : ' statements');
+  var text = !gaps.length ? '' : seen.length ? 'This page has statements ' + seen.join(' and ') + ' of ' + grouped(total) + '.'
+    : 'This page has no statement of the run, which has ' + whole + '.';
   if (gaps.some(function (s) { return !state_of(s); })) { text += ' Behind what it leaves out, a value is a ? where it is not known.'; }
   if (gaps.length && such('left_out')[0].left_out > 0) { text += ' The whole run has no room on one page.'; }
   if (!opening) { text += ' The program has no room on this page.'; }
@@ -80,8 +82,7 @@ function about() {
     document.title = known.file.replace(/^.*\\//, '') + ': a run, statement by statement';
     part('title').textContent = document.title;
   }
-  part('about').textContent = 'Rule ' + known.rule + ', ' + grouped(total) + (total === 1 ? ' statement' : ' statements')
-    + (outcome ? ', outcome: ' + outcome.outcome + '.' : '.');
+  part('about').textContent = 'Rule ' + known.rule + ', ' + whole + (outcome ? ', outcome: ' + outcome.outcome + '.' : '.');
 }
 var playing = null;
 function pause() {

@@ -58,7 +58,7 @@ function show_acts(s) {
 ";
 
 /// The cells that were read and written, the uniform variables, and the fault.
-pub(crate) const MARKING: [u8; 3225] =
+pub(crate) const MARKING: [u8; 3228] =
     *b"// The cells that were read and written, with who did, and the values before.
 function marks_of(s) {
   var marks = Object.create(null);
@@ -90,7 +90,7 @@ function show_cell(b, s, m) {
 }
 function show_memory(s) {
   var marks = marks_of(s), name;
-  show_rows(marks);
+  show_rows(marks, s);
   for (name in boxes) { if (!boxes[name].row.hidden) { show_cell(boxes[name], s, marks[name]); } }
 }
 var variables = known.variables.map(function (name) {

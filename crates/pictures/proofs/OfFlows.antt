@@ -6,6 +6,7 @@ pub mod CellValues
 pub mod ColumnLists
 pub mod Complete
 pub mod Drawn
+pub mod FaultRow
 pub mod Finished
 pub mod EachShape
 pub mod FactTexts

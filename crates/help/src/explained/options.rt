@@ -1,111 +1,97 @@
 //! What is said of all options. Made of the table of options by `gate/editors.py --write`.
 
-pub(crate) const OPTIONS: [u8; 4384] = *b"The options, and which commands take them.
+pub(crate) const OPTIONS: [u8; 4047] = *b"The options, and which commands take them.
+
+Of all:
+--help            says what there is to type
 
 All but explain:
-
---explain           explains a refusal or a fault on standard error
---help              says what there is to type
+--explain         explains a refusal or a fault on standard error
 
 All but exec and explain:
-
---size NAME=VALUE   a number for a size of the text, in place of its default
+--size NAME=VALUE a number for a size of the text, in place of its default
 
 Of check, meaning, cost, steps, rules, run, trace, explore, compare and exec:
-
---format FORMAT     how it is told: text, or json for programs that read; of
-                    check also gnu, for editors, else text
+--format FORMAT   how it is told: text, or json for programs that read; of check
+    also gnu, for editors, else text
 
 Of meaning, cost, steps, rules, run, trace, explore, compare and exec:
-
---bound N           the most statements that are run, else 1000000
+--bound N         the most statements that are run, else 1000000
 
 Of meaning, cost, steps, rules, run, trace and exec:
-
---input FILE        a file with the values of the first cells
---memory FILE       a file with values of cells by names, as a[1..4] = 4 3 2 1
---random LO..HI     draws the values of all cells from this interval
---seed S            of two draws with one seed all values are the same; 1 where
-                    none is given
+--input FILE      a file with the values of the first cells
+--memory FILE     a file with values of cells by names, as a[1..4] = 4 3 2 1
+--random LO..HI   draws the values of all cells from this interval
+--seed S          of two draws with one seed all values are the same; 1 where
+    none is given
 
 Of meaning, cost and steps:
-
---seconds S         ends a long run in about S seconds, S from 1: it is run for
-                    as many statements as there is time for
+--seconds S       ends a long run in about S seconds, S from 1: it is run for as
+    many statements as there is time for
 
 Of meaning, run and exec:
-
---show NAMES        writes these shared declarations alone, as a,b
---quiet             writes no memory
+--show NAMES      writes these shared declarations alone, as a,b
+--quiet           writes no memory
 
 Of run, trace and exec:
-
---workers P         the number of workers, 1 to 32, else 4
---map MAP           where cells lie: identity, or affine:A,B with A odd, else
-                    identity
---reserve ITEMS,EXCHANGES
-                    takes all memory first, for so many printed numbers and
-                    exchanges
+--workers P       the number of workers, 1 to 32, else 4
+--map MAP         where cells lie: identity, or affine:A,B with A odd, else
+    identity
+--reserve ITEMS,EXCHANGES takes all memory first, for so many printed numbers
+    and exchanges
 
 Of explore and compare:
-
---cells K           tries all inputs of K values, K up to 1048576; with --random
-                    draws K
---values LO..HI     the values are those of this interval, for at most 100000000
-                    inputs
---permutations K    tries all orders of the numbers 1 to K in their place, K up
-                    to 10
+--cells K         tries all inputs of K values, K up to 1048576; with --random
+    draws K
+--values LO..HI   the values are those of this interval, for at most 100000000
+    inputs
+--permutations K  tries all orders of the numbers 1 to K in their place, K up to
+    10
 
 Of compare:
-
---input FILE        tries the values of this file, and of each more that is
-                    given so
---random LO..HI     tries values of this interval, drawn for K or the common
-                    first cells
---seed S            the seed of the first, 1 where none is given; the next has
-                    the next seed
---only NAMES        compares what has these names alone, as a,output
---count C           draws so many inputs, 1 to 1000000
---time-at-most E    the most time that FILE2 may take to its end, as 40 or
-                    4*log(n)+10 of its sizes
---work-at-most E    the most work that FILE2 may take to its end, the same
+--input FILE      tries the values of this file, and of each more that is given
+    so
+--random LO..HI   tries values of this interval, drawn for K or the common first
+    cells
+--seed S          the seed of the first, 1 where none is given; the next has the
+    next seed
+--only NAMES      compares what has these names alone, as a,output
+--count C         draws so many inputs, 1 to 1000000
+--time-at-most E  the most time that FILE2 may take to its end, as 40 or
+    4*log(n)+10 of its sizes
+--work-at-most E  the most work that FILE2 may take to its end, the same
 
 Of cost:
-
---schedule P        counts the rounds on P processors too, P from 1
---workers P         tells the most words that P workers send too, P from 1
---lines             counts for each line of the program too
---sweep NAME=SIZES  counts at each size, as n=4,8,16 or n=4..64*2 or
-                    n=10..50+10; --format csv makes a table
---svg               draws time and work against the sizes of a sweep, as SVG
+--schedule P      counts the rounds on P processors too, P from 1
+--workers P       tells the most words that P workers send too, P from 1
+--lines           counts for each line of the program too
+--sweep NAME=SIZES counts at each size, as n=4,8,16 or n=4..64*2 or n=10..50+10;
+    --format csv makes a table
+--svg             draws time and work against the sizes of a sweep, as SVG
 
 Of explore:
-
---workers P         how many workers share the inputs, 1 to 32, else 1
---under RULE        tries them under this rule in place of that of the text
+--workers P       how many workers share the inputs, 1 to 32, else 1
+--under RULE      tries them under this rule in place of that of the text
 
 Of trace:
-
---lines             tells of each the line of the statement that it serves
---svg               draws them, as SVG
---outcome           tells the run's outcome behind them
---bsp G,L           tells what they cost: for each G times its h, and L
+--lines           tells of each the line of the statement that it serves
+--svg             draws them, as SVG
+--outcome         tells the run's outcome behind them
+--bsp G,L         tells what they cost: for each G times its h, and L
 
 Of steps:
-
---svg               draws them all, as SVG
---from K            the first statement that is told, counted from 1, else 1
---to K              the last statement that is told, else 4294967295
---locals            tells of variables, locals and printed numbers too
---columns           tells the column at which each statement begins too
---flow              draws the flow of data between the shared cells, as SVG
---only NAMES        tells of these cells and variables alone, as a,m, or draws
-                    these cells
---html              makes a page that steps through them all
+--svg             draws them all, as SVG
+--from K          the first statement that is told, counted from 1, else 1
+--to K            the last statement that is told, else 4294967295
+--locals          tells of variables, locals and printed numbers too
+--columns         tells the column at which each statement begins too
+--flow            draws the flow of data between the shared cells, as SVG
+--only NAMES      tells of these cells and variables alone, as a,m, or draws
+    these cells
+--html            makes a page that steps through them all
 
 Of export:
-
---listing LISTING   writes this listing of superstep code in place of a program
+--listing LISTING writes this listing of superstep code in place of a program
 
 Of --input, --memory and --random one is given; cells that get no value are 0.
 A FILE named - is standard input, once in a call.

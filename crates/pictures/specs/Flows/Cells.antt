@@ -1,6 +1,6 @@
 -- Which cells are drawn: the first of those that some statements touched.
 use Rattle.std.specs.Prelude.{ℕ, zero, suc, ◌+◌, min, nat_lt, if◌then◌else◌, List, [], ◌∷◌, ◌++◌, Option, Some, None}
-use Rattle.std.specs.Prelude.{nat_le, Bool, true, false, ◌&&◌, ◌||◌}
+use Rattle.std.specs.Prelude.{nat_le, Bool, true, false, ◌&&◌, ◌||◌, length, slice_index, slice_set}
 use Rattle.std.specs.List.{filter, flat_map, fold}
 use Rattle.pram_values.specs.declared.place.Place.{Place}
 use Rattle.pram_values.specs.declared.place.Place.TheVariants as place
@@ -65,6 +65,18 @@ abbrev pub rows_from : (more x : ℕ) → List ℕ → List ℕ
 rows_from zero x cells = []
 rows_from (suc more) x cells = with_row (least_from x cells) (λ y. rows_from more y cells)
 
--- one more than are drawn
+-- the first cells, and one more than are drawn
+abbrev pub first_rows : List CellSpan → List Entry → List ℕ
+first_rows only es = rows_from 65 0 (touched only es)
+
+-- the cell at which one of them faulted
+abbrev pub fault_cell : List CellSpan → List Entry → Option ℕ
+fault_cell only es = fold (nearer_if only 0) None (flat_map fault_cells es)
+
+-- where more cells are touched than are drawn, the cell of a fault has the last row if none of the first is its own
+abbrev pub with_fault : Option ℕ → List ℕ → List ℕ
+with_fault None rows = rows
+with_fault (Some c) rows = if nat_lt 64 (length rows) && nat_lt (slice_index rows 63) c then slice_set rows 63 c else rows
+
 abbrev pub rows_and_next : List CellSpan → List Entry → List ℕ
-rows_and_next only es = rows_from 65 0 (touched only es)
+rows_and_next only es = with_fault (fault_cell only es) (first_rows only es)

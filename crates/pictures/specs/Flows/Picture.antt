@@ -18,11 +18,18 @@ use Rattle.pictures.specs.Flows.Places.{picture_height, picture_width}
 
 -- ---- what is drawn, in words
 
+abbrev pub from_words : (from : ℕ) → Words
+from_words from = Then (Letters (codes " from ")) (Natural from)
+
+-- of none the first number alone
+abbrev pub from_to_words : (from last : ℕ) → Words
+from_to_words from last =
+    if nat_lt last from then from_words from
+    else Then (Letters (codes " from ")) (Then (Natural from) (Then (Letters (codes " to ")) (Natural last)))
+
 -- between which numbers, where not all are asked for
 abbrev pub range_words : (from to statements : ℕ) → Words
-range_words from to n =
-    if nat_le from 1 && nat_le n to then Nothing
-    else Then (Letters (codes " from ")) (Then (Natural from) (Then (Letters (codes " to ")) (Natural (min to n))))
+range_words from to n = if nat_le from 1 && nat_le n to then Nothing else from_to_words from (min to n)
 
 -- how many have no room
 abbrev pub statement_cut : (columns touching : ℕ) → Words
@@ -43,9 +50,10 @@ statement_words from to n columns touching =
 abbrev pub statement_line : (from to n columns touching : ℕ) → Shape
 statement_line from to n columns touching = Text 12 20 plain (statement_words from to n columns touching)
 
--- that more cells are touched than are drawn
+-- which cells are drawn, where more are touched too
 abbrev pub cell_cut : (found : ℕ) → List ℕ
-cell_cut found = if nat_lt 64 found then codes "the first 64 that these statements touch" else codes "those that these statements touch"
+cell_cut found =
+    if nat_lt 64 found then codes "the first that these statements touch, and that of a fault" else codes "those that these statements touch"
 
 -- that cells of some declarations alone are drawn
 abbrev pub only_words : List CellSpan → (declarations : ℕ) → Words

@@ -1,5 +1,5 @@
 -- The picture of a run's entries: a column for each statement, and a row for each processor.
-use Rattle.std.specs.Prelude.{ℕ, ◌+◌, ◌-◌, nat_eq, nat_lt, if◌then◌else◌, List, [], ◌∷◌, ℤ, length, take, drop, codes}
+use Rattle.std.specs.Prelude.{ℕ, ◌+◌, ◌-◌, nat_eq, nat_lt, ◌&&◌, if◌then◌else◌, List, [], ◌∷◌, ℤ, length, take, drop, codes}
 use Rattle.pram_model.specs.Layout.{SharedEntry}
 use Rattle.write_rules.specs.declared.fault.Fault.{Fault}
 use Rattle.journal.specs.Entries.{Entry, Ran, Faulting}
@@ -21,8 +21,13 @@ abbrev pub count_words : Part → (statements : ℕ) → Words
 count_words p n = if nat_eq p.whole n then Natural n
     else Then (Natural (p.skipped + 1)) (Then (numbered (codes " to ") (p.skipped + n)) (numbered (codes " of ") p.whole))
 
+abbrev pub some_statements : Part → (statements : ℕ) → Words
+some_statements p n = Then (Letters (codes "statements ")) (count_words p n)
+
+-- of a part that begins behind the run's end none is drawn
 abbrev pub statements_front : Part → (statements : ℕ) → Words
-statements_front p n = Then (Letters (codes "statements ")) (count_words p n)
+statements_front p n =
+    if nat_eq n 0 && nat_lt 0 p.whole then numbered (codes "no statement: the run has ") p.whole else some_statements p n
 
 -- which of them are not drawn, and how many
 abbrev pub gap_words : Part → (statements : ℕ) → Words

@@ -120,6 +120,18 @@ fn with_entry(only: &[CellSpan], start: u64, best: Option<u32>, entry: &Entry) -
     )
 }
 
+/// The cell at which one of some statements faulted.
+#[tactic(auto, using(crate::proofs::OfFlows::FaultRow::faults_taken))]
+pub(crate) fn fault_cell(only: &[CellSpan], columns: &[Column]) -> Option<u32>
+    ensures { result ≡ spec.fault_cell only.now (entries_of (map column_is columns.now)) }
+{
+    let mut cell = None;
+    for column in columns {
+        cell = with_fault(only, 0, cell, &column.entry);
+    }
+    cell
+}
+
 /// The least cell that some statements touch, from one on.
 #[tactic(auto, using(crate::proofs::OfFlows::Least::entries_taken))]
 pub(crate) fn least_from(only: &[CellSpan], start: u64, columns: &[Column]) -> Option<u32>

@@ -13,6 +13,30 @@ use pram_trees::Layout;
 use svg_texts::{Anchor, Face, close_text, open_label};
 use text_out::{Out, WriteFault};
 
+fn write_from<W: Out>(out: &mut W, from: usize) -> Result<(), WriteFault>
+    ensures written { Writes (W.Out.state out.old) (W.Out.state out.new) (words_text (spec.from_words from)) result }
+{
+    let mut first = Buffer::new();
+    out.write_parts(&[b" from ", first.format(from).as_bytes()])
+}
+
+// Of none the first number is told alone.
+fn write_from_to<W: Out>(out: &mut W, from: usize, last: usize) -> Result<(), WriteFault>
+    ensures written { Writes (W.Out.state out.old) (W.Out.state out.new) (words_text (spec.from_to_words from last)) result }
+{
+    if last < from {
+        return write_from(out, from);
+    }
+    let mut first = Buffer::new();
+    let mut second = Buffer::new();
+    out.write_parts(&[
+        b" from ",
+        first.format(from).as_bytes(),
+        b" to ",
+        second.format(last).as_bytes(),
+    ])
+}
+
 // Between which numbers, where not all are asked for.
 fn write_range<W: Out>(
     out: &mut W,
@@ -25,14 +49,7 @@ fn write_range<W: Out>(
     if from <= 1 && statements <= to {
         return Ok(());
     }
-    let mut first = Buffer::new();
-    let mut last = Buffer::new();
-    out.write_parts(&[
-        b" from ",
-        first.format(from).as_bytes(),
-        b" to ",
-        last.format(to.min(statements)).as_bytes(),
-    ])
+    write_from_to(out, from, to.min(statements))
 }
 
 // How many have no room.
@@ -104,12 +121,12 @@ fn write_statement_line<W: Out>(
     close_text(out)
 }
 
-// That more cells are touched than are drawn.
+// Which cells are drawn, where more are touched too.
 fn cell_cut(found: usize) -> &'static [u8]
     ensures { result.now ≡ spec.cell_cut found }
 {
     if found > 64 {
-        b"the first 64 that these statements touch"
+        b"the first that these statements touch, and that of a fault"
     } else {
         b"those that these statements touch"
     }

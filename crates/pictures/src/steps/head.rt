@@ -34,6 +34,18 @@ fn write_count<W: Out>(out: &mut W, part: Part, statements: usize) -> Result<(),
     }
 }
 
+fn write_some_statements<W: Out>(
+    out: &mut W,
+    part: Part,
+    statements: usize,
+) -> Result<(), WriteFault>
+    ensures written { Writes (W.Out.state out.old) (W.Out.state out.new) (words_text (spec.some_statements part statements)) result }
+{
+    out.write_all(b"statements ")?;
+    write_count(out, part, statements)
+}
+
+// Of a part that begins behind the run's end none is drawn.
 fn write_statements_front<W: Out>(
     out: &mut W,
     part: Part,
@@ -41,8 +53,11 @@ fn write_statements_front<W: Out>(
 ) -> Result<(), WriteFault>
     ensures written { Writes (W.Out.state out.old) (W.Out.state out.new) (words_text (spec.statements_front part statements)) result }
 {
-    out.write_all(b"statements ")?;
-    write_count(out, part, statements)
+    if statements == 0 && part.whole > 0 {
+        write_numbered(out, b"no statement: the run has ", part.whole as u128)
+    } else {
+        write_some_statements(out, part, statements)
+    }
 }
 
 // Which of them are not drawn.

@@ -6,7 +6,7 @@ use Rattle.json_texts.proofs.trace.json_trace.Goals as goal
 
 pub returns : goal.returns
 returns c =
-    let way = way_facts (verdict_of c.args.outcome.now) c.args.cost ∷ [] in
+    let way = way_facts c.args.whole c.args.layout.now (verdict_of c.args.outcome.now) c.args.cost ∷ [] in
     record {
       json = adds_then (exchanges_from c.args.lines.now 1 c.args.counts.now) way [] _ _ c.in_ok-text.ensures.json
           c.in_ok-push_way.ensures.json;

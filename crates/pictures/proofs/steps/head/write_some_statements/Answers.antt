@@ -3,7 +3,7 @@ use Rattle.std.specs.Prelude.{codes}
 use Rattle.svg_texts.specs.Shapes.{words_text}
 use Rattle.pictures.specs.Steps.Picture.{count_words}
 use Rattle.text_out.proofs.Progress.{breaks_off, closes, goes_on, starts}
-use Rattle.pictures.proofs.steps.head.write_statements_front.Goals as goal
+use Rattle.pictures.proofs.steps.head.write_some_statements.Goals as goal
 
 pub returns-in_err-write_all : goal.returns-in_err-write_all
 returns-in_err-write_all g c =
