@@ -17,7 +17,7 @@ use Rattle.flat_run.specs.RunViews.{AreSameStates, led, is_going}
 use Rattle.flat_run.proofs.SameLemmas.{same_itself, same_on, same_after_instr, same_after_send, same_after_reply, same_after_vote}
 
 -- a branch with nothing on either side
-pub nothing_either_way : {X : Type 0} (b : Bool) → cond b ([] {A = X}) [] ≡ []
+pub nothing_either_way : {X : Type 0} (b : Bool) → ◌≡◌ {A = List X} (cond b [] []) []
 nothing_either_way true = refl
 nothing_either_way false = refl
 
