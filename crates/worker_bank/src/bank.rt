@@ -10,13 +10,13 @@ use std::alloc::{AllocError, Global};
 
 /// The registers and masks of a worker's processors: for each register a column with a value for
 /// each processor, one more column to write to, the processors' numbers, and the masks. A column
-/// that is stale was left over from the range before, and counts as zeros.
+/// with a constant has that value throughout, whatever stands in it.
 #[derive(Drop)]
 pub struct Bank {
     pub worker: u32,
     pub workers: u32,
     pub columns: Vec<Vec<i64>>,
-    pub stale: Vec<bool>,
+    pub constants: Vec<Option<i64>>,
     pub spare: Vec<i64>,
     pub numbers: Vec<i64>,
     pub masks: Masks,
@@ -47,6 +47,17 @@ fn columns(alloc: Global, registers: u32, most: u32) -> Result<Vec<Vec<i64>>, Al
     Ok(all)
 }
 
+// So many columns of zeros.
+fn zeros(alloc: Global, registers: u32) -> Result<Vec<Option<i64>>, AllocError>
+    ensures count { IfOk result (λ all. length all.items ≡ registers) }
+{
+    let mut all = Vec::with_capacity(alloc, registers as usize)?;
+    for r in 0..registers {
+        all.push(Some(0))?;
+    }
+    Ok(all)
+}
+
 impl Bank {
     /// A bank for so many registers, at most so many processors, and so many masks, of one of the
     /// workers; it has no processors yet. All memory is asked for here: the error comes where it
@@ -70,7 +81,7 @@ impl Bank {
         ensures worker { IfOk result (λ b. (b.worker ≡ worker) × (b.workers ≡ workers)) }
     {
         let columns = columns(alloc, registers, most)?;
-        let stale = vec![in alloc; true; registers as usize]?;
+        let constants = zeros(alloc, registers)?;
         let spare = vec![in alloc; 0; most as usize]?;
         let numbers = numbers(alloc, most, worker, workers)?;
         let masks = Masks::new(alloc, most, masks)?;
@@ -78,7 +89,7 @@ impl Bank {
             worker,
             workers,
             columns,
-            stale,
+            constants,
             spare,
             numbers,
             masks,

@@ -1,6 +1,6 @@
 //! What the instructions on masks and ranges do to a worker's processors.
 
-ghost use Rattle.std.specs.Prelude.{◌≡◌, ◌<◌, ◌≤◌, ◌+◌, [], ℕ, length, true, slice_index_or};
+ghost use Rattle.std.specs.Prelude.{◌≡◌, ◌<◌, ◌≤◌, ◌+◌, [], ℕ, Some, pos, length, slice_index_or};
 ghost use Rattle.superstep_instructions.specs.Code.{SuperstepCode};
 ghost use Rattle.superstep_instructions.specs.declared.instr.Instr.TheVariants as instr_is;
 ghost use Rattle.superstep_machine.specs.Parts.{UniformPart, fresh};
@@ -8,13 +8,13 @@ ghost use Rattle.worker_bank.specs.Bank.{part_at, IsAfter, IsBank, IsSameBank};
 
 use crate::bank::Bank;
 
-// Every column is stale.
-fn spoil(stale: &mut [bool])
-    ensures each { (r : ℕ) → r < length stale.old → slice_index_or stale.new r true ≡ true }
-    ensures count { length stale.new ≡ length stale.old }
+// Every column has zeros.
+fn zero(constants: &mut [Option<i64>])
+    ensures each { (r : ℕ) → r < length constants.old → slice_index_or constants.new r (Some (pos 0)) ≡ Some (pos 0) }
+    ensures count { length constants.new ≡ length constants.old }
 {
-    for r in 0..stale.len() {
-        stale[r] = true;
+    for r in 0..constants.len() {
+        constants[r] = Some(0);
     }
 }
 
@@ -75,7 +75,7 @@ impl Bank {
         ensures many { self.new.masks.many ≡ many }
         ensures same { IsSameBank self.old self.new }
     {
-        spoil(self.stale.as_mut_slice());
+        zero(self.constants.as_mut_slice());
         self.masks.open(many);
     }
 
