@@ -1,7 +1,7 @@
 -- Formulas that may be told, and the equations of their terms.
 use Rattle.std.proofs.lemmas.Bool.{cases_eq}
 use Rattle.std.proofs.Common.{◌≡◌, ◌≢◌, ◌⊎◌, inl, inr, ℕ, ◌+◌, ◌*◌, ◌<◌, ◌≤◌, List, All, ℤ, pos, negsuc, ◌+ℤ◌}
-use Rattle.std.proofs.Common.{refl, sym, ap, ◌∙◌, arith, subst, Option, Some, None, Bool, true, false, ◌==◌}
+use Rattle.std.proofs.Common.{get_or, refl, sym, ap, ◌∙◌, arith, subst, Option, Some, None, Bool, true, false, ◌==◌}
 use Rattle.std.specs.Prelude.{MatchOption, if◌then◌else◌, unsigned_abs}
 use Rattle.std.proofs.lemmas.Int.{ints}
 use Rattle.std.proofs.lemmas.Bool.Decides.{nat_tests}
@@ -12,7 +12,7 @@ use Rattle.sweeps.specs.declared.term.Term.TheVariants.{Constant, Logarithm, Lin
 use Rattle.sweeps.specs.Choices.{chosen, chosen_count}
 use Rattle.sweeps.specs.Echelons.{IsDependent, IsOfChoice, SolveFirst, Solves}
 use Rattle.sweeps.specs.Equations.{Vector, dot, row_entry, vector}
-use Rattle.sweeps.specs.Formulas.{counted, term_count, value}
+use Rattle.sweeps.specs.Formulas.{IsLogFor, counted, term_count, value}
 use Rattle.sweeps.specs.Solutions.{HasSmall}
 use Rattle.sweeps.specs.Tables.{Fits, HasTermsOf, IsCandidate, IsDetermined, IsNotAfter, term_set}
 use Rattle.sweeps.proofs.Eliminations.{times_nothing}
@@ -109,9 +109,19 @@ not_determined table set d g candidate same =
         let v = candidate.explains.fits k row less in
         record {
           log = v.log;
-          is_log = v.is_log;
-          is = moved_value g z _ v.log _ v.is (d.rows k row less v.log v.is_log) d.last;
+          is_log = moved_log v.log v.is_log;
+          is = moved_value g z _ v.log _ v.is (d.rows k row less v.log (apart_log v.log v.is_log)) d.last;
         }
+      where
+        moved_log : (log : ℕ) → IsLogFor g.logarithm g.linearithmic (get_or table k row).size log →
+            IsLogFor (g.logarithm +ℤ z 1) (g.linearithmic +ℤ z 3) (get_or table k row).size log
+        moved_log log (inl is) = inl is
+        moved_log log (inr gone) = inr (terms Logarithm gone.0, terms Linearithmic gone.1)
+
+        apart_log : (log : ℕ) → IsLogFor g.logarithm g.linearithmic (get_or table k row).size log →
+            IsLogFor (z 1) (z 3) (get_or table k row).size log
+        apart_log log (inl is) = inl is
+        apart_log log (inr gone) = inr (none 1 (omega arith) gone.0, none 3 (omega arith) gone.1)
 
     left : (a b : ℤ) → a +ℤ b ≡ a → b ≡ pos 0
     left a b x = omega (arith, ints, x)

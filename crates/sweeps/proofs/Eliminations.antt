@@ -14,7 +14,7 @@ use Rattle.sweeps.specs.declared.equation.Equation.{Equation}
 use Rattle.sweeps.specs.declared.row.Row.{Row}
 use Rattle.sweeps.specs.Echelons.{BeginsAt, MaySolve, SolveFirst, Solves}
 use Rattle.sweeps.specs.Equations.{Vector, bits, crossed, dot, entry, entry_at, row_entry, unit_entry}
-use Rattle.sweeps.specs.Formulas.{IsLog}
+use Rattle.sweeps.specs.Formulas.{IsLogFor}
 use Rattle.sweeps.proofs.Linear.{dot_crossed, dot_same}
 use Rattle.sweeps.proofs.Ring.{mul_comm, no_factor}
 
@@ -68,12 +68,6 @@ solved_before e column z zeros here behind = dot_nothing 6 (entry e) z (λ i les
     by i less (inr low) (inl same) = inl (ap (entry e) same ∙ here)
     by i less (inr low) (inr differ) = inl (zeros i (omega (arith, low, differ)))
 
--- the equation of a row and its entries
-pub of_row_dot : (e : Equation) (row : Row) (log : ℕ) (z : Vector) →
-    ((i : ℕ) → i < 6 → entry e i ≡ row_entry row.size log row.number i) →
-    dot 6 (entry e) z ≡ dot 6 (row_entry row.size log row.number) z
-of_row_dot e row log z is = dot_same 6 (entry e) (row_entry row.size log row.number) z is
-
 -- the test of an entry
 pub zero_entry : (e : Equation) (column : ℕ) (w : Wide) (r : Bool) → w ≡ entry_at e column →
     IsTrue r ↔ (number w.plus ≡ number w.minus) → IsTrue r ↔ (entry e column ≡ pos 0)
@@ -84,20 +78,20 @@ zero_entry e column w r at is =
 
 -- the row of an equation that begins at a column
 pub row_begins : (e left : Equation) (row : Row) (column : ℕ) (ps : List Equation) →
-    ((log : ℕ) → IsLog row.size log → (i : ℕ) → i < 6 → entry e i ≡ row_entry row.size log row.number i) →
+    ((z : Vector) (log : ℕ) → IsLogFor (z 1) (z 3) row.size log → dot 6 (entry e) z ≡ dot 6 (row_entry row.size log row.number) z) →
     ((z : Vector) → SolveFirst ps column z → (dot 6 (entry e) z ≡ pos 0) ↔ (dot 6 (entry left) z ≡ pos 0)) →
     (z : Vector) → SolveFirst ps column z → Solves z row → dot 6 (entry left) z ≡ pos 0
 row_begins e left row column ps of_row same z first solves =
-    (same z first).0 (of_row_dot e row solves.log z (of_row solves.log solves.is_log) ∙ solves.is)
+    (same z first).0 (of_row z solves.log solves.is_log ∙ solves.is)
 
 -- a row whose equation begins behind the column
 pub row_passed : (e left : Equation) (row : Row) (column : ℕ) (ps : List Equation) →
-    ((log : ℕ) → IsLog row.size log → (i : ℕ) → i < 6 → entry e i ≡ row_entry row.size log row.number i) →
+    ((z : Vector) (log : ℕ) → IsLogFor (z 1) (z 3) row.size log → dot 6 (entry e) z ≡ dot 6 (row_entry row.size log row.number) z) →
     ((z : Vector) → SolveFirst ps column z → (dot 6 (entry e) z ≡ pos 0) ↔ (dot 6 (entry left) z ≡ pos 0)) →
     ((i : ℕ) → i < column → entry left i ≡ pos 0) → entry left column ≡ pos 0 →
     (z : Vector) → SolveFirst ps column z → ((i : ℕ) → i < 6 → column < i → z i ≡ pos 0) → MaySolve z row
 row_passed e left row column ps of_row same zeros here z first behind log is =
-    sym (of_row_dot e row log z (of_row log is)) ∙ (same z first).1 (solved_before left column z zeros here behind)
+    sym (of_row z log is) ∙ (same z first).1 (solved_before left column z zeros here behind)
 
 -- the equation of one column
 pub unit_begins : (e : Equation) (column : ℕ) → column < 5 → ((i : ℕ) → i < 6 → entry e i ≡ unit_entry column i) →

@@ -1,13 +1,15 @@
 -- The entries of an equation, one by one.
 use Rattle.std.proofs.Common.{length, get_or, set, ◌≡◌, ℕ, ◌<◌, ◌≤◌, ◌*◌, ◌^◌, ◌+◌}
-use Rattle.std.proofs.Common.{List, [], ◌∷◌, refl, arith, subst, sym, suc, ◌⊎◌, inl, inr}
+use Rattle.std.proofs.Common.{List, [], ◌∷◌, refl, arith, subst, sym, suc, pos, ◌⊎◌, inl, inr}
 use Rattle.sweeps.specs.declared.wide.Wide.{Wide}
-use Rattle.sweeps.specs.Equations.{Vector, entry, entry_at}
+use Rattle.sweeps.specs.Equations.{Vector, dot, entry, entry_at, row_entry}
 use Rattle.std.proofs.lemmas.Grind.{get_or-set_at}
 use Rattle.std.proofs.lemmas.List.{get_or-set_other}
 use Rattle.std.proofs.lemmas.Bool.{cases_eq}
+use Rattle.std.proofs.lemmas.Int.{ints}
 use Rattle.sweeps.specs.Formulas.{IsLog}
 use Rattle.sweeps.specs.Wides.{IsWithin, integer}
+use Rattle.sweeps.proofs.Eliminations.{times_nothing}
 use Rattle.sweeps.proofs.Sizes.{below_6}
 use Rattle.std.proofs.Math.Nat.{pow-le-pow_right, one-le-pow}
 
@@ -29,6 +31,15 @@ pub one_log : (n a b : ℕ) → IsLog n a → IsLog n b → a ≡ b
 one_log n a b x y =
     let first : ¬ (b < a) = not_less n a b x.reached y.next in
     let second : ¬ (a < b) = not_less n b a y.reached x.next in omega (arith, first, second)
+
+-- the logarithm doesn't count where its terms are left out
+pub no_log : (n a b v : ℕ) (z : Vector) → z 1 ≡ pos 0 → z 3 ≡ pos 0 → dot 6 (row_entry n a v) z ≡ dot 6 (row_entry n b v) z
+no_log n a b v z first third =
+    let x = times_nothing (pos a) (z 1) first in
+    let y = times_nothing (pos b) (z 1) first in
+    let u = times_nothing (pos (n * a)) (z 3) third in
+    let w = times_nothing (pos (n * b)) (z 3) third in
+    omega (arith, ints, x, y, u, w)
 
 pub logged : (n a : ℕ) → IsLog n a → 0 < n
 logged n a is = let h = one-le-pow a 2 (omega arith) in let r = is.reached in omega (arith, h, r)

@@ -7,11 +7,11 @@ use Rattle.sweeps.specs.declared.equation.Equation.{Equation}
 use Rattle.sweeps.specs.declared.formula.Formula.{Formula}
 use Rattle.sweeps.specs.declared.row.Row.{Row}
 use Rattle.sweeps.specs.declared.wide.Wide.{Wide}
-use Rattle.sweeps.specs.Equations.{dot, entry, row_entry, vector}
-use Rattle.sweeps.specs.Formulas.{IsLog, IsValue, value}
+use Rattle.sweeps.specs.Equations.{Vector, dot, entry, row_entry, vector}
+use Rattle.sweeps.specs.Formulas.{HasValue, IsLog, IsLogFor, IsValue, value}
 use Rattle.sweeps.specs.Naturals.{number}
 use Rattle.sweeps.specs.Wides.{integer}
-use Rattle.sweeps.proofs.Linear.{dot_same, dot_vectors}
+use Rattle.sweeps.proofs.Linear.{dot_vectors}
 use Rattle.sweeps.proofs.Ring.{mul_comm}
 
 -- each number but 0 has a logarithm
@@ -28,6 +28,11 @@ has_log (suc (suc n)) some =
         let x = is.next in
         (suc log, record { reached = omega (arith, p, more); next = omega (arith, p, x) })
 
+-- a formula is something at each size but 0, and at 0 where it has no term with a logarithm
+pub has_value : (f : Formula) (n : ℕ) → (0 < n) ⊎ ((f.logarithm ≡ pos 0) × (f.linearithmic ≡ pos 0)) → HasValue f n
+has_value f n (inl some) = let h = has_log n some in (h.0, inl h.1)
+has_value f n (inr none) = (0, inr none)
+
 row_is : (f : Formula) (n log v : ℕ) → (dot 6 (row_entry n log v) (vector f) ≡ pos 0) ↔ (pos v ≡ value f n log)
 row_is f n log v =
     let a = mul_comm (pos log) f.logarithm in
@@ -36,13 +41,12 @@ row_is f n log v =
     let d = mul_comm (pos (n * n)) f.square in
     (λ is. omega (arith, ints, is, a, b, c, d), λ is. omega (arith, ints, is, a, b, c, d))
 
-pub gives_is : (f : Formula) (row : Row) (x y : Equation) (sum : Wide) (r : Bool) → 0 < row.size →
-    ((log : ℕ) → IsLog row.size log → (i : ℕ) → i < 6 → entry x i ≡ row_entry row.size log row.number i) →
+pub gives_is : (f : Formula) (row : Row) (x y : Equation) (sum : Wide) (r : Bool) → HasValue f row.size →
+    ((z : Vector) (log : ℕ) → IsLogFor (z 1) (z 3) row.size log → dot 6 (entry x) z ≡ dot 6 (row_entry row.size log row.number) z) →
     ((i : ℕ) → i < 6 → entry y i ≡ vector f i) → integer sum ≡ dot 6 (entry x) (entry y) →
     IsTrue r ↔ (number sum.plus ≡ number sum.minus) → IsTrue r ↔ IsValue f row.size (pos row.number)
-gives_is f row x y sum r some of_row of_formula is tested = (
+gives_is f row x y sum r l of_row of_formula is tested = (
   λ so.
-      let l = has_log row.size some in
       let h = tested.0 so in
       let w = whole l.0 l.1 in
       let z : dot 6 (row_entry row.size l.0 row.number) (vector f) ≡ pos 0 = omega (arith, ints, w, h) in
@@ -53,7 +57,6 @@ gives_is f row x y sum r some of_row of_formula is tested = (
       tested.1 (omega (arith, ints, w, z)),
 )
   where
-    whole : (log : ℕ) → IsLog row.size log → integer sum ≡ dot 6 (row_entry row.size log row.number) (vector f)
+    whole : (log : ℕ) → IsLogFor f.logarithm f.linearithmic row.size log → integer sum ≡ dot 6 (row_entry row.size log row.number) (vector f)
     whole log is_log =
-        is ∙ dot_same 6 (entry x) (row_entry row.size log row.number) (entry y) (of_row log is_log)
-        ∙ dot_vectors 6 (row_entry row.size log row.number) (entry y) (vector f) of_formula
+        is ∙ dot_vectors 6 (entry x) (entry y) (vector f) of_formula ∙ of_row (vector f) log is_log

@@ -4,17 +4,17 @@ use Rattle.sweeps.specs.declared.equation.Equation.{Equation}
 use Rattle.sweeps.specs.declared.row.Row.{Row}
 use Rattle.sweeps.specs.Choices.{chosen}
 use Rattle.sweeps.specs.Equations.{IsBounded, Vector, dot, entry, row_entry}
-use Rattle.sweeps.specs.Formulas.{IsLog}
+use Rattle.sweeps.specs.Formulas.{IsLogFor}
 
 -- numbers for the coefficients solve the equation of a row
 pub record Solves (z : Vector) (row : Row) : Type 0 where
   pub log : ℕ
-  pub is_log : IsLog row.size log
+  pub is_log : IsLogFor (z 1) (z 3) row.size log
   pub is : dot 6 (row_entry row.size log row.number) z ≡ pos 0
 
--- the same, where the row has a logarithm
+-- the same, where the row has a logarithm or none is asked for
 abbrev pub MaySolve : Vector → Row → Type 0
-MaySolve z row = (log : ℕ) → IsLog row.size log → dot 6 (row_entry row.size log row.number) z ≡ pos 0
+MaySolve z row = (log : ℕ) → IsLogFor (z 1) (z 3) row.size log → dot 6 (row_entry row.size log row.number) z ≡ pos 0
 
 abbrev pub no_entries : Equation
 no_entries = record { entries = [] }

@@ -1,5 +1,5 @@
 -- Formulas in the size n: their values and their terms.
-use Rattle.std.specs.Prelude.{◌≡◌, ◌+◌, ◌*◌, ◌^◌, ◌≤◌, ◌<◌, ◌==◌, ℕ, ℤ, pos, ◌+ℤ◌, ◌*ℤ◌, if◌then◌else◌, unsigned_abs}
+use Rattle.std.specs.Prelude.{◌≡◌, ◌⊎◌, ◌+◌, ◌*◌, ◌^◌, ◌≤◌, ◌<◌, ◌==◌, ℕ, ℤ, pos, ◌+ℤ◌, ◌*ℤ◌, if◌then◌else◌, unsigned_abs}
 use Rattle.sweeps.specs.declared.formula.Formula.{Formula}
 use Rattle.sweeps.specs.declared.term.Term.{Term}
 use Rattle.sweeps.specs.declared.term.Term.TheVariants.{Constant, Logarithm, Linear, Linearithmic, Square}
@@ -9,6 +9,10 @@ pub record IsLog (n log : ℕ) : Type 0 where
   pub reached : 2 ^ log ≤ n
   pub next : n < 2 * 2 ^ log
 
+-- log is the logarithm of n, or the terms log n and n log n, which have these coefficients, are left out: 0 has no logarithm
+abbrev pub IsLogFor : (logarithm linearithmic : ℤ) → (n log : ℕ) → Type 0
+IsLogFor logarithm linearithmic n log = IsLog n log ⊎ ((logarithm ≡ pos 0) × (linearithmic ≡ pos 0))
+
 -- what the formula comes to where log n is log
 abbrev pub value : Formula → (n log : ℕ) → ℤ
 value f n log =
@@ -17,8 +21,12 @@ value f n log =
 -- the formula is v at n
 pub record IsValue (f : Formula) (n : ℕ) (v : ℤ) : Type 0 where
   pub log : ℕ
-  pub is_log : IsLog n log
+  pub is_log : IsLogFor f.logarithm f.linearithmic n log
   pub is : v ≡ value f n log
+
+-- the formula is something at n
+abbrev pub HasValue : Formula → (n : ℕ) → Type 0
+HasValue f n = (log : ℕ) × IsLogFor f.logarithm f.linearithmic n log
 
 abbrev pub coefficient : Formula → Term → ℤ
 coefficient f Constant = f.constant

@@ -65,8 +65,9 @@ TellsFirst (ByFormula f) table = IsFirst f table
 TellsFirst (Doubling step) table = HasNoFormula table
 TellsFirst Nothing table = HasNoFormula table
 
--- b has twice the size of a, and a number that is greater by the step
+-- b has twice the size of a, which is not 0, and a number that is greater by the step
 pub record Doubles (step : ℤ) (a b : Row) : Type 0 where
+  pub some : 0 < a.size
   pub size : b.size ≡ a.size * 2
   pub number : pos b.number ≡ pos a.number +ℤ step
 

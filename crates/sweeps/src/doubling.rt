@@ -1,16 +1,16 @@
 //! Numbers that grow by one step at each doubling of the size.
 
-ghost use Rattle.std.specs.Prelude.{◌≡◌, ◌↔◌, ◌*◌, ◌+ℤ◌, ℤ, pos, IsTrue, IfSome, IfNone, FitsSigned};
+ghost use Rattle.std.specs.Prelude.{◌≡◌, ◌↔◌, ◌*◌, ◌<◌, ◌+ℤ◌, ℤ, pos, IsTrue, IfSome, IfNone, FitsSigned};
 ghost use Rattle.std.specs.Int.{w128};
 ghost use Rattle.sweeps.specs.Tables.{Doubles, GrowsBy};
 
 use crate::row::Row;
 
-// Whether a size is twice another one.
+// Whether a size is twice another one, which is not 0.
 fn is_twice(size: u64, half: u64) -> bool
-    ensures { IsTrue result ↔ (size ≡ half * 2) }
+    ensures { IsTrue result ↔ ((0 < half) × (size ≡ half * 2)) }
 {
-    size % 2 == 0 && size / 2 == half
+    half > 0 && size % 2 == 0 && size / 2 == half
 }
 
 // Whether a number is another one and the step.
@@ -23,7 +23,7 @@ fn is_stepped(number: u128, before: u128, step: i128) -> bool
     }
 }
 
-// Whether a row has twice the size of the one before, and a number that is greater by the step.
+// Whether a row has twice the size of the one before, which is not 0, and a number that is greater by the step.
 fn doubles(step: i128, before: Row, row: Row) -> bool
     ensures { IsTrue result ↔ Doubles step before row }
 {

@@ -1,8 +1,8 @@
 //! A row as an equation for the coefficients.
 
 ghost use Rattle.std.specs.Prelude.{◌≡◌, ◌<◌, ◌+◌, ◌*◌, ℕ, ℤ, IsTrue};
-ghost use Rattle.sweeps.specs.Equations.{IsBounded, bits, crossed, dot, entry, entry_at, row_entry, unit_entry, vector};
-ghost use Rattle.sweeps.specs.Formulas.{IsLog};
+ghost use Rattle.sweeps.specs.Equations.{IsBounded, Vector, bits, crossed, dot, entry, entry_at, row_entry, unit_entry, vector};
+ghost use Rattle.sweeps.specs.Formulas.{IsLog, IsLogFor};
 ghost use Rattle.sweeps.specs.Naturals.{limit, number};
 ghost use Rattle.sweeps.specs.Wides.{IsWithin, integer};
 
@@ -66,6 +66,8 @@ impl Equation {
     pub(crate) fn of_row(row: &Row) -> Equation
         ensures entries { (log : ℕ) → IsLog row.now.size log → (i : ℕ) → i < 6 → entry result i ≡ row_entry row.now.size log
             row.now.number i }
+        ensures sum { (z : Vector) (log : ℕ) → IsLogFor (z 1) (z 3) row.now.size log →
+            dot 6 (entry result) z ≡ dot 6 (row_entry row.now.size log row.now.number) z }
         ensures bounded { IsBounded 0 result }
     {
         let log = log_of(row.size);

@@ -65,8 +65,8 @@ fn first_formula(table: &[Row]) -> Option<Formula>
 
 /// How the numbers of a table grow with its sizes. A formula is told that gives the number at each size, where there are at least two more
 /// different sizes than terms, and where no other formula of its terms does: the first by fewest terms, and among as many those that grow
-/// slower. Else, where each of three sizes or more is twice the one before, and the numbers grow by one step, that step. It claims nothing
-/// of other sizes.
+/// slower. Where a size is 0, which has no logarithm, it has no term with log n. Else, where each of three sizes or more is twice the one
+/// before, and the numbers grow by one step, that step. It claims nothing of other sizes.
 pub fn fit(table: &[Row]) -> Growth
     // A formula that is told gives the table's number at each size, with at least two terms fewer than different sizes;
     // a step is the difference at each doubling.

@@ -2,19 +2,26 @@
 
 ghost use Rattle.std.specs.Prelude.{◌≡◌, ◌↔◌, ◌==◌, pos, IsTrue};
 ghost use Rattle.std.specs.List.{list_any};
-ghost use Rattle.sweeps.specs.Formulas.{IsValue};
+ghost use Rattle.sweeps.specs.Formulas.{HasValue, IsValue};
 ghost use Rattle.sweeps.specs.Tables.{Explains, Fits, has_size, size_count};
 
 use crate::equation::Equation;
 use crate::formula::Formula;
 use crate::row::Row;
 
+// Whether the formula is something at a size: 0 has no logarithm.
+fn has_value(formula: &Formula, size: u64) -> bool
+    ensures { IsTrue result ↔ HasValue formula.now size }
+{
+    size > 0 || (formula.logarithm == 0 && formula.linearithmic == 0)
+}
+
 // Whether the formula gives the number of the row.
 fn gives(formula: &Formula, row: &Row) -> bool
     ensures { IsTrue result ↔ IsValue formula.now row.now.size (pos row.now.number) }
 {
     let sum = Equation::of_row(row).sum(&Equation::of_formula(formula));
-    row.size > 0 && sum.is_zero()
+    has_value(formula, row.size) && sum.is_zero()
 }
 
 // Whether the formula gives the number at each size.

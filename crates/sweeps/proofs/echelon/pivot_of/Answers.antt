@@ -17,7 +17,7 @@ returns-then-not-is_zero c =
         zeros = c.reduced-left.ensures.zeros;
       },
       λ z first all.
-          row_begins c.of_row.result left row c.args.column c.args.pivots.now c.of_row.ensures.entries c.reduced-left.ensures.same z first
+          row_begins c.of_row.result left row c.args.column c.args.pivots.now c.of_row.ensures.sum c.reduced-left.ensures.same z first
           (all c.loop-row.row-index (record { size = 0; number = 0 }) c.loop-row-test.true),
     )
 
@@ -37,5 +37,5 @@ loop-row-preserved c z first behind k d less =
     let nothing : Row = record { size = 0; number = 0 } in
     let row = get_or c.args.table.now c.loop-row.row-index nothing in
     more (MaySolve z) c.args.table.now c.loop-row.row-index k d nothing c.loop-row-test.true less (c.loop-row.invariant z first behind)
-    (row_passed c.of_row.result left row c.args.column c.args.pivots.now c.of_row.ensures.entries c.reduced-left.ensures.same
+    (row_passed c.of_row.result left row c.args.column c.args.pivots.now c.of_row.ensures.sum c.reduced-left.ensures.same
     c.reduced-left.ensures.zeros (tested.0 (is_true c.is_zero.result c.if-not-is_zero.false)) z first behind)
