@@ -1,6 +1,6 @@
 //! Runs that never end.
 
-ghost use Rattle.std.specs.Prelude.{◌≡◌, Some};
+ghost use Rattle.std.specs.Prelude.{◌≡◌, ◌≤◌, Some};
 ghost use Rattle.endless_runs.specs.Endless.{HasCycle, NeverEnds};
 
 use crate::cycle::Cycle;
@@ -12,11 +12,28 @@ use pram_meaning::interpreter::Interpreter;
 use pram_meaning::open;
 use std::alloc::Global;
 
+// How many cells and processors may be gone through beyond the bound, in all statements together.
+const ROOM: u32 = 1_000_000;
+
+// How many statements a search goes beyond its bound, at the least and at the most.
+const LEAST_BEYOND: u32 = 32;
+const MOST_BEYOND: u32 = 65_536;
+
+// How many statements are searched of a run within a bound: some more, of a large program fewer of these. A state that came back just
+// before the bound is found by going on.
+fn searched(program: &Program, bound: u32) -> u32
+    ensures { bound ≤ result }
+{
+    let size = program.layout().cells().saturating_add(program.procs());
+    let beyond = (ROOM / size.max(1)).max(LEAST_BEYOND).min(MOST_BEYOND);
+    bound.saturating_add(beyond)
+}
+
 /// A loop outside pardo that comes back, on an input, to the state that it had: then the run never ends, and its outcome is within every
-/// bound that it goes on. Its line is told, and how many statements run from the one state to the other. `bound` statements are searched at
-/// most, by running them; two states of a loop are compared by its cells and its uniform variables, of which one is kept each time that the
-/// loop has run twice as many statements. The watch is told how far the search is. None where nothing is known: there is no such loop or it
-/// comes later, the run ends or faults, there are more values than cells, or memory was refused.
+/// bound that it goes on. Its line is told, and how many statements run from the one state to the other. `bound` statements and some more
+/// are searched at most, by running them. Two states of a loop are compared by its cells and its uniform variables. Its first one is kept,
+/// and another one each time that the run has twice as many statements. The watch is told how far the search is. None where nothing is
+/// known: there is no such loop or it comes later, the run ends or faults, there are more values than cells, or memory was refused.
 pub fn find_cycle<V: Watch>(
     alloc: Global,
     program: &Program,
@@ -40,7 +57,7 @@ pub fn find_cycle<V: Watch>(
         interpreter: Interpreter {
             alloc,
             program,
-            bound,
+            bound: searched(program, bound),
         },
     };
     match search.search_body(&mut run, watch) {

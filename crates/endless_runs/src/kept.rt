@@ -9,7 +9,7 @@ use crate::cycle::Cycle;
 use pram_meaning::run::Run;
 use std::alloc::{AllocError, Global};
 
-// A loop's state is kept behind a turn once so many statements have run in it, and again each time that all have doubled.
+// A loop's state is kept behind a turn once so many statements have run in it.
 const FIRST: u32 = 16;
 
 /// The uniform variables and the cells that a loop had behind one of its turns, and how many statements had run.
@@ -58,17 +58,34 @@ pub(crate) struct Keeper {
     kept: Option<Kept>,
     // it keeps the next one where so many statements have run
     next: u32,
+    // and again each time that these are so many times as many
+    times: u32,
 }
 
 impl Keeper {
-    /// Of a loop that begins here.
-    pub(crate) fn new(run: &Run) -> Keeper
+    // Of a loop that begins here.
+    fn new(run: &Run, times: u32) -> Keeper
         ensures { result.kept ≡ None }
     {
         Keeper {
             kept: None,
             next: run.count.saturating_add(FIRST),
+            times,
         }
+    }
+
+    /// Who keeps the first state of a loop that begins here, and no other one.
+    pub(crate) fn of_first(run: &Run) -> Keeper
+        ensures { result.kept ≡ None }
+    {
+        Keeper::new(run, u32::MAX)
+    }
+
+    /// Who keeps another state each time that all statements have doubled.
+    pub(crate) fn of_later(run: &Run) -> Keeper
+        ensures { result.kept ≡ None }
+    {
+        Keeper::new(run, 2)
     }
 
     /// Whether the loop of this line is back at the state that was kept.
@@ -90,7 +107,7 @@ impl Keeper {
     {
         if self.next <= run.count {
             self.kept = Some(Kept::of(alloc, run)?);
-            self.next = run.count.saturating_mul(2);
+            self.next = run.count.saturating_mul(self.times);
         }
         Ok(())
     }

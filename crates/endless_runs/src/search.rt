@@ -165,7 +165,7 @@ impl<'a> Search<'a> {
         Ok(())
     }
 
-    // The turns of a loop. Its state is kept now and then, and compared behind each turn.
+    // The turns of a loop. Its first state is kept and a later one now and then, and both are compared behind each turn.
     #[cycle(search)]
     #[tactic(auto, using(crate::proofs::LoopWalk::loop_starts, crate::proofs::LoopWalk::loop_stops, crate::proofs::LoopWalk::loop_goes, crate::proofs::LoopWalk::loop_ends, crate::proofs::LoopWalk::loop_cycles))]
     fn search_while<V: Watch>(
@@ -182,7 +182,8 @@ impl<'a> Search<'a> {
         ensures grows { OnOk result (run.old.count ≤ run.new.count) }
         ensures within { OnOk result (run.new.count ≤ self.now.interpreter.bound) }
     {
-        let mut keeper = Keeper::new(run);
+        let mut first = Keeper::of_first(run);
+        let mut later = Keeper::of_later(run);
         'turns: loop {
             let Ok(holds) = self.test(run, location, &Action::Turns { test }, test) else {
                 return Err(Stop::Unknown);
@@ -193,10 +194,16 @@ impl<'a> Search<'a> {
             if let Err(stop) = self.search_block(run, watch, body) {
                 return Err(stop);
             }
-            if let Some(cycle) = keeper.find(run, location.line) {
+            if let Some(cycle) = first.find(run, location.line) {
                 return Err(Stop::Cycle(cycle));
             }
-            let Ok(()) = keeper.look(self.interpreter.alloc, run) else {
+            if let Some(cycle) = later.find(run, location.line) {
+                return Err(Stop::Cycle(cycle));
+            }
+            let Ok(()) = first.look(self.interpreter.alloc, run) else {
+                return Err(Stop::Unknown);
+            };
+            let Ok(()) = later.look(self.interpreter.alloc, run) else {
                 return Err(Stop::Unknown);
             };
         }

@@ -2,7 +2,7 @@ use Rattle.std.proofs.Common.{arith, subst, Bool}
 use Rattle.pram_meaning.specs.Meaning.{Ends, Tested}
 use Rattle.pram_meaning.specs.Runs.{state_of}
 use Rattle.endless_runs.proofs.ForWalk.{bounds_known, for_ends, for_goes, for_known, for_stops}
-use Rattle.endless_runs.proofs.LoopWalk.{loop_cycles, loop_ends, loop_goes}
+use Rattle.endless_runs.proofs.LoopWalk.{loop_cycles, loop_ends, loop_goes, loop_stops}
 use Rattle.endless_runs.proofs.Walk.{block_goes, while_known}
 use Rattle.std.proofs.Common.{refl}
 use Rattle.endless_runs.proofs.search.Search.+search.Goals as goal
@@ -17,21 +17,27 @@ pub search_while-returns-then-not-holds-clause-known :
     goal.search_while-returns-then-not-holds-clause-known
 search_while-returns-then-not-holds-clause-known g t c =
     loop_ends c.args.self.now.interpreter.program.now c.args.location c.args.test.now c.args.body.now.items
-    (state_of c.args.run.now) (state_of c.turns.run) (state_of c.test.new.run) c.turns.keeper.kept c.turns.invariant.0
+    (state_of c.args.run.now) (state_of c.turns.run) (state_of c.test.new.run) c.turns.first.kept c.turns.invariant.0
     (subst (λ (z : Bool). Tested c.args.self.now.interpreter.program.now c.args.location.line c.args.test.now (state_of c.turns.run)
     (Ends z (state_of c.test.new.run))) c.if-not-holds.true c.in-Ok.ensures.tested)
 
 pub search_while-turns-preserved : goal.search_while-turns-preserved
 search_while-turns-preserved g t c =
-    let a = c.turns.invariant.1 in
+    let a = c.turns.invariant.2 in
     let b = c.in-Ok.ensures.more in
     let d = c.in_default-search_block.ensures.grows in (
       loop_goes c.args.self.now.interpreter.program.now c.args.location c.args.test.now c.args.body.now.items
-          (state_of c.args.run.now) (state_of c.turns.run) (state_of c.test.new.run) (state_of c.search_block.new.run) c.turns.keeper.kept
+          (state_of c.args.run.now) (state_of c.turns.run) (state_of c.test.new.run) (state_of c.search_block.new.run) c.turns.first.kept
           c.look.new.self.kept refl c.turns.invariant.0
           (subst (λ (z : Bool). Tested c.args.self.now.interpreter.program.now c.args.location.line c.args.test.now (state_of c.turns.run)
           (Ends z (state_of c.test.new.run))) c.if-not-holds.false c.in-Ok.ensures.tested)
           c.in_default-search_block.ensures.known c.in-Ok-look.ensures,
+      loop_goes c.args.self.now.interpreter.program.now c.args.location c.args.test.now c.args.body.now.items
+          (state_of c.args.run.now) (state_of c.turns.run) (state_of c.test.new.run) (state_of c.search_block.new.run) c.turns.later.kept
+          c.look-in-turns.new.self.kept refl c.turns.invariant.1
+          (subst (λ (z : Bool). Tested c.args.self.now.interpreter.program.now c.args.location.line c.args.test.now (state_of c.turns.run)
+          (Ends z (state_of c.test.new.run))) c.if-not-holds.false c.in-Ok.ensures.tested)
+          c.in_default-search_block.ensures.known c.in-Ok-look-2.ensures,
       omega (arith, a, b, d),
       c.in_default-search_block.ensures.within,
     )
@@ -95,8 +101,26 @@ search_block-loop-s-preserved g t c =
 pub search_while-returns-in-Some-clause-known : goal.search_while-returns-in-Some-clause-known
 search_while-returns-in-Some-clause-known g t c =
     loop_cycles c.args.self.now.interpreter.program.now c.args.location c.args.test.now c.args.body.now.items
-    (state_of c.args.run.now) (state_of c.turns.run) (state_of c.test.new.run) (state_of c.search_block.new.run) c.turns.keeper.kept
+    (state_of c.args.run.now) (state_of c.turns.run) (state_of c.test.new.run) (state_of c.search_block.new.run) c.turns.first.kept
     c.in-Some.cycle refl c.turns.invariant.0
     (subst (λ (z : Bool). Tested c.args.self.now.interpreter.program.now c.args.location.line c.args.test.now (state_of c.turns.run)
     (Ends z (state_of c.test.new.run))) c.if-not-holds.false c.in-Ok.ensures.tested)
     c.in_default-search_block.ensures.known (c.find.ensures c.in-Some.cycle c.in-Some.is)
+
+pub search_while-returns-in-Some-find-clause-known : goal.search_while-returns-in-Some-find-clause-known
+search_while-returns-in-Some-find-clause-known g t c =
+    loop_cycles c.args.self.now.interpreter.program.now c.args.location c.args.test.now c.args.body.now.items
+    (state_of c.args.run.now) (state_of c.turns.run) (state_of c.test.new.run) (state_of c.search_block.new.run) c.turns.later.kept
+    c.in-Some-find.cycle refl c.turns.invariant.1
+    (subst (λ (z : Bool). Tested c.args.self.now.interpreter.program.now c.args.location.line c.args.test.now (state_of c.turns.run)
+    (Ends z (state_of c.test.new.run))) c.if-not-holds.false c.in-Ok.ensures.tested)
+    c.in_default-search_block.ensures.known (c.find-in-turns.ensures c.in-Some-find.cycle c.in-Some-find.is)
+
+pub search_while-returns-in-Err-clause-known : goal.search_while-returns-in-Err-clause-known
+search_while-returns-in-Err-clause-known g t c =
+    loop_stops c.args.self.now.interpreter.program.now c.args.location c.args.test.now c.args.body.now.items
+    (state_of c.args.run.now) (state_of c.turns.run) (state_of c.test.new.run) (state_of c.search_block.new.run) c.turns.first.kept
+    c.in-Err.stop c.turns.invariant.0
+    (subst (λ (z : Bool). Tested c.args.self.now.interpreter.program.now c.args.location.line c.args.test.now (state_of c.turns.run)
+    (Ends z (state_of c.test.new.run))) c.if-not-holds.false c.in-Ok.ensures.tested)
+    c.in-Err.ensures.known

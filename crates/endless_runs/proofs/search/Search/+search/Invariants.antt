@@ -12,7 +12,8 @@ invariant-search_block-loop-s g l =
 
 abbrev pub invariant-search_while-turns : goal.invariant-search_while-turns
 invariant-search_while-turns g l =
-    InLoop l.self.interpreter.program.now l.location l.test l.body.items (state_of l.fn.run) (state_of l.run) l.keeper.kept
+    InLoop l.self.interpreter.program.now l.location l.test l.body.items (state_of l.fn.run) (state_of l.run) l.first.kept
+    × InLoop l.self.interpreter.program.now l.location l.test l.body.items (state_of l.fn.run) (state_of l.run) l.later.kept
     × (l.fn.run.count ≤ l.run.count) × (l.run.count ≤ l.self.interpreter.bound)
 
 abbrev pub decreases-search_while-turns : goal.decreases-search_while-turns
