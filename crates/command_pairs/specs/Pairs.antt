@@ -1,5 +1,5 @@
 -- What calls find of two programs on the same inputs.
-use Rattle.std.specs.Prelude.{◌≡◌, ◌⊎◌, ℕ, ℤ, Bool, not, ◌&&◌, List, [], Option, Some, None, is_none, codes}
+use Rattle.std.specs.Prelude.{◌≡◌, ◌⊎◌, ℕ, ℤ, Bool, not, ◌&&◌, List, [], Option, Some, None, is_none, codes, if◌then◌else◌}
 use Rattle.std.specs.List.{AllZip, Any, filter_map, find}
 use Rattle.std.specs.Option.{unwrap_or}
 use Rattle.pram_model.specs.Layout.{SharedEntry, total_size}
@@ -34,11 +34,15 @@ use Rattle.command_facts.specs.Refused.{AreNumbers, IsProgramIn, IsProgramOfText
 
 -- ---- what is compared
 
--- the cells of all declarations that both have, or of those that are named, in the order of the names
+-- the cells of a declaration of the first program, if it is chosen and both have it
+abbrev pub range_named : Choice → (first second : List SharedEntry) → SharedEntry → Option CommonRange
+range_named choice first second e = if is_chosen choice e.name then common_named first second e.name else None
+
+-- the cells of all declarations that both have, or of those that are named, in the order of the first program
 abbrev pub ranges_of : Choice → (first second : List SharedEntry) → List CommonRange
 ranges_of All first second = common first second
 ranges_of Nothing first second = []
-ranges_of (Named word) first second = filter_map (common_named first second) (parts word.now)
+ranges_of (Named word) first second = filter_map (range_named (Named word) first second) first
 
 -- a name that is neither that of the output nor of a declaration that both have
 abbrev pub is_uncommon : (first second : List SharedEntry) → (name : List ℕ) → Bool

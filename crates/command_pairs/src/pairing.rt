@@ -1,13 +1,13 @@
 //! Two programs on the same inputs.
 
-ghost use Rattle.std.specs.Prelude.{◌≡◌, ◌⊎◌, ◌++◌, [], ℕ, ℤ, List, Some, IfOk, IfErr, OnOk};
+ghost use Rattle.std.specs.Prelude.{◌≡◌, ◌⊎◌, ◌++◌, ◌<◌, [], ℕ, ℤ, List, Some, IfOk, IfErr, OnOk, length, slice_get};
 ghost use Rattle.std.specs.List.{AllZip, cons_option, filter_map, find};
 ghost use Rattle.std.specs.Option.{option_map};
 ghost use Rattle.system_files.specs.Files.{IsSame};
 ghost use Rattle.memory_texts.specs.Chosen.{parts};
 ghost use Rattle.pram_tokens.specs.Plain.{IsPlain};
 ghost use Rattle.scopes.specs.Scopes.{inputs_of};
-ghost use Rattle.comparing.specs.Common.{common_named};
+ghost use Rattle.pram_model.specs.Layout.{SharedEntry};
 ghost use Rattle.comparing.specs.Found as pairs;
 ghost use Rattle.comparing.specs.Found.{drawn_inputs};
 ghost use Rattle.comparing.specs.declared.refusal.Side as rust;
@@ -99,18 +99,36 @@ fn push_some(ranges: &mut Vec<CommonRange>, range: Option<CommonRange>) -> Resul
     Ok(())
 }
 
-// The cells of the declarations that a word names.
+// The cells of a declaration of the first program, if it is chosen and both have it.
+fn range_named(
+    first: &Layout,
+    second: &Layout,
+    only: Choice<'_>,
+    i: usize,
+) -> Option<CommonRange>
+    requires { i < length first.now }
+    ensures { (e : SharedEntry) → slice_get first.now i ≡ Some e → result ≡ spec.range_named only.entry first.now second.now e }
+{
+    let name = first.name(i);
+    if is_chosen(only, name) {
+        named_range(first, second, name)
+    } else {
+        None
+    }
+}
+
+// The cells of the declarations that are chosen, in the order of the first program.
 fn ranges_named(
     alloc: Global,
     first: &Layout,
     second: &Layout,
-    word: &str,
+    only: Choice<'_>,
 ) -> Result<Vec<CommonRange>, AllocError>
-    ensures { IfOk result (λ ranges. ranges.items ≡ filter_map (common_named first.now second.now) (parts word.now)) }
+    ensures { IfOk result (λ ranges. ranges.items ≡ filter_map (spec.range_named only.entry first.now second.now) first.now) }
 {
     let mut ranges = Vec::new(alloc);
-    for part in word.split(',') {
-        push_some(&mut ranges, named_range(first, second, part.as_bytes()))?;
+    for i in 0..first.len() {
+        push_some(&mut ranges, range_named(first, second, only, i))?;
     }
     Ok(ranges)
 }
@@ -127,7 +145,7 @@ fn ranges_of(
     match only {
         Choice::All => common_ranges(alloc, first, second),
         Choice::Nothing => Ok(Vec::new(alloc)),
-        Choice::Named(word) => ranges_named(alloc, first, second, word),
+        Choice::Named(_) => ranges_named(alloc, first, second, only),
     }
 }
 
