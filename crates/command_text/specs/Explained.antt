@@ -12,6 +12,7 @@ use Rattle.program_texts.specs.declared.stop.Stop.TheVariants as stop
 use Rattle.pram_model.specs.Layout.{SharedEntry}
 use Rattle.diagnoses.specs.declared.about.About.{About}
 use Rattle.diagnoses.specs.declared.source.Source.{Source}
+use Rattle.diagnoses.specs.FalseLines.{false_note}
 use Rattle.diagnoses.specs.FaultTexts.{fault_diagnosis, fault_sentence}
 use Rattle.diagnoses.specs.Reasons.{Reason, run_reason, unknown}
 use Rattle.diagnoses.specs.RefusedLines.{stop_line}
@@ -124,10 +125,16 @@ abbrev pub IsCodeExplained : Bool → FoundCode → Outcome → OutState → Out
 IsCodeExplained true c (Faulted fault output) old new = IsReported old new (fault_sentence c.code.layout fault unknown)
 IsCodeExplained _ c o old new = new ≡ old
 
+-- of an accepted program a comment is told that begins as a size line and is none
+abbrev pub IsAcceptedExplained : Bool → Source → OutState → OutState → Type 0
+IsAcceptedExplained true s old new = IsReported old new (false_note s)
+IsAcceptedExplained false s old new = new ≡ old
+
 -- Where that is asked for, the fault of what was found is explained; and nothing is said where there is none.
 abbrev pub IsExplained : Bool → Settled → OutState → OutState → Type 0
 IsExplained explains (settled.Run r told) old new = IsRunExplained explains r r.outcome old new
 IsExplained explains (settled.Costed r told costs) old new = IsRunExplained explains r r.outcome old new
 IsExplained explains (settled.Traced r told exchanges) old new = IsRunExplained explains r r.outcome old new
+IsExplained explains (settled.Accepted l) old new = IsAcceptedExplained explains l.source old new
 IsExplained explains (settled.Executed c) old new = IsCodeExplained explains c c.outcome old new
 IsExplained explains _ old new = new ≡ old

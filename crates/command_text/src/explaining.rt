@@ -14,8 +14,8 @@ use crate::terminal::Terminal;
 use command_facts::{FoundCode, FoundRun, Settled, write_for_editors};
 use command_requests::{Given, write_word_fault, wrong_option};
 use diagnoses::{
-    Halted, Reason, Source, run_reason, write_fault_sentence, write_refused_line, write_run_fault,
-    write_stop_diagnosis,
+    Halted, Reason, Source, run_reason, write_false_line, write_fault_sentence, write_refused_line,
+    write_run_fault, write_stop_diagnosis,
 };
 use endless_runs::{Cycle, find_cycle};
 use itoa::Buffer;
@@ -333,7 +333,20 @@ fn explain_code<E: Out>(alloc: Global, err: &mut E, run: &FoundCode<'_>, explain
     }
 }
 
-/// Writes what is said of the fault of what was found, where that is asked for, to standard error. That it fails changes no status.
+// Writes what is said of a comment of an accepted program that begins as a size line and is none, where that is asked for.
+fn explain_accepted<E: Out>(err: &mut E, source: &Source<'_>, explains: bool)
+    ensures left { spec.IsAcceptedExplained explains source.now (E.Out.state err.old) (E.Out.state err.new) }
+{
+    if !explains {
+        return;
+    }
+    if write_false_line(err, source).is_ok() {
+        let _ = err.flush();
+    }
+}
+
+/// Writes what is said of the fault of what was found, or of a comment that is no size line, where that is asked for, to standard error.
+/// That it fails changes no status.
 pub(crate) fn explain<V: Watch, E: Out>(
     alloc: Global,
     watch: &mut V,
@@ -350,7 +363,7 @@ pub(crate) fn explain<V: Watch, E: Out>(
         Settled::Executed(run) => explain_code(alloc, err, run, explains),
         Settled::Version => {}
         Settled::Explanation(_) => {}
-        Settled::Accepted(_) => {}
+        Settled::Accepted(loaded) => explain_accepted(err, &loaded.source, explains),
         Settled::Expanded(_) => {}
         Settled::Planned(_) => {}
         Settled::Exported(_) => {}

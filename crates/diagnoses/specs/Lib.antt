@@ -15,3 +15,4 @@ pub mod FaultTexts
 pub mod Guesses
 pub mod Against
 pub mod Numbers
+pub mod FalseLines

@@ -12,6 +12,7 @@ use Rattle.program_texts.specs.declared.from_text.Refusal.{Refusal}
 use Rattle.program_texts.specs.declared.from_text.Refusal.TheVariants as refusal
 use Rattle.program_texts.specs.declared.stop.Stop.{Stop}
 use Rattle.program_texts.specs.declared.stop.Stop.TheVariants as stop
+use Rattle.diagnoses.specs.FalseLines.{note_about}
 use Rattle.diagnoses.specs.declared.about.About.{About}
 use Rattle.diagnoses.specs.declared.about.About.TheVariants as about
 use Rattle.diagnoses.specs.Files.{file_message}
@@ -172,6 +173,6 @@ text_about a m = message_text (name_in a) (bytes_in a) m
 abbrev pub unsaid : List ℕ
 unsaid = codes "memory was refused for what there is to say of it\n"
 
--- the text of what there is to say of a refusal, or that memory was refused for it
+-- the text of what there is to say of a refusal, and of a comment that is no size line, or that memory was refused for it
 abbrev pub IsSaid : Stop → About → List ℕ → Type 0
-IsSaid why a text = (text ≡ unsaid) ⊎ ((m : Message) × IsMessageOf why a m × (text ≡ text_about a m))
+IsSaid why a text = (text ≡ unsaid) ⊎ ((m : Message) × IsMessageOf why a m × (text ≡ text_about a m ++ note_about a))

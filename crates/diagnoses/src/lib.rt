@@ -5,6 +5,7 @@ mod about;
 mod breaches;
 mod cause_text;
 mod event_text;
+mod false_lines;
 mod fault_text;
 mod files;
 mod fitting;
@@ -25,6 +26,7 @@ mod text_faults;
 mod wrong_element;
 
 pub use about::{About, Unread};
+pub use false_lines::write_false_line;
 pub use fault_text::{write_fault_sentence, write_run_fault};
 pub use fitting::Role;
 pub use halted::Halted;

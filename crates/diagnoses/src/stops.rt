@@ -1,13 +1,15 @@
 //! What is said behind the line of a refusal.
 
-ghost use Rattle.std.specs.Prelude.{◌≡◌, List, ℕ, IfOk, None};
+ghost use Rattle.std.specs.Prelude.{◌≡◌, ◌++◌, List, ℕ, IfOk, None};
 ghost use Rattle.text_out.specs.Out.{Writes};
 ghost use Rattle.help.specs.Messages.{message_is, said};
 ghost use Rattle.diagnoses.specs.Remarks.{remark_is};
+ghost use Rattle.diagnoses.specs.FalseLines.{note_about};
 ghost use Rattle.diagnoses.specs.Stops as spec;
 
 use crate::about::About;
 use crate::breaches::breach_message;
+use crate::false_lines::write_note_about;
 use crate::files::file_message;
 use crate::parts::{at_byte, plain};
 use crate::places::is_same;
@@ -334,22 +336,36 @@ pub(crate) fn write_message_about<W: Out>(
     write_message(out, name_in(about), bytes_in(about), message)
 }
 
+// The message, and behind it what is said of a comment that begins as a size line and is none.
+fn write_with_note<W: Out>(
+    out: &mut W,
+    about: &About<'_>,
+    message: &Message,
+) -> Result<(), WriteFault>
+    ensures written { Writes (W.Out.state out.old) (W.Out.state out.new)
+        (spec.text_about about.now (message_is message.now) ++ note_about about.now) result }
+{
+    write_message_about(out, about, message)?;
+    write_note_about(out, about)
+}
+
 /// Writes what a reader needs behind the line of a refusal: the place with its line and a caret, where it has one, and the sentences of its
 /// message (`message_of`), or a sentence that says that memory for this was refused. Nothing is written where nothing is known beside the
-/// line. The error is that the writer failed (E17).
+/// line. Behind the message stands what is said of a comment of the program that begins as a size line and is none. The error is that the
+/// writer failed (E17).
 pub fn write_stop_diagnosis<W: Out>(
     alloc: Global,
     out: &mut W,
     stop: &Stop<'_>,
     about: &About<'_>,
 ) -> Result<(), WriteFault>
-    // Exactly the message is written, with the line of the file that it is about, or that memory for it was refused, or
+    // Exactly the message is written, with its line, and a comment that is no size line, or that memory was refused, or
     // a beginning and then a failure.
     ensures written { (text : List ℕ) × spec.IsSaid stop.now about.now text
         × Writes (W.Out.state out.old) (W.Out.state out.new) text result }
 {
     match message_of(alloc, stop, about) {
-        Ok(message) => write_message_about(out, about, &message),
+        Ok(message) => write_with_note(out, about, &message),
         Err(AllocError) => out.write_all(b"memory was refused for what there is to say of it\n"),
     }
 }

@@ -12,3 +12,4 @@ pub mod Ranges
 pub mod SweepNames
 pub mod Bound
 pub mod SizeTables
+pub mod FalseLines

@@ -15,3 +15,4 @@ pub mod SizeRanges
 pub mod Sweeps
 pub mod Formulas
 pub mod SizeTables
+pub mod FalseLines

@@ -15,15 +15,15 @@ use crate::size_table::SizeTable;
 use crate::stop::Wrong;
 use std::alloc::Global;
 
-// White space: space, tab, LF, CR.
-fn is_blank(b: u8) -> bool
+/// White space: space, tab, LF, CR.
+pub(crate) fn is_blank(b: u8) -> bool
     ensures { result ≡ lexemes.is_blank b }
 {
     matches!(b, b' ' | b'\t' | b'\n' | b'\r')
 }
 
-// How many bytes are left of a line.
-fn comment_len(text: &[u8]) -> usize
+/// How many bytes are left of a line.
+pub(crate) fn comment_len(text: &[u8]) -> usize
     ensures value { result ≡ spec.comment_length text.now }
     ensures within { result ≤ length text.now }
 {

@@ -1,6 +1,6 @@
 //! One size line: `# size NAME = VALUE`.
 
-ghost use Rattle.std.specs.Prelude.{◌≡◌, codes};
+ghost use Rattle.std.specs.Prelude.{◌≡◌, ◌≤◌, codes, length};
 ghost use Rattle.std.specs.Option.{option_map};
 ghost use Rattle.pram_model.specs.Names.{same_text};
 ghost use Rattle.sized_texts.specs.SizeLines as spec;
@@ -11,22 +11,25 @@ use crate::reason::Reason;
 use crate::size_table::SizeTable;
 use pram_model::is_keyword;
 
-// The first token behind white space, and what is behind it and white space.
-fn token_then(text: &[u8]) -> (&[u8], &[u8])
+/// The first token behind white space, and what is behind it and white space.
+pub(crate) fn token_then(text: &[u8]) -> (&[u8], &[u8])
     ensures token { result.0.now ≡ spec.first_token text.now }
     ensures rest { result.1.now ≡ spec.then_text text.now }
+    ensures within { length result.1.now ≤ length text.now }
 {
     let (token, rest) = split_token(past_spaces(text));
     (token, past_spaces(rest))
 }
 
-fn is_size(word: &[u8]) -> bool
+/// Whether it is the word `size`.
+pub(crate) fn is_size(word: &[u8]) -> bool
     ensures { result ≡ same_text (codes "size") word.now }
 {
     matches!(word, b"size")
 }
 
-fn begins_word(token: &[u8]) -> bool
+/// Whether it begins as a word.
+pub(crate) fn begins_word(token: &[u8]) -> bool
     ensures { result ≡ spec.begins_word token.now }
 {
     match token {
