@@ -66,6 +66,7 @@ PARTS = [
     Part("traces", "pictures of traces, read as XML", ("pictures.py",)),
     Part("steps", "pictures of statements, read as XML", ("step_pictures.py",)),
     Part("flows", "pictures of the flow of data, read as XML", ("flow_pictures.py",)),
+    Part("running", "lines come as a run goes, whole ones, and for as many seconds as it has", ("as_it_runs.py",)),
     Part("terminals", "what terminals get", ("terminals.py",)),
     Part("vim", "mistakes are listed by :make in Vim", ("vim_test.sh",), ("vim",)),
 ]

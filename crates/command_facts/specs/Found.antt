@@ -1,11 +1,13 @@
 -- What calls find of programs and of their runs.
-use Rattle.std.specs.Prelude.{◌≡◌, ℕ, ℤ, List, [], codes, Option}
+use Rattle.std.specs.Prelude.{◌≡◌, ◌*◌, ℕ, ℤ, List, [], codes, if◌then◌else◌, nat_lt, None, Option}
+use Rattle.std.specs.Option.{option_map}
 use Rattle.pram_model.specs.Layout.{SharedEntry, total_size}
 use Rattle.write_rules.specs.Verdict.{verdict_of, Verdict, Ended, Faulted, GoesOn}
 use Rattle.write_rules.specs.declared.outcome.Outcome.{Outcome}
 use Rattle.program_texts.specs.Report.{IsMeaningOf, IsProgramOf}
 use Rattle.program_texts.specs.Shown.{fault_text}
 use Rattle.journal.specs.Entries.{Entry}
+use Rattle.journal.specs.InTime.{EndsBy}
 use Rattle.journal.specs.RunEntries.{run_entries}
 use Rattle.scopes.specs.Drawn.{drawn}
 use Rattle.command_requests.specs.declared.opening.Opening.{Opening}
@@ -13,6 +15,7 @@ use Rattle.command_requests.specs.declared.opening.Opening.TheVariants as openin
 use Rattle.command_requests.specs.declared.request.ProgramFile.{ProgramFile}
 use Rattle.command_facts.specs.declared.found.FoundRun.{FoundRun}
 use Rattle.command_facts.specs.declared.found.FoundSteps.{FoundSteps}
+use Rattle.command_facts.specs.declared.found.Limit.{Limit}
 use Rattle.command_facts.specs.declared.loaded.Loaded.{Loaded}
 use Rattle.diagnoses.specs.Sources.{text_in}
 use Rattle.command_facts.specs.Held.{IsInputIn, IsMemoryIn, IsTextIn}
@@ -45,6 +48,21 @@ entries_of s = run_entries s.loaded.program s.input.items s.limit.bound
 -- what it comes to
 abbrev pub IsOutcomeOf : FoundSteps → Outcome → Type 0
 IsOutcomeOf s o = IsMeaningOf s.loaded.program s.input.items s.limit.bound (verdict_of o)
+
+-- in milliseconds of the call, when a run's time is over
+abbrev pub until_of : Limit → Option ℕ
+until_of l = option_map (λ seconds. seconds * 1000) l.seconds
+
+-- behind so many statements a run ends: where those are fewer than its limit has, its seconds ended it there
+abbrev pub limit_at : Limit → ℕ → Limit
+limit_at l behind = record { bound = behind; seconds = if nat_lt behind l.bound then l.seconds else None }
+
+abbrev pub cut_at : FoundSteps → ℕ → FoundSteps
+cut_at s behind = record s { limit = limit_at s.limit behind }
+
+-- it may end there: behind as many statements as its limit has, or where it has some seconds behind no more
+abbrev pub EndsIn : FoundSteps → ℕ → Type 0
+EndsIn s behind = EndsBy (until_of s.limit) s.limit.bound behind
 
 -- the run, once it has come to this
 abbrev pub with_outcome : FoundSteps → Outcome → FoundRun

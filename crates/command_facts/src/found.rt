@@ -47,7 +47,7 @@ pub struct FoundRun<'a> {
 }
 
 /// A run of a program that is still to be told, statement by statement as it goes: the program with its text, the input's values, which are
-/// no more than its cells, where it ends at the latest, and how it is told.
+/// no more than its cells, how many statements and how many seconds it has, and how it is told.
 #[derive(Drop)]
 pub struct FoundSteps<'a> {
     pub loaded: Loaded<'a>,

@@ -14,6 +14,7 @@ use Rattle.step_text.specs.declared.failure.StreamFailure.TheVariants as failure
 use Rattle.write_rules.specs.Verdict.{verdict_of}
 use Rattle.write_rules.specs.declared.outcome.Outcome.{Outcome}
 use Rattle.journal.specs.RunEntries.{run_entries}
+use Rattle.journal.specs.declared.telling_in_time.Ending.{Ending}
 use Rattle.program_texts.specs.declared.from_text.Refusal.TheVariants as refusal
 use Rattle.program_texts.specs.declared.status.Status.{Status}
 use Rattle.program_texts.specs.declared.stop.Stop.{Stop}
@@ -23,24 +24,25 @@ use Rattle.serde_json.specs.Data.{Data}
 use Rattle.json_texts.specs.StepFacts.{steps_from}
 use Rattle.journal.specs.Entries.{Entry}
 use Rattle.command_facts.specs.declared.found.FoundSteps.{FoundSteps}
-use Rattle.command_facts.specs.Found.{IsOutcomeOf, entries_of}
+use Rattle.command_facts.specs.Found.{EndsIn, IsOutcomeOf, cut_at, entries_of}
 use Rattle.command_facts.specs.Written.{Wrote}
-use Rattle.command_json.specs.Stepped.{IsCutBehind, IsToldBehind, IsToldBy, all_behind, first_behind, opening_of, BehindLines, InLines}
-use Rattle.command_json.specs.Stepped.{InText, Unbegun}
+use Rattle.command_facts.proofs.Steps.{all_of_it}
+use Rattle.command_json.specs.Stepped.{IsCutBehind, IsToldBehind, IsToldBy, IsToldUpTo, all_behind, first_behind, opening_of}
+use Rattle.command_json.specs.Stepped.{BehindLines, InLines, InText, Unbegun}
 
 -- ---- what was streamed, by the values that were handed over
 
-pub streamed_by : (s : FoundSteps) (old new : OutState) (text : List ℕ) (given : List ℤ) (r q : Result Outcome StreamFailure) →
+pub streamed_by : (s : FoundSteps) (old new : OutState) (text : List ℕ) (given : List ℤ) (r q : Result Ending StreamFailure) →
     text ≡ text_in s.loaded.source → given ≡ s.input.items → r ≡ q →
     HasStreamedJson old new (steps_from s.loaded.program.layout s.loaded.program.tree text s.words.from s.words.to 1)
-    (run_entries s.loaded.program given s.limit.bound) r →
-    HasStreamedJson old new (first_behind s []) (entries_of s) q
+    (run_entries s.loaded.program given) s.limit.bound r →
+    HasStreamedJson old new (first_behind s []) (run_entries s.loaded.program s.input.items) s.limit.bound q
 streamed_by s old new text given r q source same is h =
     let facts : List ℕ → List Entry → List Data =
     λ t. steps_from s.loaded.program.layout s.loaded.program.tree t s.words.from s.words.to 1 in
-    subst (λ (i : List ℤ). HasStreamedJson old new (first_behind s []) (run_entries s.loaded.program i s.limit.bound) q) same
-    (subst (λ (t : List ℕ). HasStreamedJson old new (facts t) (run_entries s.loaded.program given s.limit.bound) q) source
-    (subst (HasStreamedJson old new (facts text) (run_entries s.loaded.program given s.limit.bound)) is h))
+    subst (λ (i : List ℤ). HasStreamedJson old new (first_behind s []) (run_entries s.loaded.program i) s.limit.bound q) same
+    (subst (λ (t : List ℕ). HasStreamedJson old new (facts t) (run_entries s.loaded.program given) s.limit.bound q) source
+    (subst (HasStreamedJson old new (facts text) (run_entries s.loaded.program given) s.limit.bound) is h))
 
 module _ (s : FoundSteps) (old : OutState) where
   stopped_in_lines : (new : OutState) → StopsInFirst old new (first_behind s []) (entries_of s) → IsCutBehind s [] old new
@@ -53,16 +55,17 @@ module _ (s : FoundSteps) (old : OutState) where
 
   -- a failure on the way
   pub lines_cut : (new : OutState) (f : StreamFailure) (why : Stop) → why ≡ stop_of f →
-      HasStreamedJson old new (first_behind s []) (entries_of s) (Err f) → (f ≡ failure.InputTooLong → ⊥) → IsCutBehind s [] old new why
+      HasStreamedJson old new (first_behind s []) (run_entries s.loaded.program s.input.items) s.limit.bound (Err f) →
+      (f ≡ failure.InputTooLong → ⊥) → IsCutBehind s [] old new why
   lines_cut new failure.WriteFailed why is h fits = subst (IsCutBehind s [] old new) (sym is) (stopped_in_lines new h)
   lines_cut new failure.OutOfMemory why is h fits = subst (IsCutBehind s [] old new) (sym is) (behind_lines new h)
   lines_cut new failure.InputTooLong why is h fits = absurd (fits refl)
 
   -- a run that is cut off is told by no outcome
-  pub cut_told : (new : OutState) (r : Result Outcome Stop) (why : Stop) → IsErrAnd r (λ e. e ≡ why) → IsCutBehind s [] old new why →
-      IsToldBehind s [] old new r
-  cut_told new (Ok o) why is cut = absurd is
-  cut_told new (Err e) why is cut = subst (IsCutBehind s [] old new) (sym is) cut
+  pub cut_told : (k : ℕ) (new : OutState) (r : Result Ending Stop) (why : Stop) → IsErrAnd r (λ e. e ≡ why) → EndsIn s k →
+      IsCutBehind (cut_at s k) [] old new why → IsToldUpTo s [] old new r
+  cut_told k new (Ok o) why is ends cut = absurd is
+  cut_told k new (Err e) why is ends cut = (k, ends, subst (IsCutBehind (cut_at s k) [] old new) (sym is) cut)
 
   -- ---- behind all lines
 
@@ -106,8 +109,8 @@ module _ (s : FoundSteps) (old mid : OutState) (line : List ℕ) (json : IsJson 
       (writes_then old mid new line text is written)
   cut_behind new (Unbegun same) = BehindLines [] (entries_of s) line refl json (same ∙ is)
 
-  pub told_behind : (new : OutState) (r : Result Outcome Stop) → IsToldBehind s [] mid new r → IsToldBy s old new r
-  told_behind new (Ok o) (comes, (text, all, written)) = (
+  whole_behind : (new : OutState) (o : Outcome) → IsToldBehind s [] mid new (Ok o) → IsToldBehind s (opening_of s ∷ []) old new (Ok o)
+  whole_behind new o (comes, (text, all, written)) = (
     comes,
     (
       line ++ text,
@@ -115,7 +118,12 @@ module _ (s : FoundSteps) (old mid : OutState) (line : List ℕ) (json : IsJson 
       writes_then old mid new line text is written,
     ),
   )
-  told_behind new (Err why) cut = cut_behind new cut
+
+pub told_behind : (s : FoundSteps) (old mid : OutState) (line : List ℕ) → IsJson (opening_of s ∷ []) line → mid ≡ with_bytes old line →
+    (new : OutState) (r : Result Ending Stop) → IsToldUpTo s [] mid new r → IsToldBy s old new r
+told_behind s old mid line json is new (Ok r) told =
+    (told.0, whole_behind (cut_at s r.bound) old mid line json is new r.outcome told.1)
+told_behind s old mid line json is new (Err why) told = (told.0, told.1, cut_behind (cut_at s told.0) old mid line json is new told.2)
 
 -- that line stopped
 pub stopped_in_opening : (s : FoundSteps) (old new : OutState) (line : List ℕ) → IsJson (opening_of s ∷ []) line → StopsIn old new line →
@@ -123,7 +131,8 @@ pub stopped_in_opening : (s : FoundSteps) (old new : OutState) (line : List ℕ)
 stopped_in_opening s old new line json stops = InLines [] (entries_of s) line refl json stops
 
 -- what tells no outcome
-pub not_told : (s : FoundSteps) (old new : OutState) (r : Result Outcome Stop) (why : Stop) → IsErrAnd r (λ e. e ≡ why) →
-    IsCutBehind s (opening_of s ∷ []) old new why → IsToldBy s old new r
+pub not_told : (s : FoundSteps) (old new : OutState) (r : Result Ending Stop) (why : Stop) → IsErrAnd r (λ e. e ≡ why) →
+    IsCutBehind (cut_at s s.limit.bound) (opening_of s ∷ []) old new why → IsToldBy s old new r
 not_told s old new (Ok o) why is cut = absurd is
-not_told s old new (Err e) why is cut = subst (IsCutBehind s (opening_of s ∷ []) old new) (sym is) cut
+not_told s old new (Err e) why is cut =
+    (s.limit.bound, all_of_it s, subst (IsCutBehind (cut_at s s.limit.bound) (opening_of s ∷ []) old new) (sym is) cut)

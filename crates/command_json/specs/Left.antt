@@ -20,7 +20,7 @@ use Rattle.command_facts.specs.declared.found.Limit.{Limit}
 use Rattle.command_facts.specs.declared.found.Settled.{Settled}
 use Rattle.command_facts.specs.declared.found.Settled.TheVariants as settled
 use Rattle.command_facts.specs.Statuses.{status_of_found}
-use Rattle.command_facts.specs.Found.{IsOutcomeOf}
+use Rattle.command_facts.specs.Found.{EndsIn, IsOutcomeOf, cut_at}
 use Rattle.command_facts.specs.Written.{IsReported}
 use Rattle.json_texts.specs.MessageFacts.{refusal_facts}
 use Rattle.json_texts.specs.RefusalFacts.{stop_facts}
@@ -81,8 +81,9 @@ pub data LeavesFound (words : List (List ℕ)) (f : Found) (out out_new err err_
       → IsFoundInTime s err err_new → LeavesFound words f out out_new err err_new (status_of_found s)
   CutOff : (s : Settled) (why : Stop) → f ≡ found.Settled s → WritesFound s out out_new (Err why)
       → IsRefusalSaid words why about.Nothing err err_new → LeavesFound words f out out_new err err_new status.Refused
-  -- a run is told statement by statement as it goes: the outcome is that of the program, and it gives the status
-  ToldAsItRan : (s : FoundSteps) (o : Outcome) (text : List ℕ) → f ≡ found.Stepped s → IsOutcomeOf s o → IsJson (all_facts s o) text
-      → out_new ≡ with_bytes out text → IsTimeTold o s.limit err err_new → LeavesFound words f out out_new err err_new (status_of o)
-  BrokenOff : (s : FoundSteps) (why : Stop) → f ≡ found.Stepped s → IsCutOff s out out_new why
+  -- a run is told statement by statement as it goes, up to where it ends: the outcome is that of the program, and it gives the status
+  ToldAsItRan : (s : FoundSteps) (k : ℕ) (o : Outcome) (text : List ℕ) → f ≡ found.Stepped s → EndsIn s k → IsOutcomeOf (cut_at s k) o
+      → IsJson (all_facts (cut_at s k) o) text → out_new ≡ with_bytes out text → IsTimeTold o (cut_at s k).limit err err_new
+      → LeavesFound words f out out_new err err_new (status_of o)
+  BrokenOff : (s : FoundSteps) (k : ℕ) (why : Stop) → f ≡ found.Stepped s → EndsIn s k → IsCutOff (cut_at s k) out out_new why
       → IsRefusalSaid words why about.Nothing err err_new → LeavesFound words f out out_new err err_new status.Refused

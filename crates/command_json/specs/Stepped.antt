@@ -11,7 +11,8 @@ use Rattle.program_texts.specs.declared.stop.Stop.{Stop}
 use Rattle.program_texts.specs.declared.stop.Stop.TheVariants as stop
 use Rattle.diagnoses.specs.Sources.{text_in}
 use Rattle.command_facts.specs.declared.found.FoundSteps.{FoundSteps}
-use Rattle.command_facts.specs.Found.{IsOutcomeOf, entries_of}
+use Rattle.journal.specs.declared.telling_in_time.Ending.{Ending}
+use Rattle.command_facts.specs.Found.{EndsIn, IsOutcomeOf, cut_at, entries_of}
 use Rattle.pram_meaning.specs.Outcome.{opening}
 use Rattle.json_texts.specs.OutcomeFacts.{opening_facts}
 use Rattle.json_texts.specs.StepFacts.{steps_facts, steps_from}
@@ -48,6 +49,11 @@ IsToldBehind s before old new (Ok o) =
     IsOutcomeOf s o × ((text : List ℕ) × IsJson (all_behind s before o) text × (new ≡ with_bytes old text))
 IsToldBehind s before old new (Err why) = IsCutBehind s before old new why
 
+-- so it is up to where it ends
+abbrev pub IsToldUpTo : FoundSteps → (before : List Data) → (old new : OutState) → Result Ending Stop → Type 0
+IsToldUpTo s before old new (Ok r) = EndsIn s r.bound × IsToldBehind (cut_at s r.bound) before old new (Ok r.outcome)
+IsToldUpTo s before old new (Err why) = (k : ℕ) × EndsIn s k × IsCutBehind (cut_at s k) before old new why
+
 -- ---- a run, told so behind what its cells hold before it
 
 abbrev pub all_facts : FoundSteps → Outcome → List Data
@@ -56,5 +62,5 @@ all_facts s o = all_behind s (opening_of s ∷ []) o
 abbrev pub IsCutOff : FoundSteps → (old new : OutState) → Stop → Type 0
 IsCutOff s old new why = IsCutBehind s (opening_of s ∷ []) old new why
 
-abbrev pub IsToldBy : FoundSteps → (old new : OutState) → Result Outcome Stop → Type 0
-IsToldBy s old new r = IsToldBehind s (opening_of s ∷ []) old new r
+abbrev pub IsToldBy : FoundSteps → (old new : OutState) → Result Ending Stop → Type 0
+IsToldBy s old new r = IsToldUpTo s (opening_of s ∷ []) old new r

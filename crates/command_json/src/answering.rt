@@ -10,11 +10,12 @@ use crate::stepping::write_stepped;
 use crate::telling::write_found;
 use command_facts::{Found, FoundSteps, Settled, Voice};
 use diagnoses::Halted;
-use observing::{Nobody, Watch};
+use journal::Ending;
+use observing::Watch;
 use program_texts::{Status, Stop};
 use std::alloc::Global;
+use system_files::Quiet;
 use text_out::Out;
-use write_rules::Outcome;
 
 // A run of a program is told as it runs. The watch is told how far it is, but where its lines come on a terminal.
 fn write_watched<'a, V: Watch, O: Out>(
@@ -23,11 +24,11 @@ fn write_watched<'a, V: Watch, O: Out>(
     steps: &FoundSteps<'_>,
     watch: &mut V,
     out: &mut O,
-) -> Result<Outcome, Stop<'a>>
+) -> Result<Ending, Stop<'a>>
     ensures told { IsToldBy steps.now (O.Out.state out.old) (O.Out.state out.new) result }
 {
     if on_terminal {
-        return write_stepped(alloc, steps, &mut Nobody, out);
+        return write_stepped(alloc, steps, &mut Quiet::new(watch), out);
     }
     let told = write_stepped(alloc, steps, watch, out);
     watch.close();
@@ -48,9 +49,9 @@ fn tell_steps<V: Watch, O: Out, E: Out>(
         (E.Out.state err.old) (E.Out.state err.new) result }
 {
     match write_watched(alloc, on_terminal, steps, watch, out) {
-        Ok(outcome) => {
-            tell_time(err, &outcome, &steps.limit);
-            Status::of(&outcome)
+        Ok(ending) => {
+            tell_time(err, &ending.outcome, &steps.limit_at(ending.bound));
+            Status::of(&ending.outcome)
         }
         Err(stop) => {
             report(alloc, err, words, &Halted::from(stop));

@@ -133,7 +133,7 @@ fn reader(words: &Words) -> AnyLine<'_> {
 }
 
 fn refused(rt: &HostRuntime) -> ExitCode {
-    let mut err = Stream::new(rt.stderr());
+    let mut err = Stream::new(rt.alloc(), rt.stderr());
     let _ = err.write_all(NO_MEMORY);
     let _ = err.flush();
     ExitCode::from(2)
@@ -147,8 +147,8 @@ fn main(rt: HostRuntime) -> ExitCode {
     let terminal = terminal(&rt);
     let mut files = SystemFiles::new(&rt, rt.stdin());
     let mut progress = ProgressLine::new(&rt, Errors { rt: &rt }, terminal.errors);
-    let mut out = Stream::new(rt.stdout());
-    let mut err = Stream::new(rt.stderr());
+    let mut out = Stream::new(rt.alloc(), rt.stdout());
+    let mut err = Stream::new(rt.alloc(), rt.stderr());
     let status = command(
         &rt,
         rt.alloc(),

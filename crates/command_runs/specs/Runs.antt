@@ -37,7 +37,7 @@ use Rattle.command_facts.specs.declared.found.FoundTrace.{FoundTrace}
 use Rattle.command_facts.specs.declared.loaded.Loaded.{Loaded}
 use Rattle.command_facts.specs.Found.{IsLoaded, IsOpening, ending_text}
 use Rattle.command_facts.specs.Held.{IsExpansionIn, IsListingIn}
-use Rattle.command_runs.specs.Timed.{IsLimitOf, behind}
+use Rattle.command_runs.specs.Timed.{IsLimitOf, asked_of, behind}
 
 -- ---- code
 
@@ -133,7 +133,7 @@ pub record IsStepsFound (holds : List ℕ → Option (List ℕ) → Type 0) (fil
     (s : FoundSteps) : Type 0 where
   pub loaded : IsLoaded (holds file.name.now) file s.loaded
   pub given : IsOpening holds s.loaded.program.layout words.opening s.input.items
-  pub limit : IsLimitOf words s.limit
+  pub limit : s.limit ≡ asked_of words
   pub there : AreThere s.loaded.program.layout steps.drawn
   pub named : AreNamed s.loaded.program.tree steps
   pub asked : s.words ≡ steps

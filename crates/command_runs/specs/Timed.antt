@@ -7,6 +7,10 @@ use Rattle.command_facts.specs.declared.found.Limit.{Limit}
 abbrev pub behind : ℕ → Limit
 behind n = record { bound = n; seconds = None }
 
+-- behind so many statements, and in so many seconds, if any are asked for
+abbrev pub asked_of : MeaningWords → Limit
+asked_of w = record { bound = w.bound; seconds = w.seconds }
+
 -- behind fewer statements than are asked for, by some seconds that are
 pub record IsOutOfTime (w : MeaningWords) (l : Limit) : Type 0 where
   pub seconds : ℕ

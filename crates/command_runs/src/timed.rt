@@ -5,7 +5,7 @@ ghost use Rattle.command_runs.specs.Timed.{IsLimitOf};
 
 use command_facts::Limit;
 use command_requests::MeaningWords;
-use journal::{bound_in_time, steps_bound_in_time};
+use journal::bound_in_time;
 use observing::Watch;
 use pram_check::Program;
 use std::alloc::Global;
@@ -17,8 +17,6 @@ pub(crate) enum Aim {
     Outcome,
     /// What it costs.
     Cost,
-    /// Its statements.
-    Steps,
 }
 
 // A run is made twice, and the first one has this part of the time: a half where both take the same, and less where more is done in the
@@ -29,7 +27,6 @@ fn share_of(aim: Aim) -> u64
     match aim {
         Aim::Outcome => 2,
         Aim::Cost => 4,
-        Aim::Steps => 3,
     }
 }
 
@@ -46,12 +43,7 @@ fn bound_of<V: Watch>(
     ensures { result ≤ bound }
 {
     let milliseconds = u64::from(seconds) * 1000 / share_of(aim);
-    match aim {
-        Aim::Steps => steps_bound_in_time(alloc, program, input, bound, milliseconds, watch),
-        Aim::Outcome | Aim::Cost => {
-            bound_in_time(alloc, program, input, bound, milliseconds, watch)
-        }
-    }
+    bound_in_time(alloc, program, input, bound, milliseconds, watch)
 }
 
 // Where a run ends that is to be over in so many seconds.

@@ -1,5 +1,5 @@
 -- What tells a run statement by statement is the text that is asked for, or a beginning of it.
-use Rattle.std.proofs.Common.{◌≡◌, ◌++◌, ℕ, ℤ, List, refl, subst, sym}
+use Rattle.std.proofs.Common.{◌≡◌, ◌∙◌, ◌++◌, ℕ, ℤ, List, ap, refl, subst, sym}
 use Rattle.std.specs.Prelude.{Result, Ok, Err, IsErrAnd, length}
 use Rattle.pram_model.specs.Layout.{SharedEntry}
 use Rattle.text_out.specs.Out.{OutState, StopsIn, with_bytes}
@@ -9,6 +9,7 @@ use Rattle.write_rules.specs.declared.outcome.Outcome.{Outcome}
 use Rattle.journal.specs.Entries.{Entry}
 use Rattle.journal.specs.Between.{between}
 use Rattle.journal.specs.RunEntries.{run_entries}
+use Rattle.journal.specs.declared.telling_in_time.Ending.{Ending}
 use Rattle.step_text.specs.Stops.{stop_of}
 use Rattle.step_text.specs.Streamed.{HasStreamed}
 use Rattle.step_text.specs.declared.failure.StreamFailure.{StreamFailure}
@@ -31,10 +32,11 @@ use Rattle.command_requests.specs.declared.form.Form.TheVariants as form
 use Rattle.command_facts.specs.declared.found.Found.TheVariants as found
 use Rattle.command_facts.specs.declared.found.FoundRun.{FoundRun}
 use Rattle.command_facts.specs.declared.found.FoundSteps.{FoundSteps}
-use Rattle.command_facts.specs.Found.{IsOutcomeOf, entries_of, with_outcome}
+use Rattle.command_facts.specs.Found.{EndsIn, IsOutcomeOf, cut_at, entries_of, with_outcome}
 use Rattle.command_facts.specs.Written.{Wrote}
 use Rattle.command_text.specs.declared.terminal.Terminal.{Terminal}
-use Rattle.command_text.specs.Stepped.{IsCutIn, IsCutOff, IsTellingOf, IsToldBy, IsToldRun, IsToldText, lines_of, InLines, InText, Untold}
+use Rattle.command_text.specs.Stepped.{IsCutIn, IsCutOff, IsTellingOf, IsToldBy, IsToldInTime, IsToldRun, IsToldText, IsToldUpTo}
+use Rattle.command_text.specs.Stepped.{lines_of, InLines, InText, Untold}
 use Rattle.command_text.specs.Explained.{IsRunExplained}
 use Rattle.command_text.specs.Left.{LeavesFound, ToldAsItRan}
 use Rattle.command_text.specs.Steps.{IsTelling}
@@ -113,17 +115,17 @@ module _ (on : Terminal) (s : FoundSteps) (old : OutState) where
 -- ---- parts as they were put together
 
 -- what was streamed by the values that were handed over
-pub streamed_by : (s : FoundSteps) (telling : Telling) (old new : OutState) (given : List ℤ) (r q : Result Outcome StreamFailure) →
+pub streamed_by : (s : FoundSteps) (telling : Telling) (old new : OutState) (given : List ℤ) (r q : Result Ending StreamFailure) →
     given ≡ s.input.items → r ≡ q →
-    HasStreamed old new (lines_of s telling) (run_entries s.loaded.program given s.limit.bound) r →
-    HasStreamed old new (lines_of s telling) (entries_of s) q
+    HasStreamed old new (lines_of s telling) (run_entries s.loaded.program given) s.limit.bound r →
+    HasStreamed old new (lines_of s telling) (run_entries s.loaded.program s.input.items) s.limit.bound q
 streamed_by s telling old new given r q same is h =
-    subst (λ (i : List ℤ). HasStreamed old new (lines_of s telling) (run_entries s.loaded.program i s.limit.bound) q) same
-    (subst (HasStreamed old new (lines_of s telling) (run_entries s.loaded.program given s.limit.bound)) is h)
+    subst (λ (i : List ℤ). HasStreamed old new (lines_of s telling) (run_entries s.loaded.program i) s.limit.bound q) same
+    (subst (HasStreamed old new (lines_of s telling) (run_entries s.loaded.program given) s.limit.bound) is h)
 
 -- a failure on the way
 pub lines_cut : (s : FoundSteps) (telling : Telling) (old new : OutState) (f : StreamFailure) (why : Stop) → why ≡ stop_of f →
-    HasStreamed old new (lines_of s telling) (entries_of s) (Err f) → (f ≡ failure.InputTooLong → ⊥) → IsCutIn s telling old new why
+    HasStreamed old new (lines_of s telling) (run_entries s.loaded.program s.input.items) s.limit.bound (Err f) → (f ≡ failure.InputTooLong → ⊥) → IsCutIn s telling old new why
 lines_cut s telling old new failure.WriteFailed why is h fits = subst (IsCutIn s telling old new) (sym is) h
 lines_cut s telling old new failure.OutOfMemory why is h fits = subst (IsCutIn s telling old new) (sym is) h
 lines_cut s telling old new failure.InputTooLong why is h fits = absurd (fits refl)
@@ -232,13 +234,36 @@ pub run_as : (on : Terminal) (s : FoundSteps) (o : Outcome) (run : FoundRun) (ol
     IsToldBy on s old new (Ok o) → IsToldRun on s old new (Ok run)
 run_as on s o run old new same told = subst (λ (x : FoundRun). IsToldRun on s old new (Ok x)) (sym same) (refl, told)
 
+-- ---- in time
+
+pub cut_up_to : (on : Terminal) (s : FoundSteps) (k : ℕ) (old new : OutState) (r : Result Ending Stop) (why : Stop) →
+    IsErrAnd r (λ e. e ≡ why) → EndsIn s k → IsCutOff on (cut_at s k) old new why → IsToldUpTo on s old new r
+cut_up_to on s k old new (Ok o) why is ends cut = absurd is
+cut_up_to on s k old new (Err e) why is ends cut = (k, ends, subst (IsCutOff on (cut_at s k) old new) (sym is) cut)
+
+pub cut_in_time : (on : Terminal) (s : FoundSteps) (old new : OutState) (r : Result FoundRun Stop) (why : Stop) →
+    IsErrAnd r (λ e. e ≡ why) → IsToldUpTo on s old new (Err why) → IsToldInTime on s old new r
+cut_in_time on s old new r why is told = (told.0, told.1, cut_run on (cut_at s told.0) old new r why is told.2)
+
+pub run_in_time : (on : Terminal) (s : FoundSteps) (k : ℕ) (o : Outcome) (cut : FoundSteps) (run : FoundRun) (old new : OutState) →
+    cut ≡ cut_at s k → run ≡ with_outcome cut o → EndsIn s k × IsToldBy on (cut_at s k) old new (Ok o) →
+    IsToldInTime on s old new (Ok run)
+run_in_time on s k o cut run old new is same told =
+    (k, told.0, run_as on (cut_at s k) o run old new (same ∙ ap (λ (s : FoundSteps). with_outcome s o) is) told.1)
+
+-- of a run that was cut before
+pub shown_in_time : (on : Terminal) (s cut : FoundSteps) (old new : OutState) (r : Result FoundRun Stop) →
+    (k : ℕ) × EndsIn s k × (cut ≡ cut_at s k) → IsToldRun on cut old new r → IsToldInTime on s old new r
+shown_in_time on s cut old new r is told = (is.0, is.1, subst (λ (s : FoundSteps). IsToldRun on s old new r) is.2 told)
+
 -- ---- both streams
 
 pub leaves_run : (on : Terminal) (words : List (List ℕ)) (s : FoundSteps) (run : FoundRun) (out out_new err err_new : OutState)
     (ends : Status) →
-    IsToldRun on s out out_new (Ok run) → IsRunExplained on.errors run run.outcome err err_new → ends ≡ status_of run.outcome →
+    IsToldInTime on s out out_new (Ok run) → IsRunExplained on.errors run run.outcome err err_new → ends ≡ status_of run.outcome →
     LeavesFound on words (found.Stepped s) out out_new err err_new ends
-leaves_run on words s run out out_new err err_new ends told explained is =
+leaves_run on words s run out out_new err err_new ends in_time explained is =
+    let told = in_time.2 in
     subst (LeavesFound on words (found.Stepped s) out out_new err err_new) (sym is)
-    (ToldAsItRan s run.outcome told.1.1.0 refl told.1.0 told.1.1.1 told.1.1.2
+    (ToldAsItRan s in_time.0 run.outcome told.1.1.0 refl in_time.1 told.1.0 told.1.1.1 told.1.1.2
     (subst (λ (x : FoundRun). IsRunExplained on.errors x run.outcome err err_new) told.0 explained))

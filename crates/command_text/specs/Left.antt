@@ -12,7 +12,7 @@ use Rattle.command_facts.specs.declared.found.Found.TheVariants as found
 use Rattle.command_facts.specs.declared.found.FoundSteps.{FoundSteps}
 use Rattle.command_facts.specs.declared.found.Settled.{Settled}
 use Rattle.command_facts.specs.Statuses.{status_of_found}
-use Rattle.command_facts.specs.Found.{IsOutcomeOf, with_outcome}
+use Rattle.command_facts.specs.Found.{EndsIn, IsOutcomeOf, cut_at, with_outcome}
 use Rattle.command_text.specs.declared.terminal.Terminal.{Terminal}
 use Rattle.command_text.specs.Explained.{IsExplained, IsRefusalReported, IsRunExplained}
 use Rattle.command_facts.specs.Written.{WroteSome}
@@ -26,9 +26,9 @@ pub data LeavesFound (on : Terminal) (words : List (List ℕ)) (f : Found) (out 
       → IsExplained on.errors s err err_new → LeavesFound on words f out out_new err err_new (status_of_found s)
   CutOff : (s : Settled) (why : Stop) → f ≡ found.Settled s → WroteSome (status_of_found s) ⊥ (IsTextOf s) out out_new (Err why)
       → IsRefusalReported on words why about.Nothing err err_new → LeavesFound on words f out out_new err err_new status.Refused
-  -- a run is told statement by statement as it goes: the outcome is that of the program, and it gives the status
-  ToldAsItRan : (s : FoundSteps) (o : Outcome) (text : List ℕ) → f ≡ found.Stepped s → IsOutcomeOf s o → IsToldText on s o text
-      → out_new ≡ with_bytes out text → IsRunExplained on.errors (with_outcome s o) o err err_new
-      → LeavesFound on words f out out_new err err_new (status_of o)
-  BrokenOff : (s : FoundSteps) (why : Stop) → f ≡ found.Stepped s → IsCutOff on s out out_new why
+  -- a run is told statement by statement as it goes, up to where it ends: the outcome is that of the program, and it gives the status
+  ToldAsItRan : (s : FoundSteps) (k : ℕ) (o : Outcome) (text : List ℕ) → f ≡ found.Stepped s → EndsIn s k → IsOutcomeOf (cut_at s k) o
+      → IsToldText on (cut_at s k) o text → out_new ≡ with_bytes out text
+      → IsRunExplained on.errors (with_outcome (cut_at s k) o) o err err_new → LeavesFound on words f out out_new err err_new (status_of o)
+  BrokenOff : (s : FoundSteps) (k : ℕ) (why : Stop) → f ≡ found.Stepped s → EndsIn s k → IsCutOff on (cut_at s k) out out_new why
       → IsRefusalReported on words why about.Nothing err err_new → LeavesFound on words f out out_new err err_new status.Refused

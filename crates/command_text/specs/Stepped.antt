@@ -13,7 +13,8 @@ use Rattle.step_text.specs.declared.telling.Telling.{Telling}
 use Rattle.command_requests.specs.declared.form.Form.TheVariants as form
 use Rattle.command_facts.specs.declared.found.FoundRun.{FoundRun}
 use Rattle.command_facts.specs.declared.found.FoundSteps.{FoundSteps}
-use Rattle.command_facts.specs.Found.{IsOutcomeOf, entries_of, with_outcome}
+use Rattle.journal.specs.declared.telling_in_time.Ending.{Ending}
+use Rattle.command_facts.specs.Found.{EndsIn, IsOutcomeOf, cut_at, entries_of, with_outcome}
 use Rattle.command_text.specs.declared.terminal.Terminal.{Terminal}
 use Rattle.command_text.specs.Steps.{IsTelling}
 use Rattle.command_text.specs.Texts.{AreStepsText, IsPageOf}
@@ -66,3 +67,14 @@ IsToldBy on s old new (Err why) = IsCutOff on s old new why
 abbrev pub IsToldRun : Terminal → FoundSteps → (old new : OutState) → Result FoundRun Stop → Type 0
 IsToldRun on s old new (Ok run) = (run ≡ with_outcome s run.outcome) × IsToldBy on s old new (Ok run.outcome)
 IsToldRun on s old new (Err why) = IsCutOff on s old new why
+
+-- ---- in time
+
+-- it ends behind so many statements, up to which it is told
+abbrev pub IsToldUpTo : Terminal → FoundSteps → (old new : OutState) → Result Ending Stop → Type 0
+IsToldUpTo on s old new (Ok r) = EndsIn s r.bound × IsToldBy on (cut_at s r.bound) old new (Ok r.outcome)
+IsToldUpTo on s old new (Err why) = (k : ℕ) × EndsIn s k × IsCutOff on (cut_at s k) old new why
+
+-- and the run comes back with what it came to there
+abbrev pub IsToldInTime : Terminal → FoundSteps → (old new : OutState) → Result FoundRun Stop → Type 0
+IsToldInTime on s old new r = (k : ℕ) × EndsIn s k × IsToldRun on (cut_at s k) old new r

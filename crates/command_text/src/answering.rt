@@ -4,7 +4,7 @@ ghost use Rattle.std.specs.Prelude.{map};
 ghost use Rattle.std.specs.String.{string_bytes};
 ghost use Rattle.command_text.specs.Explained.{IsRefusalReported};
 ghost use Rattle.command_text.specs.Left.{LeavesFound};
-ghost use Rattle.command_text.specs.Stepped.{IsToldRun};
+ghost use Rattle.command_text.specs.Stepped.{IsToldInTime};
 
 use crate::explaining::{explain, explain_run, report};
 use crate::stepping::write_stepped;
@@ -12,9 +12,10 @@ use crate::telling::write_found;
 use crate::terminal::Terminal;
 use command_facts::{Found, FoundRun, FoundSteps, Settled, Voice};
 use diagnoses::Halted;
-use observing::{Nobody, Watch};
+use observing::Watch;
 use program_texts::{Status, Stop};
 use std::alloc::Global;
+use system_files::Quiet;
 use text_out::Out;
 
 // A run of a program is told as it runs. The watch is told how far it is, but where its lines come on a terminal.
@@ -25,10 +26,10 @@ fn write_watched<'a, 'b, V: Watch, O: Out>(
     watch: &mut V,
     out: &mut O,
 ) -> Result<FoundRun<'b>, Stop<'a>>
-    ensures told { IsToldRun on steps.entry (O.Out.state out.old) (O.Out.state out.new) result }
+    ensures told { IsToldInTime on steps.entry (O.Out.state out.old) (O.Out.state out.new) result }
 {
     if on.output {
-        return write_stepped(alloc, on, steps, &mut Nobody, out);
+        return write_stepped(alloc, on, steps, &mut Quiet::new(watch), out);
     }
     let told = write_stepped(alloc, on, steps, watch, out);
     watch.close();

@@ -10,6 +10,7 @@ mod stepping;
 mod sweeping;
 mod telling;
 mod terminal;
+mod timing;
 mod tracing;
 mod writing;
 

@@ -1,9 +1,9 @@
 //! Runs of a program that are told statement by statement: in words as they go, drawn, or as a page.
 
-ghost use Rattle.std.specs.Prelude.{◌≡◌, IfErr, IfOk, OnOk, length, map};
+ghost use Rattle.std.specs.Prelude.{◌≡◌, IfErr, IfOk, length, map};
 ghost use Rattle.text_out.specs.Out.{with_bytes};
 ghost use Rattle.write_rules.specs.Verdict.{verdict_of};
-ghost use Rattle.command_facts.specs.Found.{IsOutcomeOf, entries_of};
+ghost use Rattle.command_facts.specs.Found.{EndsIn, IsOutcomeOf, cut_at, entries_of};
 ghost use Rattle.command_facts.specs.Written.{Wrote};
 ghost use Rattle.program_texts.specs.Shown.{shown};
 ghost use Rattle.program_texts.specs.Status.{status_of};
@@ -19,9 +19,10 @@ ghost use Rattle.command_text.specs.Steps as spec;
 use crate::flowing::write_as_flow;
 use crate::paging::write_as_page;
 use crate::terminal::Terminal;
+use crate::timing::in_time;
 use command_facts::{FoundRun, FoundSteps};
 use command_requests::{Form, StepWords};
-use journal::{Excerpt, steps_between};
+use journal::{Ending, Excerpt, steps_between};
 use memory_texts::Choice;
 use observing::Watch;
 use pictures::write_excerpt;
@@ -115,10 +116,11 @@ fn stream_lines<'a, V: Watch, O: Out>(
     telling: &Telling<'_>,
     watch: &mut V,
     out: &mut O,
-) -> Result<Outcome, Stop<'a>>
-    ensures outcome { IfOk result (IsOutcomeOf steps.now) }
-    ensures lines { OnOk result (O.Out.state out.new
-        ≡ with_bytes (O.Out.state out.old) (stepped.lines_of steps.now telling.now (entries_of steps.now))) }
+) -> Result<Ending, Stop<'a>>
+    ensures ends { IfOk result (λ r. EndsIn steps.now r.bound) }
+    ensures outcome { IfOk result (λ r. IsOutcomeOf (cut_at steps.now r.bound) r.outcome) }
+    ensures lines { IfOk result (λ r. O.Out.state out.new
+        ≡ with_bytes (O.Out.state out.old) (stepped.lines_of steps.now telling.now (entries_of (cut_at steps.now r.bound)))) }
     ensures cut { IfErr result (stepped.IsCutIn steps.now telling.now (O.Out.state out.old) (O.Out.state out.new)) }
 {
     let (program, bound) = (&steps.loaded.program, steps.limit.bound);
@@ -128,13 +130,14 @@ fn stream_lines<'a, V: Watch, O: Out>(
         program,
         &steps.input,
         bound,
+        steps.until(),
         telling,
         first,
         last,
         watch,
         out,
     ) {
-        Ok(outcome) => Ok(outcome),
+        Ok(ending) => Ok(ending),
         Err(failure) => Err(Stop::from(failure)),
     }
 }
@@ -159,16 +162,16 @@ fn write_in_words<'a, V: Watch, O: Out>(
     steps: &FoundSteps<'_>,
     watch: &mut V,
     out: &mut O,
-) -> Result<Outcome, Stop<'a>>
+) -> Result<Ending, Stop<'a>>
     requires form { steps.now.words.form ≡ Form.Words }
-    ensures told { stepped.IsToldBy on steps.now (O.Out.state out.old) (O.Out.state out.new) result }
+    ensures told { stepped.IsToldUpTo on steps.now (O.Out.state out.old) (O.Out.state out.new) result }
 {
     let text = steps.loaded.source.bytes.as_slice();
     let sized = steps.loaded.source.text();
     let telling = telling_of(on, steps.words, text, sized, &steps.loaded.program);
-    let outcome = stream_lines(alloc, steps, &telling, watch, out)?;
-    write_ending(steps.loaded.program.layout(), &outcome, out)?;
-    Ok(outcome)
+    let ending = stream_lines(alloc, steps, &telling, watch, out)?;
+    write_ending(steps.loaded.program.layout(), &ending.outcome, out)?;
+    Ok(ending)
 }
 
 // The statements that are asked for, and how many there are in all. The input fits, so that a run is refused for memory alone.
@@ -263,10 +266,10 @@ fn write_words_behind<'a, 'b, V: Watch, O: Out>(
     out: &mut O,
 ) -> Result<FoundRun<'b>, Stop<'a>>
     requires form { steps.words.form ≡ Form.Words }
-    ensures told { stepped.IsToldRun on steps.entry (O.Out.state out.old) (O.Out.state out.new) result }
+    ensures told { stepped.IsToldInTime on steps.entry (O.Out.state out.old) (O.Out.state out.new) result }
 {
-    let outcome = write_in_words(alloc, on, &steps, watch, out)?;
-    Ok(steps.with_outcome(outcome))
+    let Ending { outcome, bound } = write_in_words(alloc, on, &steps, watch, out)?;
+    Ok(steps.cut_at(bound).with_outcome(outcome))
 }
 
 // A picture of a run, with what it came to.
@@ -284,6 +287,7 @@ fn write_picture_behind<'a, 'b, V: Watch, O: Out>(
 }
 
 /// Runs a program and tells it statement by statement, in words as it runs, drawn, or as a page; and answers the run with what it came to.
+/// Where its seconds are over it ends: in words where it is, and in the other forms within a bound that was found before.
 ///
 /// In words a line is written as soon as its statement has run, and none is kept; of a picture those statements are kept that are asked
 /// for; of a page no more than the lines that could stand in it; of the flow of data the statements that are drawn. The watch is told how
@@ -295,12 +299,21 @@ pub(crate) fn write_stepped<'a, 'b, V: Watch, O: Out>(
     watch: &mut V,
     out: &mut O,
 ) -> Result<FoundRun<'b>, Stop<'a>>
-    ensures told { stepped.IsToldRun on steps.entry (O.Out.state out.old) (O.Out.state out.new) result }
+    ensures told { stepped.IsToldInTime on steps.entry (O.Out.state out.old) (O.Out.state out.new) result }
 {
     match steps.words.form {
         Form::Words => write_words_behind(alloc, on, steps, watch, out),
-        Form::Picture => write_picture_behind(alloc, steps, watch, out),
-        Form::Flow => write_flow_behind(alloc, steps, watch, out),
-        Form::Page => write_page_behind(alloc, steps, watch, out),
+        Form::Picture => {
+            let steps = in_time(alloc, steps, watch);
+            write_picture_behind(alloc, steps, watch, out)
+        }
+        Form::Flow => {
+            let steps = in_time(alloc, steps, watch);
+            write_flow_behind(alloc, steps, watch, out)
+        }
+        Form::Page => {
+            let steps = in_time(alloc, steps, watch);
+            write_page_behind(alloc, steps, watch, out)
+        }
     }
 }

@@ -18,3 +18,5 @@ pub mod Costed
 pub mod Complete
 pub mod KeptBetween
 pub mod EachState
+pub mod Cuts
+pub mod HeardInTime

@@ -18,3 +18,4 @@ pub mod HeardLaws
 pub mod Telling
 pub mod Between
 pub mod BetweenLaws
+pub mod InTime

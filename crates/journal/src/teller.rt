@@ -25,6 +25,15 @@ pub trait Teller {
         ensures told { OnOk result (tells self.old (spec.entry_is entry ∷ []) self.new) }
         ensures broken { OnErr result (breaks_off self.old (spec.entry_is entry) self.new) };
 
+    /// What was told is to be seen by now: what of it is still held on the way is handed on. The error is that this failed, behind which
+    /// nothing more is told.
+    fn show(&mut self) -> Result<(), AllocError>
+        ensures shown { OnOk result (tells self.old [] self.new) }
+        ensures broken { OnErr result ((e : spec.Entry) → breaks_off self.old e self.new) }
+    {
+        Ok(())
+    }
+
     ghost tells_nothing: { (t : Self) → tells t [] t };
 
     ghost tells_on: { (a b c : Self) (xs ys : List spec.Entry) → tells a xs b → tells b ys c → tells a (xs ++ ys) c };

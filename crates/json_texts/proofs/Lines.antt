@@ -3,11 +3,12 @@ use Rattle.std.proofs.Common.{◌≡◌, ◌∙◌, ℕ, Bool, true, false, List
 use Rattle.json_texts.specs.Lines.{IsJson}
 use Rattle.text_out.specs.Out.{OutState}
 use Rattle.text_out.specs.Printing.{Printing, Prints, printing}
+use Rattle.text_out.proofs.Printed.{prints_nothing}
 use Rattle.journal.specs.Entries.{Entry}
 use Rattle.step_text.specs.Passing.{is_told, one_more}
 use Rattle.step_text.proofs.Lines.{kept_by}
 use Rattle.json_texts.specs.declared.asked.Asked.{Asked}
-use Rattle.json_texts.specs.StreamLaws.{facts_are, json_as, json_nothing}
+use Rattle.json_texts.specs.StreamLaws.{facts_are, json_as, json_nothing, streams_nothing}
 use Rattle.json_texts.specs.Streams.{Breaks, PrintsJson, Streams, facts_behind, facts_if, facts_of}
 
 -- it is asked for, or not
@@ -29,7 +30,11 @@ passes_by a c late s t e h l same = record {
 
 -- its line was not made
 pub unmade : (a : Asked) (c : ℕ) (s t : Printing) (e : Entry) → t ≡ s → Breaks a c s t e
-unmade a c s t e same = inl same
+unmade a c s t e same = inl (subst (λ t. Prints s t []) (sym same) (prints_nothing s))
+
+-- the writer failed before it
+pub failed_before : (a : Asked) (c : ℕ) (s t : Printing) (e : Entry) → Prints s t [] → Breaks a c s t e
+failed_before a c s t e p = inl p
 
 -- it is asked for, and its line was printed
 printed_one : (a : Asked) (c : ℕ) (s u : Printing) (e : Entry) (text : List ℕ) → is_told a.first a.last c ≡ true →
@@ -50,3 +55,8 @@ wrote_one a c late s u f g e text h l ok json p = record {
       (printed_one a c (printing s f) (printing u g) e text h json p);
   kept = kept_by s u f g text p.by ok;
 }
+
+-- what was printed is handed on
+pub handed_on : (a : Asked) (c : ℕ) (s t : OutState) (f : Bool) → t ≡ s → Streams a c c (printing s f) (printing t f) []
+handed_on a c s t f same =
+    subst (λ t. Streams a c c (printing s f) (printing t f) []) (sym same) (streams_nothing a c (printing s f))

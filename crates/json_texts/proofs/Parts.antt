@@ -7,7 +7,7 @@ use Rattle.json_texts.specs.Lines.{IsJson}
 use Rattle.json_texts.specs.StepFacts.{steps_from}
 use Rattle.text_out.specs.Out.{OutState, with_bytes}
 use Rattle.text_out.specs.Printing.{Printing, Prints, printing}
-use Rattle.text_out.proofs.Printed.{finished, stopped}
+use Rattle.text_out.proofs.Printed.{finished, printed_as, prints_then, stopped}
 use Rattle.text_out.proofs.Writing.{with_bytes-nothing}
 use Rattle.journal.specs.Entries.{Entry}
 use Rattle.journal.specs.Telling.{BrokeOff, HasToldPart, ToldFirst}
@@ -27,13 +27,17 @@ next_line a b c d t u first next same count p =
 
 module _ (a : Asked) (c : ℕ) (s t u : Printing) (first : List Entry) (next : Entry) (rest es : List Entry)
     (whole : es ≡ first ++ next ∷ rest) (told : PrintsJson s t (facts_behind a c first)) where
-  -- the line of the next one was not made
-  without : u ≡ t → PrintsFirst a c s u es
-  without same = record {
+  -- nothing of the next one was printed
+  without : Prints t u [] → PrintsFirst a c s u es
+  without nothing = record {
     first = first;
     rest = next ∷ rest;
     whole = whole;
-    prints = subst (λ u. PrintsJson s u (facts_behind a c first)) (sym same) told;
+    prints = record {
+      text = told.text;
+      json = told.json;
+      printed = printed_as (sym (append-nil told.text)) (prints_then told.printed nothing);
+    };
   }
 
   -- the writer failed in it

@@ -3,8 +3,8 @@ use Rattle.std.specs.Prelude.{◌≡◌, ℕ, List, ◌++◌, Result, Ok, Err}
 use Rattle.serde_json.specs.Data.{Data}
 use Rattle.json_texts.specs.Lines.{IsJson}
 use Rattle.text_out.specs.Out.{OutState, StopsIn, with_bytes}
-use Rattle.write_rules.specs.declared.outcome.Outcome.{Outcome}
 use Rattle.journal.specs.Entries.{Entry}
+use Rattle.journal.specs.declared.telling_in_time.Ending.{Ending}
 use Rattle.step_text.specs.declared.failure.StreamFailure.{StreamFailure}
 use Rattle.step_text.specs.declared.failure.StreamFailure.TheVariants as failure
 
@@ -32,10 +32,11 @@ pub record WroteJson (old new : OutState) (facts : List Data) : Type 0 where
   pub json : IsJson facts text
   pub written : new ≡ with_bytes old text
 
--- All lines that are asked for were taken; or a beginning of those of some first entries, and the writer failed; or where memory was
--- refused those of the statements before; and none where the run was refused.
-abbrev pub HasStreamedJson : (old new : OutState) → (facts : List Entry → List Data) → List Entry → Result Outcome StreamFailure → Type 0
-HasStreamedJson old new facts es (Ok outcome) = WroteJson old new (facts es)
-HasStreamedJson old new facts es (Err failure.WriteFailed) = StopsInFirst old new facts es
-HasStreamedJson old new facts es (Err failure.OutOfMemory) = WroteFirstJson old new facts es
-HasStreamedJson old new facts es (Err failure.InputTooLong) = new ≡ old
+-- Of the entries up to the bound at which the run ended all lines that are asked for were taken; or a beginning of those of some first
+-- entries, and the writer failed; or where memory was refused those of the statements before; and none where the run was refused.
+abbrev pub HasStreamedJson : (old new : OutState) → (facts : List Entry → List Data) → (entries : ℕ → List Entry) → (bound : ℕ) →
+    Result Ending StreamFailure → Type 0
+HasStreamedJson old new facts entries bound (Ok ending) = WroteJson old new (facts (entries ending.bound))
+HasStreamedJson old new facts entries bound (Err failure.WriteFailed) = StopsInFirst old new facts (entries bound)
+HasStreamedJson old new facts entries bound (Err failure.OutOfMemory) = WroteFirstJson old new facts (entries bound)
+HasStreamedJson old new facts entries bound (Err failure.InputTooLong) = new ≡ old

@@ -1,5 +1,5 @@
 -- What was written of entries that come one after the other.
-use Rattle.std.specs.Prelude.{◌≡◌, ◌⊎◌, ◌+◌, ℕ, List, ◌++◌}
+use Rattle.std.specs.Prelude.{◌≡◌, ◌⊎◌, ◌+◌, ℕ, List, [], ◌++◌}
 use Rattle.serde_json.specs.Data.{Data}
 use Rattle.json_texts.specs.Lines.{IsJson}
 use Rattle.json_texts.specs.StepFacts.{step_facts, step_within, steps_from}
@@ -32,9 +32,10 @@ pub record Streams (a : Asked) (count late : ℕ) (old new : Printing) (es : Lis
   pub prints : PrintsJson old new (facts_behind a count es)
   pub kept : new.failed ≡ old.failed
 
--- The telling broke off at this entry: its line could not be made, or the writer failed in it.
+-- The telling broke off at this entry: nothing of its line was printed, which could not be made or before which the writer failed; or the
+-- writer failed in it.
 abbrev pub Breaks : Asked → (count : ℕ) → (old new : Printing) → Entry → Type 0
-Breaks a count old new e = (new ≡ old) ⊎ PrintsJson old new (facts_if a count e)
+Breaks a count old new e = Prints old new [] ⊎ PrintsJson old new (facts_if a count e)
 
 -- some of the first entries have passed, and of just these the lines were printed, as far as the writer took them
 pub record PrintsFirst (a : Asked) (count : ℕ) (old new : Printing) (es : List Entry) : Type 0 where

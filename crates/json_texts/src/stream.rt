@@ -14,7 +14,7 @@ use crate::asked::Asked;
 use crate::json_step;
 use journal::{Entry, Teller};
 use std::alloc::{AllocError, Global};
-use text_out::Out;
+use text_out::{Out, OutFailed};
 
 /// Writes the lines that are asked for of a run's entries as these come, and keeps none: how many were counted so far, and whether the
 /// writer has failed, behind which nothing more is written.
@@ -111,6 +111,19 @@ impl<'a, W: Out> Teller for Stream<'a, W> {
         }
         self.count_on();
         Ok(())
+    }
+
+    fn show(&mut self) -> Result<(), AllocError> {
+        if self.failed {
+            return Err(AllocError);
+        }
+        match self.out.flush() {
+            Ok(()) => Ok(()),
+            Err(OutFailed) => {
+                self.failed = true;
+                Err(AllocError)
+            }
+        }
     }
 
     ghost tells_nothing = { λ t. (refl, refl, streams_nothing t.asked t.count (printing (W.Out.state t.out.now) t.failed)) };

@@ -101,18 +101,17 @@ fn costed<'a, S: Sources, V: Watch>(
     Ok(Found::Settled(Settled::Costed(run, costs, cost)))
 }
 
-fn stepped<'a, S: Sources, V: Watch>(
+fn stepped<'a, S: Sources>(
     alloc: Global,
     file: &ProgramFile<'a>,
     words: MeaningWords<'a>,
     steps: StepWords<'a>,
     sources: &mut S,
-    watch: &mut V,
 ) -> Result<Found<'a>, Halted<'a>>
     ensures found { IfOk result (Finds (S.Sources.holds sources.old) (Request.Steps file.now words.entry steps.entry)) }
     ensures refused { IfErr result (Refuses (S.Sources.holds sources.old) (Request.Steps file.now words.entry steps.entry)) }
 {
-    let found = find_steps(alloc, file, words, steps, sources, watch)?;
+    let found = find_steps(alloc, file, words, steps, sources)?;
     Ok(Found::Stepped(found))
 }
 
@@ -266,7 +265,7 @@ pub(crate) fn find<'a, R: Threads + Wait + Sync, S: Sources, V: Watch + Gate + S
         }
         Request::Cost { file, words, costs } => costed(alloc, &file, words, costs, sources, watch),
         Request::Steps { file, words, steps } => {
-            stepped(alloc, &file, words, steps, sources, watch)
+            stepped(alloc, &file, words, steps, sources)
         }
         Request::Rules {
             file,

@@ -5,6 +5,7 @@ ghost use Rattle.pram_model.specs.Layout.{total_size};
 ghost use Rattle.text_out.specs.Printing.{printing};
 ghost use Rattle.write_rules.specs.Verdict.{verdict_of};
 ghost use Rattle.pram_meaning.specs.Outcome.{IsOutcome};
+ghost use Rattle.journal.specs.InTime.{EndsBy};
 ghost use Rattle.journal.specs.RunEntries.{run_entries};
 ghost use Rattle.step_text.specs.StepText.{steps_text};
 ghost use Rattle.step_text.specs.Streamed.{HasStreamed};
@@ -14,13 +15,12 @@ use crate::Telling;
 use crate::asked::Asked;
 use crate::failure::StreamFailure;
 use crate::stream::Stream;
-use journal::tell_run;
+use journal::{Ending, tell_in_time};
 use observing::Watch;
 use pram_check::Program;
 use pram_meaning::MeaningRefusal;
 use std::alloc::Global;
 use text_out::Out;
-use write_rules::Outcome;
 
 // The run, told to a stream, which comes back; what it comes to goes into `done`.
 fn run_into<'a, W: Out, V: Watch>(
@@ -28,25 +28,27 @@ fn run_into<'a, W: Out, V: Watch>(
     program: &Program,
     input: &[i64],
     bound: u32,
+    until: Option<u64>,
     stream: Stream<'a, W>,
     watch: &mut V,
-    done: &mut Result<Outcome, MeaningRefusal>,
+    done: &mut Result<Ending, MeaningRefusal>,
 ) -> Stream<'a, W>
     ensures same_out { result.out.ghost_name ≡ stream.entry.out.ghost_name }
-    ensures outcome { IfOk done.new (λ o. IsOutcome program.now input.now bound (verdict_of o)) }
+    ensures outcome { IfOk done.new (λ r. IsOutcome program.now input.now r.bound (verdict_of r.outcome)) }
+    ensures ends { IfOk done.new (λ r. EndsBy until bound r.bound) }
     ensures fits { OnOk done.new (length input.now ≤ total_size program.now.layout) }
     ensures too_long { (done.new ≡ Err MeaningRefusal.InputTooLong) ↔ (total_size program.now.layout < length input.now) }
-    ensures told { OnOk done.new (Streams stream.entry.asked stream.entry.count result.count
+    ensures told { IfOk done.new (λ r. Streams stream.entry.asked stream.entry.count result.count
         (printing (W.Out.state stream.entry.out.now) stream.entry.failed) (printing (W.Out.state result.out.now) result.failed)
-        (run_entries program.now input.now bound)) }
+        (run_entries program.now input.now r.bound)) }
     ensures part { done.new ≡ Err MeaningRefusal.OutOfMemory → PrintsFirst stream.entry.asked stream.entry.count
         (printing (W.Out.state stream.entry.out.now) stream.entry.failed) (printing (W.Out.state result.out.now) result.failed)
         (run_entries program.now input.now bound) }
     ensures untold { done.new ≡ Err MeaningRefusal.InputTooLong → Streams stream.entry.asked stream.entry.count result.count
         (printing (W.Out.state stream.entry.out.now) stream.entry.failed) (printing (W.Out.state result.out.now) result.failed) [] }
 {
-    let (stream, outcome) = tell_run(alloc, program, input, bound, stream, watch);
-    *done = outcome;
+    let (stream, ending) = tell_in_time(alloc, program, input, bound, until, stream, watch);
+    *done = ending;
     stream
 }
 
@@ -62,14 +64,17 @@ pub fn stream_steps<W: Out, V: Watch>(
     program: &Program,
     input: &[i64],
     bound: u32,
+    until: Option<u64>,
     telling: &Telling<'_>,
     first: usize,
     last: usize,
     watch: &mut V,
     out: &mut W,
-) -> Result<Outcome, StreamFailure>
-    // The outcome is that of the program on the input within the bound.
-    ensures outcome { IfOk result (λ o. IsOutcome program.now input.now bound (verdict_of o)) }
+) -> Result<Ending, StreamFailure>
+    // The outcome is that of the program on the input within the bound at which the run ends.
+    ensures outcome { IfOk result (λ r. IsOutcome program.now input.now r.bound (verdict_of r.outcome)) }
+    // That is the bound that is asked for, and with a time no more.
+    ensures ends { IfOk result (λ r. EndsBy until bound r.bound) }
     // An input that is run has no more values than the program has cells.
     ensures fits { OnOk result (length input.now ≤ total_size program.now.layout) }
     // The input is refused as too long exactly where it has more values than the program has cells.
@@ -77,7 +82,7 @@ pub fn stream_steps<W: Out, V: Watch>(
     // Exactly the text of the run's entries is written, or a beginning and a failure; where memory is refused, whole
     // lines of some first entries.
     ensures written { HasStreamed (W.Out.state out.old) (W.Out.state out.new)
-        (steps_text program.now.layout telling.now first last) (run_entries program.now input.now bound) result }
+        (steps_text program.now.layout telling.now first last) (run_entries program.now input.now) bound result }
 {
     let asked = Asked {
         layout: program.layout(),
@@ -92,10 +97,10 @@ pub fn stream_steps<W: Out, V: Watch>(
         failed: false,
     };
     let mut done = Err(MeaningRefusal::OutOfMemory);
-    let stream = run_into(alloc, program, input, bound, stream, watch, &mut done);
+    let stream = run_into(alloc, program, input, bound, until, stream, watch, &mut done);
     let Stream { failed, .. } = stream;
     match done {
-        Ok(outcome) => Ok(outcome),
+        Ok(ending) => Ok(ending),
         Err(MeaningRefusal::InputTooLong) => Err(StreamFailure::InputTooLong),
         Err(MeaningRefusal::OutOfMemory) => {
             if failed {

@@ -1,8 +1,8 @@
 //! The system's files and streams.
 
-ghost use Rattle.std.specs.Prelude.{◌≡◌, ◌⊎◌, ◌+◌, ◌++◌, ◌<◌, ◌≤◌, [], None, true, false, IfOk, OnOk, OnErr, length, take};
+ghost use Rattle.std.specs.Prelude.{◌≡◌, ◌⊎◌, ◌+◌, ◌++◌, ◌<◌, ◌≤◌, [], List, None, true, false, IfOk, OnOk, OnErr, length, take, ℕ};
 ghost use Rattle.text_out.specs.Out.{OutState, with_failure};
-ghost use Rattle.system_files.specs.Held.{held_at};
+ghost use Rattle.system_files.specs.Held.{HandsOn, IsLines, held_in};
 
 use crate::folder::{names_in, parted};
 use crate::sources::{Beside, SourceFault, Sources};
@@ -11,11 +11,25 @@ use std::fs::{File, Files};
 use std::io::{ErrorKind, Print, Read, Stdin};
 use text_out::{Out, OutFailed};
 
-/// A stream of the system, to which bytes go by up to 4,096 at a time. What it took is with the
-/// system after a flush; what the system did with it isn't known.
+// Up to behind the last end of a line that stands there; nothing where none does.
+fn lines_in(bytes: &[u8]) -> usize
+    ensures few { result ≤ length bytes.now }
+    ensures lines { (result ≡ 0) ⊎ IsLines (take result bytes.now) }
+{
+    let mut count = bytes.len();
+    while count > 0 && bytes[count - 1] != b'\n' {
+        count -= 1;
+    }
+    count
+}
+
+/// A stream of the system, to which bytes go by whole lines: by as many as have room in 4,096 bytes, or by one that is longer. What it took
+/// is with the system after a flush; what the system did with it isn't known.
 #[derive(Drop)]
 pub struct Stream<P: Print> {
     stream: P,
+    // the beginning of a line that is longer than a block, which stands before what is held
+    long: Vec<u8>,
     held: [u8; 4096],
     len: usize,
     failed: bool,
@@ -24,41 +38,76 @@ pub struct Stream<P: Print> {
 
 impl<P: Print> Stream<P> {
     /// Nothing is held, and nothing has failed.
-    pub fn new(stream: P) -> Stream<P>
+    pub fn new(alloc: Global, stream: P) -> Stream<P>
         ensures { (⟦<Stream<P> as Out>⟧.state result).failed ≡ false }
     {
         Stream {
             stream,
+            long: Vec::new(alloc),
             held: [0; 4096],
             len: 0,
             failed: false,
         }
     }
 
-    // Hands the held bytes to the system.
-    fn pass(&mut self) -> Result<(), OutFailed>
-        ensures ok { OnOk result ((self.new.failed ≡ self.old.failed) × (self.new.len ≡ 0)) }
-        ensures failed { OnErr result ((self.new.failed ≡ true) × (self.new.len ≡ self.old.len)) }
-        ensures held { self.new.held ≡ self.old.held }
+    // Hands what is held up to there to the system, with the beginning of a long line before it, at once where there is memory for that.
+    fn hand_on(&mut self, end: usize) -> Result<(), OutFailed>
+        requires inside { end ≤ self.old.len }
+        ensures ok { OnOk result ((self.new.failed ≡ self.old.failed) × (self.new.long.items ≡ [])) }
+        ensures failed { OnErr result (self.new.failed ≡ true) }
+        ensures held { (self.new.held ≡ self.old.held) × (self.new.len ≡ self.old.len) }
     {
-        match self.stream.write_all(&self.held[..self.len]) {
-            Ok(()) => {
-                self.len = 0;
-                Ok(())
-            }
-            Err(_) => {
-                self.failed = true;
-                Err(OutFailed)
-            }
-        }
+        let told = if self.long.is_empty() {
+            self.stream.write_all(&self.held[..end])
+        } else if self.long.extend_from_slice(&self.held[..end]).is_ok() {
+            self.stream.write_all(&self.long)
+        } else {
+            self.stream
+                .write_all(&self.long)
+                .and_then(|()| self.stream.write_all(&self.held[..end]))
+        };
+        self.long.clear();
+        self.failed = self.failed || told.is_err();
+        if told.is_ok() { Ok(()) } else { Err(OutFailed) }
     }
-}
 
-impl<P: Print> Stream<P> {
+    // Hands all that is held to the system.
+    fn pass(&mut self) -> Result<(), OutFailed>
+        ensures ok { OnOk result ((self.new.failed ≡ self.old.failed) × (self.new.len ≡ 0) × (self.new.long.items ≡ [])) }
+        ensures failed { OnErr result (self.new.failed ≡ true) }
+    {
+        let told = self.hand_on(self.len);
+        self.len = 0;
+        told
+    }
+
+    // Hands whole lines on, of which the rest stays; or makes room for the rest of a long one.
+    fn make_room(&mut self) -> Result<(), OutFailed>
+        requires full { self.old.len ≡ 4096 }
+        ensures room { OnOk result (self.new.len < 4096) }
+        ensures kept { OnOk result (HandsOn (held_in self.old.long.items self.old.len self.old.held)
+            (held_in self.new.long.items self.new.len self.new.held) × (self.new.failed ≡ self.old.failed)) }
+        ensures failed { OnErr result (self.new.failed ≡ true) }
+    {
+        let end = lines_in(&self.held);
+        if end > 0 {
+            self.hand_on(end)?;
+            self.held.copy_within(end..4096, 0);
+            self.len = 4096 - end;
+            return Ok(());
+        }
+        if self.long.extend_from_slice(&self.held).is_err() {
+            return self.pass();
+        }
+        self.len = 0;
+        Ok(())
+    }
+
     // Holds more bytes, behind those held.
     fn hold(&mut self, bytes: &[u8])
         requires room { self.old.len + length bytes.now ≤ 4096 }
         ensures kept { take self.new.len self.new.held ≡ take self.old.len self.old.held ++ bytes.now }
+        ensures long { self.new.long ≡ self.old.long }
         ensures failed { self.new.failed ≡ self.old.failed }
     {
         let end = self.len + bytes.len();
@@ -73,13 +122,14 @@ impl<P: Print> Out for Stream<P> {
     fn write(&mut self, bytes: &[u8]) -> Result<usize, OutFailed>
         ensures some { IfOk result (λ n. (bytes.now ≡ []) ⊎ (0 < n)) }
         ensures part { IfOk result (λ n. n ≤ length bytes.now) }
-        // What was taken is held, behind what was held before, if that wasn't handed on.
-        ensures taken { IfOk result (λ n. (take self.new.len self.new.held ≡ held_at self.old.len self.old.held ++ take n bytes.now)
-            × (self.new.failed ≡ self.old.failed)) }
+        // What was taken is held behind what was held before, of which whole lines may be handed on, or all where
+        // memory for a long line was refused.
+        ensures taken { IfOk result (λ n. (mid : List ℕ) × HandsOn (held_in self.old.long.items self.old.len self.old.held) mid
+            × (held_in self.new.long.items self.new.len self.new.held ≡ mid ++ take n bytes.now) × (self.new.failed ≡ self.old.failed)) }
         ensures failed { OnErr result (self.new.failed ≡ true) }
     {
         if self.len == 4096 {
-            self.pass()?;
+            self.make_room()?;
         }
         let count = bytes.len().min(4096 - self.len);
         self.hold(&bytes[..count]);
@@ -87,7 +137,7 @@ impl<P: Print> Out for Stream<P> {
     }
 
     fn flush(&mut self) -> Result<(), OutFailed>
-        ensures ok { OnOk result ((self.new.failed ≡ self.old.failed) × (self.new.len ≡ 0)) }
+        ensures ok { OnOk result ((self.new.failed ≡ self.old.failed) × (self.new.len ≡ 0) × (self.new.long.items ≡ [])) }
         ensures failed { OnErr result (self.new.failed ≡ true) }
     {
         self.pass()

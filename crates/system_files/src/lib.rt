@@ -5,10 +5,12 @@
 mod console;
 mod folder;
 mod progress_line;
+mod quiet;
 mod sources;
 mod unwatched;
 
 pub use console::{Stream, SystemFiles};
 pub use progress_line::{ErrorStream, ProgressLine};
+pub use quiet::Quiet;
 pub use sources::{Beside, SourceFault, Sources};
 pub use unwatched::Unwatched;

@@ -14,7 +14,7 @@ returns-in-Ok g c = record {
 
 pub returns-in-Err : goal.returns-in-Err
 returns-in-Err g c = record {
-  leaves = BrokenOff c.args.steps c.in-Err.stop refl c.in-Err.ensures.told
+  leaves = BrokenOff c.args.steps c.in-Err.ensures.told.0 c.in-Err.stop refl c.in-Err.ensures.told.1 c.in-Err.ensures.told.2
       (told_alone (IsRefusalReported c.args.on (map string_bytes c.args.words.now)) c.from.result c.in-Err.stop _ _
       c.from.ensures c.report.ensures.written);
 }

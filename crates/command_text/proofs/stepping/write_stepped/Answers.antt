@@ -1,10 +1,20 @@
+use Rattle.command_text.proofs.StepsWritten.{shown_in_time}
 use Rattle.command_text.proofs.stepping.write_stepped.Goals as goal
 
 pub returns-in-Picture : goal.returns-in-Picture
-returns-in-Picture g c = record { told = c.write_picture_behind.ensures.told c.args.on }
+returns-in-Picture g c = record {
+  told = shown_in_time c.args.on c.args.steps c.in_time-steps.result _ _ _ c.in_time-steps.ensures
+      (c.write_picture_behind.ensures.told c.args.on);
+}
 
 pub returns-in-Flow : goal.returns-in-Flow
-returns-in-Flow g c = record { told = c.write_flow_behind.ensures.told c.args.on }
+returns-in-Flow g c = record {
+  told = shown_in_time c.args.on c.args.steps c.in_time-in-Flow-steps.result _ _ _ c.in_time-in-Flow-steps.ensures
+      (c.write_flow_behind.ensures.told c.args.on);
+}
 
 pub returns-in-Page : goal.returns-in-Page
-returns-in-Page g c = record { told = c.write_page_behind.ensures.told c.args.on }
+returns-in-Page g c = record {
+  told = shown_in_time c.args.on c.args.steps c.in_time-in-Page-steps.result _ _ _ c.in_time-in-Page-steps.ensures
+      (c.write_page_behind.ensures.told c.args.on);
+}

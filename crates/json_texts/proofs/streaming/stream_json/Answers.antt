@@ -1,11 +1,11 @@
 use Rattle.std.proofs.Common.{◌∙◌, Err, ap, rules}
-use Rattle.journal.proofs.Told.{given_ok}
+use Rattle.journal.proofs.HeardInTime.{given_of}
 use Rattle.json_texts.proofs.Parts.{all_written, first_written, none_written, write_failed}
 use Rattle.json_texts.proofs.streaming.stream_json.Goals as goal
 
 pub returns-in-Ok-clause-written : goal.returns-in-Ok-clause-written
 returns-in-Ok-clause-written g c =
-    let told = given_ok c.run_into-stream.new.done _ c.in-Ok.outcome c.in-Ok.is c.run_into-stream.ensures.told in
+    let told = given_of c.run_into-stream.new.done _ c.in-Ok.ending c.in-Ok.is c.run_into-stream.ensures.told in
     let written = all_written _ _ _ c.layout.ensures c.tree.ensures.tree _ _ _ _ _ told in
     search rules
 

@@ -7,5 +7,5 @@ pub returns-clause-part : goal.returns-clause-part
 returns-clause-part g c refused =
     part_printed (λ (s : Stream g.row.W.Denot). s.asked) (λ (s : Stream g.row.W.Denot). s.out.ghost_name)
     (λ (s : Stream g.row.W.Denot). s.count)
-    (λ (s : Stream g.row.W.Denot). printing (g.W.Out.state s.out.now) s.failed) c.args.stream c.tell_run-stream.result.0 _
-    (c.tell_run-stream.ensures.part refused)
+    (λ (s : Stream g.row.W.Denot). printing (g.W.Out.state s.out.now) s.failed) c.args.stream c.tell_in_time-stream.result.0 _
+    (c.tell_in_time-stream.ensures.part refused)
