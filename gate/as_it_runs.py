@@ -22,6 +22,7 @@ PROGRAM = Path(sys.argv[1]).resolve()
 SOON = 1.0  # a line comes within a tenth of a second, and a busy machine has this
 WHILE = 0.6  # for so long a run goes on before it is killed
 SHORT = 1.5  # a call of one second
+LEAST = 0.9  # and so long it is told, where it isn't drawn or a page
 ENDLESS = " --bound 4294967295"
 
 # One cell is set, and then a variable counts; and 3,000 processors count in a cell each, of which a line has more than 40,000 bytes.
@@ -111,7 +112,8 @@ def timed(words, folder):
 def in_time(words, folder):
     """What is wrong with a call that has one second."""
     took, status, output, errors = timed(words + " --seconds 1" + ENDLESS, folder)
-    if not 0.5 <= took <= SHORT or status != 3:
+    at_least = 0 if {"--html", "--svg"} & {*words.split()} else LEAST
+    if not at_least <= took <= SHORT or status != 3:
         yield f"pramc {words} --seconds 1: {took:.2f} s, status {status}"
         return
     said = errors.decode().split()

@@ -131,11 +131,15 @@ ends_at_all : (until : Option ℕ) (n : ℕ) → EndsBy until n n
 ends_at_all None n = refl
 ends_at_all (Some time) n = omega arith
 
+abbrev refusal_of : Result Ending MeaningRefusal → MeaningRefusal → MeaningRefusal
+refusal_of (Ok r) other = other
+refusal_of (Err e) other = e
+
 -- nothing is refused but what the run is refused for, where time was not over
 pub refused_by : (done : Result Outcome MeaningRefusal) (n : ℕ) (cut : Option Cut) (e : MeaningRefusal) → ending_of done n cut ≡ Err e →
     (done ≡ Err e) × (cut ≡ None)
 refused_by (Ok o) n None e is = absurd (cc is)
-refused_by (Err x) n None e is = (is, refl)
+refused_by (Err x) n None e is = (ap Err (ap (λ r. refusal_of r x) is), refl)
 refused_by (Ok o) n (Some c) e is = absurd (cc is)
 refused_by (Err x) n (Some c) e is = absurd (cc is)
 
@@ -167,6 +171,24 @@ module _ {J T : Type 0} (Tells : T → List Entry → T → Type 0) (BreaksOff :
   told_up_to (Err OutOfMemory) (Some c) is outcome heard part unheard =
       let e = ended_in_time Tells BreaksOff on program teller until cut p input n old new c same none is (part refl) in
       (e.outcome, e.ends, e.told)
+
+  pub outcome_up_to : (r : Result Ending MeaningRefusal) → IfOk r ToldUpTo → IfOk r (λ r. IsOutcome p input r.bound (verdict_of r.outcome))
+  outcome_up_to r h = if_ok_of r (λ r. IsOutcome p input r.bound (verdict_of r.outcome)) ToldUpTo (λ r q. q.0) h
+
+  pub ends_up_to : (r : Result Ending MeaningRefusal) → IfOk r ToldUpTo → IfOk r (λ r. EndsBy (until old) n r.bound)
+  ends_up_to r h = if_ok_of r (λ r. EndsBy (until old) n r.bound) ToldUpTo (λ r q. q.1) h
+
+  pub entries_up_to : (r : Result Ending MeaningRefusal) → IfOk r ToldUpTo →
+      IfOk r (λ r. Tells (teller old) (run_entries p input r.bound) (teller new))
+  entries_up_to r h = if_ok_of r (λ r. Tells (teller old) (run_entries p input r.bound) (teller new)) ToldUpTo (λ r q. q.2) h
+
+-- what holds of an answer by another name
+pub answered : {A E : Type 0} (P : A → Type 0) (r q : Result A E) → r ≡ q → IfOk q P → IfOk r P
+answered P r q same h = subst (λ r. IfOk r P) (sym same) h
+
+-- how a listener began that is as it was where this holds
+abbrev pub started : {J P : Type 0} {new old : J} → (P → new ≡ old) → J
+started {J} {P} {new} {old} same = old
 
 -- what holds of an answer
 pub given_of : {A E : Type 0} (r : Result A E) (P : A → Type 0) (a : A) → r ≡ Ok a → IfOk r P → P a

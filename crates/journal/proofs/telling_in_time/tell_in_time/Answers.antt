@@ -1,9 +1,8 @@
-use Rattle.std.proofs.Common.{◌∙◌, refl, subst, sym}
-use Rattle.std.specs.Result.{IfOk}
+use Rattle.std.proofs.Common.{◌∙◌, refl, sym}
 use Rattle.journal.specs.declared.in_time.InTime.{InTime}
 use Rattle.journal.specs.RunEntries.{run_entries}
 use Rattle.journal.proofs.Complete.{none_told}
-use Rattle.journal.proofs.HeardInTime.{if_ok_of, part_in_time, refused_by, told_up_to}
+use Rattle.journal.proofs.HeardInTime.{answered, ends_up_to, entries_up_to, outcome_up_to, part_in_time, refused_by, started, told_up_to}
 use Rattle.journal.proofs.telling_in_time.tell_in_time.Goals as goal
 
 pub returns-in_default-new-clause-part : goal.returns-in_default-new-clause-part
@@ -14,32 +13,41 @@ returns-in_default-new-clause-part g c refused =
 pub returns-clause-outcome : goal.returns-clause-outcome
 returns-clause-outcome g c =
     let o = c.observe-done in
-    subst (λ r. IfOk r _) (sym c.ending_of.ensures) (if_ok_of _ _ _ (λ r q. q.0)
+    answered _ c.ending_of.result _ c.ending_of.ensures (
+    outcome_up_to g.T.Teller.tells g.T.Teller.breaks_off g.met.T.Teller.tells_on (λ (j : InTime g.row.T.Denot g.row.V.Denot).
+    j.journal.program.now) (λ (j : InTime g.row.T.Denot g.row.V.Denot). j.journal.teller)
+    (λ (j : InTime g.row.T.Denot g.row.V.Denot). j.until) (λ (j : InTime g.row.T.Denot g.row.V.Denot). j.cut)
+    c.args.program.now c.args.input.now c.args.bound (started o.ensures.unheard) o.new.listener refl refl _
     (told_up_to g.T.Teller.tells g.T.Teller.breaks_off g.met.T.Teller.tells_on (λ (j : InTime g.row.T.Denot g.row.V.Denot).
     j.journal.program.now) (λ (j : InTime g.row.T.Denot g.row.V.Denot). j.journal.teller)
     (λ (j : InTime g.row.T.Denot g.row.V.Denot). j.until) (λ (j : InTime g.row.T.Denot g.row.V.Denot). j.cut)
-    c.args.program.now c.args.input.now c.args.bound _ o.new.listener refl refl o.result _ refl o.ensures.outcome o.ensures.heard
-    o.ensures.part o.ensures.unheard))
+    c.args.program.now c.args.input.now c.args.bound (started o.ensures.unheard) o.new.listener refl refl o.result _ refl o.ensures.outcome o.ensures.heard o.ensures.part o.ensures.unheard))
 
 pub returns-clause-ends : goal.returns-clause-ends
 returns-clause-ends g c =
     let o = c.observe-done in
-    subst (λ r. IfOk r _) (sym c.ending_of.ensures) (if_ok_of _ _ _ (λ r q. q.1.0)
+    answered _ c.ending_of.result _ c.ending_of.ensures (
+    ends_up_to g.T.Teller.tells g.T.Teller.breaks_off g.met.T.Teller.tells_on (λ (j : InTime g.row.T.Denot g.row.V.Denot).
+    j.journal.program.now) (λ (j : InTime g.row.T.Denot g.row.V.Denot). j.journal.teller)
+    (λ (j : InTime g.row.T.Denot g.row.V.Denot). j.until) (λ (j : InTime g.row.T.Denot g.row.V.Denot). j.cut)
+    c.args.program.now c.args.input.now c.args.bound (started o.ensures.unheard) o.new.listener refl refl _
     (told_up_to g.T.Teller.tells g.T.Teller.breaks_off g.met.T.Teller.tells_on (λ (j : InTime g.row.T.Denot g.row.V.Denot).
     j.journal.program.now) (λ (j : InTime g.row.T.Denot g.row.V.Denot). j.journal.teller)
     (λ (j : InTime g.row.T.Denot g.row.V.Denot). j.until) (λ (j : InTime g.row.T.Denot g.row.V.Denot). j.cut)
-    c.args.program.now c.args.input.now c.args.bound _ o.new.listener refl refl o.result _ refl o.ensures.outcome o.ensures.heard
-    o.ensures.part o.ensures.unheard))
+    c.args.program.now c.args.input.now c.args.bound (started o.ensures.unheard) o.new.listener refl refl o.result _ refl o.ensures.outcome o.ensures.heard o.ensures.part o.ensures.unheard))
 
 pub returns-clause-told : goal.returns-clause-told
 returns-clause-told g c =
     let o = c.observe-done in
-    subst (λ r. IfOk r _) (sym c.ending_of.ensures) (if_ok_of _ _ _ (λ r q. q.1.1)
+    answered _ c.ending_of.result _ c.ending_of.ensures (
+    entries_up_to g.T.Teller.tells g.T.Teller.breaks_off g.met.T.Teller.tells_on (λ (j : InTime g.row.T.Denot g.row.V.Denot).
+    j.journal.program.now) (λ (j : InTime g.row.T.Denot g.row.V.Denot). j.journal.teller)
+    (λ (j : InTime g.row.T.Denot g.row.V.Denot). j.until) (λ (j : InTime g.row.T.Denot g.row.V.Denot). j.cut)
+    c.args.program.now c.args.input.now c.args.bound (started o.ensures.unheard) o.new.listener refl refl _
     (told_up_to g.T.Teller.tells g.T.Teller.breaks_off g.met.T.Teller.tells_on (λ (j : InTime g.row.T.Denot g.row.V.Denot).
     j.journal.program.now) (λ (j : InTime g.row.T.Denot g.row.V.Denot). j.journal.teller)
     (λ (j : InTime g.row.T.Denot g.row.V.Denot). j.until) (λ (j : InTime g.row.T.Denot g.row.V.Denot). j.cut)
-    c.args.program.now c.args.input.now c.args.bound _ o.new.listener refl refl o.result _ refl o.ensures.outcome o.ensures.heard
-    o.ensures.part o.ensures.unheard))
+    c.args.program.now c.args.input.now c.args.bound (started o.ensures.unheard) o.new.listener refl refl o.result _ refl o.ensures.outcome o.ensures.heard o.ensures.part o.ensures.unheard))
 
 pub returns-clause-part : goal.returns-clause-part
 returns-clause-part g c refused =
@@ -48,4 +56,4 @@ returns-clause-part g c refused =
     part_in_time g.T.Teller.tells g.T.Teller.breaks_off g.met.T.Teller.tells_on (λ (j : InTime g.row.T.Denot g.row.V.Denot).
     j.journal.program.now) (λ (j : InTime g.row.T.Denot g.row.V.Denot). j.journal.teller)
     (λ (j : InTime g.row.T.Denot g.row.V.Denot). j.until) (λ (j : InTime g.row.T.Denot g.row.V.Denot). j.cut)
-    _ o.new.listener _ refl by.1 (o.ensures.part by.0)
+    (started o.ensures.unheard) o.new.listener _ refl by.1 (o.ensures.part by.0)
