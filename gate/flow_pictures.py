@@ -57,7 +57,10 @@ def cells(entry):
 def expected(entries, number, values):
     """The names of the rows, and of each drawn statement what its column shows: cells with values, and pairs of cells."""
     drawn = [it for it in entries if touches(it)][:MOST]
-    names = sorted({cell for it in drawn for cell in cells(it)}, key=number)[:MOST]
+    touched = sorted({cell for it in drawn for cell in cells(it)}, key=number)
+    # the cell of a fault has the last row, if none of the first is its own
+    behind = [it["place"] for it in drawn if it.get("met") and it["place"] not in touched[:MOST]]
+    names = touched[:MOST - 1] + behind if behind else touched[:MOST]
     held = {cell: values[number(cell)] if number(cell) < len(values) else "0" for cell in names}
     columns = []
     for entry in entries:

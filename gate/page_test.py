@@ -1,5 +1,5 @@
 #!/usr/bin/env python3
-"""Steps through the pages of eleven runs in a browser without a screen, wide and on a phone, and compares what they show with what is told.
+"""Steps through the pages of thirteen runs in a browser without a screen, wide and on a phone, and compares what they show with what is told.
 
 page_test.py PROGRAM: `PROGRAM steps FILE --html` writes the page of a run. A script behind the page's own presses its keys and buttons and
 moves its slider, and notes what is shown; Chromium writes the document that this leaves. What is wanted at each moment is worked out here, from
@@ -43,6 +43,7 @@ NOTES = """<script>
       running: all('#text .line', function (e, i) { return e.className === 'line running' ? i + 1 : 0; }).filter(Boolean),
       part: all('#text mark', function (e) { return e.textContent; }),
       head: all('#acts tr', texts).slice(0, 1), acts: all('#acts tr', texts).slice(1), active: text('active'),
+      folds: all('.fold span', function (e) { return e.textContent; }),
       fault: document.getElementById('fault-text').hidden ? null : text('fault-text'),
       places: { text: box('text'), memory: box('memory'), acts: box('acts'), output: box('output') },
       scrolled: [document.documentElement.scrollWidth - window.innerWidth, document.documentElement.scrollHeight - window.innerHeight] };
@@ -312,8 +313,22 @@ def of_facts(name, page):
     return compared(name, page[:at] + text + page[page.index("</script>", at):], facts, f"{name}.pram")
 
 
+def rows_wrong():
+    """What is wrong with pages of a statement that touches more rows than are shown, and of none."""
+    wrong = []
+    for name, rows, shown in (("row_of_fault", 65, "a[2048]"), ("many_rows", 64, "a[1024]")):
+        page = written(PAGES / f"{name}.pram", None, "--html")
+        for size, (width, height) in SIZES.items():
+            end = browsed(page, [], width, height)["end"]
+            told = f"a has 2,048 cells; of the 128 rows that this statement touches {rows} are shown. "
+            wrong += [] if end["folds"] == [told] and len(end["cells"]) == 16 * rows and shown in end["cells"] else [f"{name}, {size}: rows"]
+            wrong += [f"{name}, {size}: {it}" for it in places_differ(end, size, False)]
+    seen = browsed(written(PAGES / "many_rows.pram", None, "--html", "--from", "9"), [], *SIZES["wide"])
+    return wrong + ([] if seen["cut"] == "This page has no statement of the run, which has 2 statements." else [f"no statement: {seen['cut']}"])
+
+
 def main():
-    found = []
+    found = rows_wrong()
     for name in ("tree_sum", "bitonic_sort", "conflict_erew", "odd_even_sort"):
         found += of_run(name, EXAMPLES / f"{name}.pram", EXAMPLES / f"{name}.in")
     found += of_run("far_cells", PAGES / "far_cells.pram", PAGES / "far_cells.in")
@@ -328,7 +343,7 @@ def main():
     found += of_facts("negative", written(EXAMPLES / "tree_sum.pram", EXAMPLES / "tree_sum.in", "--html"))
     for it in found:
         print(it)
-    print(f"pages: {'not all' if found else 'all'} of 11 runs are shown as is told of them, on a wide screen and on a phone")
+    print(f"pages: {'not all' if found else 'all'} of 13 runs are shown as is told of them, on a wide screen and on a phone")
     sys.exit(1 if found else 0)
 
 

@@ -47,7 +47,7 @@ const LONGEST: usize = 131_072;
 
 // The words behind the program's name, and the first that isn't UTF-8, by its place.
 #[derive(Drop)]
-struct Words {
+struct CallWords {
     texts: Vec<String>,
     wrong: Option<usize>,
 }
@@ -65,7 +65,7 @@ fn numbered(alloc: Global, bytes: &[u8]) -> Result<String, AllocError> {
     Ok(text)
 }
 
-impl Words {
+impl CallWords {
     fn push(&mut self, alloc: Global, bytes: &[u8]) -> Result<(), AllocError> {
         match String::from_utf8(Vec::from_slice(alloc, bytes)?) {
             Ok(text) => Ok(self.texts.push(text)?),
@@ -80,8 +80,8 @@ impl Words {
 }
 
 // The words one by one, where one of them isn't UTF-8.
-fn words_by_bytes(rt: &HostRuntime) -> Result<Words, AllocError> {
-    let mut words = Words {
+fn words_by_bytes(rt: &HostRuntime) -> Result<CallWords, AllocError> {
+    let mut words = CallWords {
         texts: Vec::new(rt.alloc()),
         wrong: None,
     };
@@ -98,9 +98,9 @@ fn words_by_bytes(rt: &HostRuntime) -> Result<Words, AllocError> {
 }
 
 // The words behind the program's name.
-fn words(rt: &HostRuntime) -> Result<Words, AllocError> {
+fn words(rt: &HostRuntime) -> Result<CallWords, AllocError> {
     match env::args(rt) {
-        Ok(args) => Ok(Words {
+        Ok(args) => Ok(CallWords {
             texts: args.skip(1).collect(rt.alloc())?,
             wrong: None,
         }),
@@ -110,6 +110,7 @@ fn words(rt: &HostRuntime) -> Result<Words, AllocError> {
 }
 
 // Reads the words, or tells which of them isn't UTF-8.
+#[derive(Clone, Copy)]
 struct AnyLine<'w> {
     wrong: Option<&'w str>,
 }
@@ -123,7 +124,7 @@ impl<'w> Reader for AnyLine<'w> {
     }
 }
 
-fn reader(words: &Words) -> AnyLine<'_> {
+fn line_of(words: &CallWords) -> AnyLine<'_> {
     match words.wrong {
         Some(place) if place < words.texts.len() => AnyLine {
             wrong: Some(words.texts[place].as_str()),
@@ -152,7 +153,7 @@ fn main(rt: HostRuntime) -> ExitCode {
     let status = command(
         &rt,
         rt.alloc(),
-        &reader(&words),
+        &line_of(&words),
         words.texts.as_slice(),
         terminal,
         &mut files,

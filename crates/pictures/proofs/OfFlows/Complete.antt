@@ -1,5 +1,5 @@
 -- That nothing is left out where all has room, and a fault never.
-use Rattle.std.proofs.Common.{◌≡◌, ◌⊎◌, inl, inr, ℕ, zero, suc, ◌+◌, ◌-◌, ◌<◌, ◌≤◌, Bool, true, false, ◌&&◌, List, [], ◌∷◌, ◌++◌, ap, arith}
+use Rattle.std.proofs.Common.{◌≡◌, ◌∙◌, ◌⊎◌, inl, inr, ℕ, zero, suc, ◌+◌, ◌-◌, ◌<◌, ◌≤◌, Bool, true, false, ◌&&◌, List, [], ◌∷◌, ◌++◌, ap, arith}
 use Rattle.std.proofs.Common.{get_or}
 use Rattle.std.proofs.Common.{Option, None, Some, length, map, min, nat_le, nat_lt, refl, subst, sym, take}
 use Rattle.std.proofs.lemmas.Bool.{cases_lt}
@@ -10,11 +10,18 @@ use Rattle.std.specs.List.{Contains, enumerate_from, fold}
 use Rattle.std.specs.Prelude.{if◌then◌else◌}
 use Rattle.journal.specs.Entries.{Entry}
 use Rattle.pictures.specs.declared.flows.spans.CellSpan.{CellSpan}
-use Rattle.pictures.specs.Flows.Cells.{least_from, nearer, rows_from, touched, with_row}
+use Rattle.pictures.specs.Flows.Cells.{fault_cell, first_rows, least_from, nearer, rows_from, touched, with_fault, with_row}
 use Rattle.pictures.specs.Flows.Choice.{faulted, is_fault, is_faulted, ran, touching}
 use Rattle.pictures.specs.Flows.Laws.{cells, found, statements}
 use Rattle.pictures.proofs.OfFlows.Drawn.{touching_count, touching_is_either}
 use Rattle.pictures.proofs.OfFlows.Members.{first, kept, later}
+use Rattle.pictures.proofs.OfFlows.ChosenRows.{touched_by_fault}
+use Rattle.pictures.proofs.OfFlows.FaultRow.{few_same}
+use Rattle.pram_model.proofs.Truths.{unsome}
+use Rattle.std.proofs.lemmas.Bool.{ltb-true}
+use Rattle.std.proofs.lemmas.Grind.{get_or-set_at}
+use Rattle.std.proofs.lemmas.List.{get_or-take, length-set, length-take}
+use Rattle.std.specs.Prelude.{slice_index, slice_set}
 
 -- ---- a fault
 
@@ -134,6 +141,79 @@ pub touched_has_row : (only : List CellSpan) (es : List Entry) (from to c : ℕ)
     Contains (cells only es from to) c
 touched_has_row only es from to c one few =
     by (row_or_full 65 0 c (touched only (map (λ p. p.1) (statements es from to))) one (omega arith)) where
+      same : found only es from to ≡ first_rows only (map (λ p. p.1) (statements es from to))
+      same =
+          let drawn = map (λ p. p.1) (statements es from to) in few_same (fault_cell only drawn) (first_rows only drawn) few
+
       by : RowOrFull 65 0 c (touched only (map (λ p. p.1) (statements es from to))) → Contains (cells only es from to) c
-      by (inl row) = subst (λ (rows : List ℕ). Contains rows c) (sym (take_all 64 (found only es from to) few)) row
-      by (inr full) = absurd (omega (arith, full, few))
+      by (inl row) = subst (λ (rows : List ℕ). Contains rows c) (sym (take_all 64 (found only es from to) few ∙ same)) row
+      by (inr full) = let long = ap length same in absurd (omega (arith, full, few, long))
+
+-- ---- the row of a fault
+
+next_within : (more b c k : ℕ) (ds : List ℕ) (o : Option ℕ) → o ≡ Some b → b ≤ c →
+    ((j : ℕ) → b < c → j < length (rows_from more (b + 1) ds) → c ≤ get_or (rows_from more (b + 1) ds) j 0 →
+    Contains (take (suc j) (rows_from more (b + 1) ds)) c) → k < length (with_row o (λ y. rows_from more y ds)) →
+    c ≤ get_or (with_row o (λ y. rows_from more y ds)) k 0 → Contains (take (suc k) (with_row o (λ y. rows_from more y ds))) c
+next_within more b c k ds None is low rest within least = cc
+next_within more b c zero ds (Some a) is low rest within least =
+    let same : a ≡ b = unsome a b is in
+    subst (λ d. Contains (d ∷ take 0 (rows_from more (a + 1) ds)) c) (omega (arith, same, low, least))
+    (first c (take 0 (rows_from more (a + 1) ds)))
+next_within more b c (suc j) ds (Some a) is low rest within least = by (below_or_same b c low)
+  where
+    same : a ≡ b
+    same = unsome a b is
+
+    by : (b < c) ⊎ (b ≡ c) → Contains (a ∷ take (suc j) (rows_from more (a + 1) ds)) c
+    by (inr at) =
+        subst (λ d. Contains (d ∷ take (suc j) (rows_from more (a + 1) ds)) c) (omega (arith, same, at))
+        (first c (take (suc j) (rows_from more (a + 1) ds)))
+    by (inl below) =
+        later a (take (suc j) (rows_from more (a + 1) ds)) c
+        (subst (λ d. d < c → j < length (rows_from more (d + 1) ds) → c ≤ get_or (rows_from more (d + 1) ds) j 0 →
+        Contains (take (suc j) (rows_from more (d + 1) ds)) c) (sym same) (rest j) (omega (arith, below, same)) (omega (arith, within)) least)
+
+row_within : (more x c : ℕ) (ds : List ℕ) (k : ℕ) → Contains ds c → x ≤ c → k < length (rows_from more x ds) →
+    c ≤ get_or (rows_from more x ds) k 0 → Contains (take (suc k) (rows_from more x ds)) c
+row_within zero x c ds k one h within least = absurd (omega (arith, within))
+row_within (suc more) x c ds k one h within least =
+    let f = finds x c None ds one.0 one.1 one.2 h in
+    next_within more f.least c k ds (least_from x ds) f.is f.no_more
+    (λ j below. row_within more (f.least + 1) c ds j one (omega (arith, below))) within least
+
+fault_row_by : (c : ℕ) (ds : List ℕ) → Contains ds c → Contains (take 64 (with_fault (Some c) (rows_from 65 0 ds))) c
+fault_row_by c ds one = by (nat_lt 64 (length rows)) (nat_lt (slice_index rows 63) c) refl refl
+  where
+    rows : List ℕ
+    rows = rows_from 65 0 ds
+
+    few : length rows ≤ 64 → RowOrFull 65 0 c ds → Contains (take 64 rows) c
+    few short (inl row) = subst (λ (l : List ℕ). Contains l c) (sym (take_all 64 rows short)) row
+    few short (inr full) = absurd (omega (arith, full, short))
+
+    put : 64 < length rows → Contains (take 64 (slice_set rows 63 c)) c
+    put long =
+        let same = length-set rows 63 c in
+        let short = length-take 64 (slice_set rows 63 c) in
+        (
+          63,
+          omega (arith, long, same, short),
+          get_or-take 64 (slice_set rows 63 c) 63 c (omega arith) ∙ get_or-set_at rows 63 63 c c refl (omega (arith, long)),
+        )
+
+    by : (a b : Bool) → nat_lt 64 (length rows) ≡ a → nat_lt (slice_index rows 63) c ≡ b →
+        Contains (take 64 (if a && b then slice_set rows 63 c else rows)) c
+    by true true many less = put (ltb-true 64 (length rows) many)
+    by true false many less =
+        let long : 64 < length rows = ltb-true 64 (length rows) many in
+        let most : c ≤ get_or rows 63 0 = grind (arith, nat_tests, less) in
+        row_within 65 0 c ds 63 one (omega arith) (omega (arith, long)) most
+    by false b many less = few (grind (arith, nat_tests, many)) (row_or_full 65 0 c ds one (omega arith))
+
+pub fault_has_row : (only : List CellSpan) (es : List Entry) (from to c : ℕ) →
+    fault_cell only (map (λ p. p.1) (statements es from to)) ≡ Some c → Contains (cells only es from to) c
+fault_has_row only es from to c is =
+    let drawn = map (λ p. p.1) (statements es from to) in
+    subst (λ f. Contains (take 64 (with_fault f (first_rows only drawn))) c) (sym is)
+    (fault_row_by c (touched only drawn) (touched_by_fault only drawn c is))

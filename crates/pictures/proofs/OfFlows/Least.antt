@@ -85,7 +85,7 @@ chosen_by only x now c cs false is rest =
     ap (λ t. fold (nearer x) now (cond t (c ∷ filter (is_chosen only) cs) (filter (is_chosen only) cs))) is ∙ rest now
     ∙ ap (λ t. fold (nearer_if only x) (if t then nearer x now c else now) cs) (sym is)
 
-chosen_folds : (only : List CellSpan) (x : ℕ) (now : Option ℕ) (cs : List ℕ) →
+pub chosen_folds : (only : List CellSpan) (x : ℕ) (now : Option ℕ) (cs : List ℕ) →
     fold (nearer x) now (filter (is_chosen only) cs) ≡ fold (nearer_if only x) now cs
 chosen_folds only x now [] = refl
 chosen_folds only x now (c ∷ cs) = chosen_by only x now c cs (is_chosen only c) refl (λ o. chosen_folds only x o cs)

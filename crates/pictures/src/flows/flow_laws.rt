@@ -6,7 +6,7 @@ ghost use Rattle.svg_texts.specs.Shapes.{IsIn};
 ghost use Rattle.pram_model.specs.Layout.{SharedEntry};
 ghost use Rattle.journal.specs.Entries.{Act, Entry};
 ghost use Rattle.pictures.specs.declared.flows.spans.CellSpan.{CellSpan};
-ghost use Rattle.pictures.specs.Flows.Cells.{is_chosen, touched};
+ghost use Rattle.pictures.specs.Flows.Cells.{fault_cell, is_chosen, touched};
 ghost use Rattle.pictures.specs.Acts.{acts_in};
 ghost use Rattle.pictures.specs.Flows.Choice.{faulted, is_fault, ran, touching};
 ghost use Rattle.pictures.specs.Flows.Laws.{IsCarried, IsColumn, arrows_of, cells, found, nodes_of, statements};
@@ -53,8 +53,8 @@ pub fn lines_come_from_reads()
 
 /// Nothing is left out where it has room: a statement that faulted has a column where it is asked for; where no more than 64 statements
 /// touch shared memory, those that faulted among them, all have a column, in the order of their numbers, with faults at the end; and no
-/// statement has one that isn't asked for or touches none. No more than 64 cells that these touch and that are chosen have all a row, and
-/// none has that isn't chosen.
+/// statement has one that isn't asked for or touches none. No more than 64 cells that these touch and that are chosen have all a row, the
+/// cell of a fault always has one, and none has that isn't chosen.
 pub fn what_has_room_is_drawn()
     // A statement that faulted has a column where it is asked for.
     ensures fault { (es : List Entry) (from to i : ℕ) (e : Entry) → i < length es → slice_index_or es i e ≡ e → is_fault e ≡ true →
@@ -73,6 +73,9 @@ pub fn what_has_room_is_drawn()
     ensures cells { (only : List CellSpan) (es : List Entry) (from to cell : ℕ) →
         Contains (touched only (map (λ p. p.1) (statements es from to))) cell → length (found only es from to) ≤ 64 →
         Contains (cells only es from to) cell }
+    // The cell of a fault has a row, however many cells are touched.
+    ensures fault_cell { (only : List CellSpan) (es : List Entry) (from to cell : ℕ) →
+        fault_cell only (map (λ p. p.1) (statements es from to)) ≡ Some cell → Contains (cells only es from to) cell }
     // No cell has a row that isn't of a chosen declaration, where some are chosen.
     ensures chosen { (only : List CellSpan) (es : List Entry) (from to cell : ℕ) → Contains (cells only es from to) cell →
         is_chosen only cell ≡ true }

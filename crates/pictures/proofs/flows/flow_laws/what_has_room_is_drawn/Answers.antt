@@ -1,4 +1,4 @@
-use Rattle.pictures.proofs.OfFlows.Complete.{fault_is_drawn, few_are_drawn, touched_has_row, touching_is_drawn}
+use Rattle.pictures.proofs.OfFlows.Complete.{fault_has_row, fault_is_drawn, few_are_drawn, touched_has_row, touching_is_drawn}
 use Rattle.pictures.proofs.OfFlows.Drawn.{drawn_touches}
 use Rattle.pictures.proofs.OfFlows.ChosenRows.{row_is_chosen}
 use Rattle.pictures.proofs.flows.flow_laws.what_has_room_is_drawn.Goals as goal
@@ -20,3 +20,6 @@ returns-clause-cells c = touched_has_row
 
 pub returns-clause-chosen : goal.returns-clause-chosen
 returns-clause-chosen c = row_is_chosen
+
+pub returns-clause-fault_cell : goal.returns-clause-fault_cell
+returns-clause-fault_cell c = fault_has_row
