@@ -54,7 +54,10 @@ fn trace_text(
     ensures told { IfOk result (λ text. IsJson (trace_facts found.now.lines.items words.outcome run.now.loaded.program.layout
         (spec.cost_asked words.rates found.now.counts) found.now.counts (verdict_of run.now.outcome)) (string_bytes text)) }
 {
-    let (layout, cost) = (run.loaded.program.layout(), cost_of(&found.counts, words.rates));
+    let (layout, cost) = (
+        run.loaded.program.layout(),
+        cost_of(&found.counts, words.rates),
+    );
     json_trace(
         alloc,
         &found.counts,
@@ -142,9 +145,7 @@ fn text_of<'a>(alloc: Global, found: &Settled<'_>) -> Result<String, Stop<'a>>
         Settled::Compared(comparison) => Ok(json_comparison(alloc, comparison)?),
         Settled::Run(run, shown) => Ok(run_text(alloc, run, *shown)?),
         Settled::Costed(run, words, cost) => Ok(cost_text(alloc, run, *words, cost)?),
-        Settled::Traced(run, words, exchanges) => {
-            Ok(trace_text(alloc, run, *words, exchanges)?)
-        }
+        Settled::Traced(run, words, exchanges) => { Ok(trace_text(alloc, run, *words, exchanges)?) }
         Settled::Swept(swept) => Ok(sweep_text(alloc, swept)?),
         Settled::Explored(found) => Ok(scope_text(alloc, found)?),
         Settled::Paired(pair) => Ok(pair_text(alloc, pair)?),

@@ -100,12 +100,7 @@ fn push_some(ranges: &mut Vec<CommonRange>, range: Option<CommonRange>) -> Resul
 }
 
 // The cells of a declaration of the first program, if it is chosen and both have it.
-fn range_named(
-    first: &Layout,
-    second: &Layout,
-    only: Choice<'_>,
-    i: usize,
-) -> Option<CommonRange>
+fn range_named(first: &Layout, second: &Layout, only: Choice<'_>, i: usize) -> Option<CommonRange>
     requires { i < length first.now }
     ensures { (e : SharedEntry) → slice_get first.now i ≡ Some e → result ≡ spec.range_named only.entry first.now second.now e }
 {

@@ -17,7 +17,10 @@ pub struct NotText<'w> {
 }
 
 fn told(alloc: Global, word: &str) -> Result<String, AllocError> {
-    let mut text = String::from_str(alloc, "error: invalid UTF-8 was detected in one or more arguments: ")?;
+    let mut text = String::from_str(
+        alloc,
+        "error: invalid UTF-8 was detected in one or more arguments: ",
+    )?;
     text.push_str(word)?;
     text.push_str("\n\nFor more information, try '--help'.\nMore: pramc explain\n")?;
     Ok(text)

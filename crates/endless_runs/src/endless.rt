@@ -17,6 +17,7 @@ const ROOM: u32 = 1_000_000;
 
 // How many statements a search goes beyond its bound, at the least and at the most.
 const LEAST_BEYOND: u32 = 32;
+
 const MOST_BEYOND: u32 = 65_536;
 
 // How many statements are searched of a run within a bound: some more, of a large program fewer of these. A state that came back just

@@ -264,9 +264,7 @@ pub(crate) fn find<'a, R: Threads + Wait + Sync, S: Sources, V: Watch + Gate + S
             meant(alloc, &file, words, shown, sources, watch)
         }
         Request::Cost { file, words, costs } => costed(alloc, &file, words, costs, sources, watch),
-        Request::Steps { file, words, steps } => {
-            stepped(alloc, &file, words, steps, sources)
-        }
+        Request::Steps { file, words, steps } => { stepped(alloc, &file, words, steps, sources) }
         Request::Rules {
             file,
             opening,

@@ -97,7 +97,9 @@ pub fn stream_steps<W: Out, V: Watch>(
         failed: false,
     };
     let mut done = Err(MeaningRefusal::OutOfMemory);
-    let stream = run_into(alloc, program, input, bound, until, stream, watch, &mut done);
+    let stream = run_into(
+        alloc, program, input, bound, until, stream, watch, &mut done,
+    );
     let Stream { failed, .. } = stream;
     match done {
         Ok(ending) => Ok(ending),

@@ -195,8 +195,7 @@ fault_row_by c ds one = by (nat_lt 64 (length rows)) (nat_lt (slice_index rows 6
     put : 64 < length rows → Contains (take 64 (slice_set rows 63 c)) c
     put long =
         let same = length-set rows 63 c in
-        let short = length-take 64 (slice_set rows 63 c) in
-        (
+        let short = length-take 64 (slice_set rows 63 c) in (
           63,
           omega (arith, long, same, short),
           get_or-take 64 (slice_set rows 63 c) 63 c (omega arith) ∙ get_or-set_at rows 63 63 c c refl (omega (arith, long)),
