@@ -3,6 +3,7 @@
 ghost use Rattle.std.specs.Prelude.{◌≡◌, ◌++◌, ℕ, List, None, Some, map, IfSome};
 ghost use Rattle.std.specs.String.{string_bytes};
 ghost use Rattle.text_out.specs.Out.{Writes};
+ghost use Rattle.diagnoses.specs.FalseLines.{false_note};
 ghost use Rattle.diagnoses.specs.FaultTexts.{fault_sentence};
 ghost use Rattle.diagnoses.specs.Reasons.{reason_is, run_reason as why, unknown};
 ghost use Rattle.std.specs.Option.{option_map};
@@ -333,15 +334,20 @@ fn explain_code<E: Out>(alloc: Global, err: &mut E, run: &FoundCode<'_>, explain
     }
 }
 
-// Writes what is said of a comment of an accepted program that begins as a size line and is none, where that is asked for.
+// Writes what is said of a comment of a program that begins as a size line and is none.
+fn say_false_line<E: Out>(err: &mut E, source: &Source<'_>)
+    ensures written { IsReported (E.Out.state err.old) (E.Out.state err.new) (false_note source.now) }
+{
+    if write_false_line(err, source).is_ok() {
+        let _ = err.flush();
+    }
+}
+
 fn explain_accepted<E: Out>(err: &mut E, source: &Source<'_>, explains: bool)
     ensures left { spec.IsAcceptedExplained explains source.now (E.Out.state err.old) (E.Out.state err.new) }
 {
-    if !explains {
-        return;
-    }
-    if write_false_line(err, source).is_ok() {
-        let _ = err.flush();
+    if explains {
+        say_false_line(err, source)
     }
 }
 
