@@ -1,6 +1,7 @@
 //! Runs of a program that are shown when they are over, in time.
 
 ghost use Rattle.std.specs.Prelude.{◌≡◌, ◌≤◌, None, false, ℕ};
+ghost use Rattle.text_out.specs.Out.{OutState};
 ghost use Rattle.command_facts.specs.Found.{EndsIn, cut_at};
 
 use command_facts::FoundSteps;
@@ -16,6 +17,7 @@ use text_out::{Out, OutFailed};
 const RUNS: u64 = 3;
 
 // What is written there is kept nowhere.
+#[derive(Drop)]
 struct Nowhere;
 
 impl Out for Nowhere {

@@ -1,14 +1,12 @@
 -- One entry that passes, and its line.
-use Rattle.std.proofs.Common.{◌≡◌, ◌∙◌, ℕ, Bool, true, false, List, [], ◌∷◌, ◌++◌, ap, append-nil, if◌then◌else◌, refl, sym, subst}
-use Rattle.text_out.specs.Out.{OutState, with_failure}
+use Rattle.std.proofs.Common.{◌≡◌, ◌∙◌, ℕ, Bool, true, false, List, [], ◌∷◌, ◌++◌, ap, append-nil, if◌then◌else◌, sym, subst}
+use Rattle.text_out.specs.Out.{OutState}
 use Rattle.text_out.specs.Printing.{Printing, Prints, PrintsBy, printing}
 use Rattle.text_out.proofs.Printed.{printed_as, prints_nothing}
-use Rattle.text_out.proofs.Writing.{with_bytes-nothing}
 use Rattle.journal.specs.Entries.{Entry}
 use Rattle.step_text.specs.Passing.{is_told, one_more}
 use Rattle.step_text.specs.RowLaws.{line_is}
 use Rattle.step_text.specs.declared.asked.Asked.{Asked}
-use Rattle.step_text.specs.StreamLaws.{streams_nothing}
 use Rattle.step_text.specs.Streams.{Streams, line_behind, line_of}
 
 -- it is asked for, or not
@@ -46,20 +44,3 @@ wrote_one a c late s u f g e h l ok p = record {
   printed = printed_as (append-nil (line_behind a c e)) (printed_one a c (printing s f) (printing u g) e h p);
   kept = kept_by s u f g (line_of a c e) p.by ok;
 }
-
--- ---- what was printed is handed on
-
-pub handed_on : (a : Asked) (c : ℕ) (s t : OutState) (f : Bool) → t ≡ s → Streams a c c (printing s f) (printing t f) []
-handed_on a c s t f same =
-    subst (λ t. Streams a c c (printing s f) (printing t f) []) (sym same) (streams_nothing a c (printing s f))
-
--- a writer that failed before is left alone
-pub left_alone : (s : OutState) (f : Bool) (x : List ℕ) → f ≡ true → Prints (printing s f) (printing s f) x
-left_alone s f x failed = subst (λ f. Prints (printing s f) (printing s f) x) (sym failed) (record { by = (refl, refl) })
-
--- or it fails, in nothing of a text
-pub fails_there : (s t : OutState) (f : Bool) (x : List ℕ) → f ≡ false → t ≡ with_failure s → Prints (printing s f) (printing t true) x
-fails_there s t f x whole failed =
-    subst (λ f. Prints (printing s f) (printing t true) x) (sym whole) (record {
-      by = record { front = []; rest = x; whole = refl; stopped = failed ∙ ap with_failure (with_bytes-nothing s) };
-    })
