@@ -1,85 +1,37 @@
-//! Runs of a program that are shown when they are over, in time.
+//! Runs of a program that are told when they are over, in time.
 
-ghost use Rattle.std.specs.Prelude.{◌≡◌, ◌≤◌, None, false, ℕ};
-ghost use Rattle.text_out.specs.Out.{OutState};
+ghost use Rattle.std.specs.Prelude.{◌≡◌, ◌<◌, ℕ};
 ghost use Rattle.command_facts.specs.Found.{EndsIn, cut_at};
 
 use command_facts::FoundSteps;
 use command_requests::Form;
 use journal::steps_bound_in_time;
-use json_texts::stream_json;
 use observing::Watch;
 use std::alloc::Global;
-use text_out::{Out, OutFailed};
 
-// The run is made as often as this, or takes as long: to find out how far it comes, to gather what is shown of it, and for the state behind
-// what is left out.
-const RUNS: u64 = 3;
-
-// What is written there is kept nowhere.
-#[derive(Drop)]
-struct Nowhere;
-
-impl Out for Nowhere {
-    ghost state = { λ s. record { taken = None; failed = false } };
-
-    fn write(&mut self, bytes: &[u8]) -> Result<usize, OutFailed> {
-        Ok(bytes.len())
-    }
-}
-
-// For how many statements there are so many milliseconds, where each is written as on a page.
-fn page_bound<V: Watch>(
-    alloc: Global,
-    steps: &FoundSteps<'_>,
-    milliseconds: u64,
-    watch: &mut V,
-) -> u32
-    ensures { result ≤ steps.now.limit.bound }
+// A run is made for this part of its time to find out how far it comes. Behind it it is made once more to gather what is shown, of which each
+// statement of a page takes some thirty times as long as to run it; and for the state behind what is left out.
+fn share_of(form: Form) -> u64
+    ensures { 0 < result }
 {
-    let bound = steps.limit.bound;
-    let until = watch.elapsed().saturating_add(milliseconds);
-    let (from, to) = (steps.words.from as usize, steps.words.to as usize);
-    match stream_json(
-        alloc,
-        &steps.loaded.program,
-        steps.loaded.source.text(),
-        &steps.input,
-        bound,
-        Some(until),
-        from,
-        to,
-        watch,
-        &mut Nowhere,
-    ) {
-        Ok(ending) => ending.bound,
-        Err(_) => bound,
+    match form {
+        Form::Page => 40,
+        Form::Words | Form::Picture | Form::Flow => 4,
     }
-}
-
-// For how many there are in that form.
-fn shown_bound<V: Watch>(
-    alloc: Global,
-    steps: &FoundSteps<'_>,
-    milliseconds: u64,
-    watch: &mut V,
-) -> u32
-    ensures { result ≤ steps.now.limit.bound }
-{
-    if matches!(steps.words.form, Form::Page) {
-        return page_bound(alloc, steps, milliseconds, watch);
-    }
-    let (program, bound) = (&steps.loaded.program, steps.limit.bound);
-    steps_bound_in_time(alloc, program, &steps.input, bound, milliseconds, watch)
 }
 
 // Behind how many statements the run ends.
 fn bound_of<V: Watch>(alloc: Global, steps: &FoundSteps<'_>, watch: &mut V) -> u32
     ensures { EndsIn steps.now result }
 {
+    let bound = steps.limit.bound;
     match steps.limit.seconds {
-        None => steps.limit.bound,
-        Some(seconds) => shown_bound(alloc, steps, u64::from(seconds) * 1000 / RUNS, watch),
+        None => bound,
+        Some(seconds) => {
+            let milliseconds = u64::from(seconds) * 1000 / share_of(steps.words.form);
+            let (program, input) = (&steps.loaded.program, &steps.input);
+            steps_bound_in_time(alloc, program, input, bound, milliseconds, watch)
+        }
     }
 }
 
