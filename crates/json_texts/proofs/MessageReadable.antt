@@ -2,7 +2,8 @@
 use Rattle.std.proofs.Common.{ℕ, suc, List, [], ◌∷◌, ◌++◌, Option, Some, None, map}
 use Rattle.std.specs.Prelude.{codes}
 use Rattle.serde_json.specs.Data.{Data}
-use Rattle.json_texts.specs.Facts.{letters}
+use Rattle.json_texts.specs.Facts.{letters, told}
+use Rattle.text_places.specs.Escaped.{escaped}
 use Rattle.json_texts.specs.Small.{IsReadable, IsSmall}
 use Rattle.json_texts.proofs.Small.{AreSmall, HasSmall, has_all, small_count, small_letters, small_list, small_map, small_object}
 use Rattle.program_texts.specs.declared.stop.Stop.{Stop}
@@ -24,7 +25,7 @@ small_point n source (Line line) = (small_count n line, tt)
 small_place : (n : ℕ) (name source : List ℕ) (p : Option Point) → HasSmall (suc n) (place_field name source p)
 small_place n name source None = tt
 small_place n name source (Some p) =
-    (small_object n ((codes "file", letters name) ∷ point_fields source p) (small_letters n name, small_point n source p), tt)
+    (small_object n ((codes "file", told name) ∷ point_fields source p) (small_letters n (escaped name), small_point n source p), tt)
 
 small_line : (n : ℕ) (p : Option Point) → HasSmall n (line_field p)
 small_line n None = tt
@@ -41,7 +42,7 @@ listed n name (d ∷ ds) h = (small_list n (d ∷ ds) h, tt)
 
 small_meant : (n : ℕ) (meant : Option (List ℕ)) → HasSmall n (meant_field meant)
 small_meant n None = tt
-small_meant n (Some name) = (small_letters n name, tt)
+small_meant n (Some name) = (small_letters n (escaped name), tt)
 
 small_note : (name source sentence : List ℕ) (p : Option Point) → IsSmall 2 (note_facts name source sentence p)
 small_note name source sentence p =
@@ -72,10 +73,10 @@ small_said name source m =
 
 small_known : (name source : List ℕ) (m : Message) → HasSmall 3 (known_fields name source m)
 small_known name source m =
-    let told = map letters m.expected in
+    let expected = map letters m.expected in
     let noted = notes name source m in
-    has_all 3 (list_field (codes "expected") told) (meant_field m.meant ++ list_field (codes "notes") noted)
-    (listed 2 (codes "expected") told (small_map 2 letters (small_letters 2) m.expected)) (
+    has_all 3 (list_field (codes "expected") expected) (meant_field m.meant ++ list_field (codes "notes") noted)
+    (listed 2 (codes "expected") expected (small_map 2 letters (small_letters 2) m.expected)) (
     has_all 3 (meant_field m.meant) (list_field (codes "notes") noted) (small_meant 3 m.meant)
     (listed 2 (codes "notes") noted (small_notes name source m))
     )

@@ -114,8 +114,8 @@ small_reason r = (small_word 3 _, (small_word 3 _, small_limit (limit_of r)))
 
 pub small_stop : (source : List ℕ) (why : Stop) → HasSmall 3 (stop_fields source why)
 small_stop source (stop.Words message) = (small_word 3 _, (small_word 3 _, tt))
-small_stop source (stop.Number w) = (small_word 3 _, (small_word 3 _, tt))
-small_stop source (stop.Unreadable file) = (small_word 3 _, (small_word 3 _, tt))
+small_stop source (stop.Number w) = (small_word 3 _, (small_letters 3 _, tt))
+small_stop source (stop.Unreadable file) = (small_word 3 _, (small_letters 3 _, tt))
 small_stop source (stop.Refused r) =
     has_all 3 (reason_fields r) (place_fields source (told_place source r)) (small_reason r) (small_place source (told_place source r))
 small_stop source (stop.NotVerified at reason) = (small_word 3 _, (small_word 3 _, (small_count 3 at, (small_word 3 _, tt))))

@@ -5,6 +5,7 @@ use Rattle.std.specs.Prelude.{ℤ, codes, map}
 use Rattle.serde_json.specs.Data.{Data}
 use Rattle.json_texts.specs.Facts.{list}
 use Rattle.json_texts.specs.Small.{IsReadable, IsSmall}
+use Rattle.text_places.specs.Escaped.{escaped}
 use Rattle.json_texts.proofs.Small.{AreSmall, HasSmall, has_all, small_count, small_letters, small_list, small_map, small_object}
 use Rattle.json_texts.proofs.Small.{small_value}
 use Rattle.json_texts.proofs.Small.{small_values, small_word, smaller}
@@ -41,7 +42,7 @@ small_each f each (d ∷ ds) = small-append 1 (f d) (flat_map f ds) (each d) (sm
 source_small : (file text : List ℕ) (rule : Rule) (input : List ℤ) (statements : ℕ) → HasSmall 3
     (source_fields file text rule input statements)
 source_small file text rule input statements =
-    (small_letters 3 file, (small_letters 3 text, (small_word 3 _, (small_values 2 input, (small_count 3 statements, tt)))))
+    (small_letters 3 (escaped file), (small_letters 3 text, (small_word 3 _, (small_values 2 input, (small_count 3 statements, tt)))))
 
 small_pardo : (p : Pardo) → IsSmall 2 (pardo_facts p)
 small_pardo p = small_object 1 ((codes "line", _) ∷ (codes "offset", _) ∷ (codes "index", _) ∷ (codes "locals", _) ∷ []) (

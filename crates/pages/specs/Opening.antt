@@ -2,7 +2,7 @@
 use Rattle.std.specs.Prelude.{ℕ, ℤ, List, [], ◌∷◌, ◌++◌, codes, map}
 use Rattle.std.specs.List.{flat_map}
 use Rattle.serde_json.specs.Data.{Data}
-use Rattle.json_texts.specs.Facts.{Field, count, letters, list, object_of, value, values, word}
+use Rattle.json_texts.specs.Facts.{Field, count, letters, list, object_of, told, value, values, word}
 use Rattle.pram_model.specs.Rules.{rule_word}
 use Rattle.pram_model.specs.declared.rule.Rule.{Rule}
 use Rattle.pram_trees.specs.declared.tree.Declaration.{Declaration}
@@ -36,7 +36,7 @@ variables_of (declare.Uniform x) = letters x.text ∷ []
 -- there are
 abbrev pub source_fields : (file text : List ℕ) → Rule → (input : List ℤ) → (statements : ℕ) → List Field
 source_fields file text rule input statements =
-    (codes "file", letters file) ∷ (codes "program", letters text) ∷ (codes "rule", word (rule_word rule)) ∷ (codes "input", values input)
+    (codes "file", told file) ∷ (codes "program", letters text) ∷ (codes "rule", word (rule_word rule)) ∷ (codes "input", values input)
     ∷ (codes "statements", count statements) ∷ []
 
 -- its shared declarations, the names of its uniform variables, and its pardos, in order

@@ -119,7 +119,7 @@ fn put_source(
     ensures { OnOk result (shown object.new
         ≡ with_fields (spec.source_fields file.now text.now rule input.now statements) (shown object.old)) }
 {
-    object.put_letters("file", file)?;
+    object.put_told("file", file)?;
     object.put_letters("program", text)?;
     object.put_word("rule", rule.word())?;
     object.put_values("input", input)?;
