@@ -64,7 +64,8 @@ def tried(row, *words):
 
 def started(words, folder, output):
     env = {**os.environ, "NO_COLOR": "1"}
-    return subprocess.Popen([PROGRAM, *words.split()], cwd=folder, env=env, stdin=subprocess.DEVNULL, stdout=output, stderr=subprocess.DEVNULL)
+    none = subprocess.DEVNULL
+    return subprocess.Popen([PROGRAM, *words.split()], cwd=folder, env=env, stdin=none, stdout=output, stderr=none)
 
 
 def first_bytes(ours, most):

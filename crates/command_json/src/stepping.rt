@@ -76,8 +76,8 @@ fn opening_line(alloc: Global, steps: &FoundSteps<'_>) -> Result<String, AllocEr
 }
 
 /// Runs a program and writes as lines of JSON what its cells hold before it, its statements, each as soon as it has run, and behind them
-/// what it came to. Where its seconds are over it ends. The watch is told how far the run is. E17 where the writer failed, E16 where memory was refused, behind the lines of
-/// the statements before.
+/// what it came to. Where its seconds are over it ends. The watch is told how far the run is. E17 where the writer failed, E16 where memory
+/// was refused, behind the lines of the statements before.
 pub(crate) fn write_stepped<'a, V: Watch, O: Out>(
     alloc: Global,
     steps: &FoundSteps<'_>,
