@@ -9,8 +9,8 @@ use journal::steps_bound_in_time;
 use observing::Watch;
 use std::alloc::Global;
 
-// A run is made for this part of its time to find out how far it comes. It is made once more to gather what is shown, which takes some thirty
-// times as long for a page; and for the state behind what is left out.
+// A run is made for this part of its time to find out how far it comes. It is made once more to gather what is shown, which takes some
+// thirty times as long for a page; and for the state behind what is left out.
 fn share_of(form: Form) -> u64
     ensures { 0 < result }
 {
