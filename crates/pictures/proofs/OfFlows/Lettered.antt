@@ -15,7 +15,10 @@ spaced_letters (v ∷ vs) =
 pub cut_letters : (found : ℕ) → cell_cut found ≡ letters (cell_cut found)
 cut_letters found = by (nat_lt 64 found)
   where
-    by : (b : Bool) → (if b then codes "the first 64 that these statements touch" else codes "those that these statements touch") ≡
-        letters (if b then codes "the first 64 that these statements touch" else codes "those that these statements touch")
+    some all : List ℕ
+    some = codes "the first that these statements touch, and that of a fault"
+    all = codes "those that these statements touch"
+
+    by : (b : Bool) → (if b then some else all) ≡ letters (if b then some else all)
     by true = refl
     by false = refl
