@@ -9,15 +9,21 @@ use sized_texts::false_line;
 use text_out::{Out, WriteFault};
 use text_places::write_excerpt;
 
+fn write_sentence<W: Out>(out: &mut W) -> Result<(), WriteFault>
+    ensures written { Writes (W.Out.state out.old) (W.Out.state out.new) spec.false_sentence result }
+{
+    out.write_all(
+        b"this is a comment and no size line: that has the form \"# size NAME = VALUE\", with letters, digits and \"_\" alone \
+        in its NAME, and goes on otherwise here\n",
+    )
+}
+
 // What is said of one that goes on otherwise there.
 fn write_stray<W: Out>(out: &mut W, source: &Source<'_>, at: usize) -> Result<(), WriteFault>
     ensures written { Writes (W.Out.state out.old) (W.Out.state out.new) (spec.stray_note source.now at) result }
 {
     write_excerpt(out, source.name.as_bytes(), source.bytes.as_slice(), at)?;
-    out.write_all(
-        b"this is a comment and no size line: that has the form \"# size NAME = VALUE\", with letters, digits and \"_\" alone \
-        in its NAME, and goes on otherwise here\n",
-    )
+    write_sentence(out)
 }
 
 /// Writes of the first comment before the first token of a text that begins as a size line and is none, as `# size n-1 = 8`, where it goes
