@@ -15,8 +15,10 @@ spaced_letters (v ∷ vs) =
 pub cut_letters : (found : ℕ) → cell_cut found ≡ letters (cell_cut found)
 cut_letters found = by (nat_lt 64 found)
   where
-    some all : List ℕ
+    some : List ℕ
     some = codes "the first that these statements touch, and that of a fault"
+
+    all : List ℕ
     all = codes "those that these statements touch"
 
     by : (b : Bool) → (if b then some else all) ≡ letters (if b then some else all)
