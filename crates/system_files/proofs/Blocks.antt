@@ -1,9 +1,9 @@
 -- A block of bytes of which whole lines are handed on.
 use Rattle.std.proofs.Common.{◌≡◌, ◌∙◌, ◌+◌, ◌-◌, ◌≤◌, ◌<◌, ◌⊎◌, ℕ, List, [], ◌∷◌, ◌++◌, ap, append_assoc, append-nil, arith, drop, inl, inr}
 use Rattle.std.proofs.Common.{length, refl, subst, sym, take}
+use Rattle.std.specs.List.{copy_within}
 use Rattle.std.proofs.Math.Seq.{take-append_seam}
 use Rattle.std.proofs.lemmas.List.{length-drop, take-append-drop, take_all}
-use Rattle.core.specs.List.{copy_within}
 use Rattle.system_files.specs.Held.{HandsOn, IsLines, Kept, Lines, held_in}
 
 -- the rest of a block, moved to its front
@@ -36,3 +36,8 @@ pub kept_long : (long held new : List ℕ) (len late : ℕ) → length held ≡ 
 kept_long long held new len late whole full is at =
     Kept (ap (λ r. r ++ take late held) is ∙ ap (λ n. (long ++ held) ++ take n held) at ∙ append-nil (long ++ held)
     ∙ ap (λ xs. long ++ xs) (sym (take_all 4096 held (omega (arith, whole)))) ∙ ap (λ n. long ++ take n held) (sym full))
+
+-- what is held behind it
+pub held_behind : (long old new bytes : List ℕ) (len late : ℕ) → take late new ≡ take len old ++ bytes →
+    held_in long late new ≡ held_in long len old ++ bytes
+held_behind long old new bytes len late is = ap (λ xs. long ++ xs) is ∙ sym (append_assoc long (take len old) bytes)

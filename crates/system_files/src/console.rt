@@ -103,6 +103,19 @@ impl<P: Print> Stream<P> {
         Ok(())
     }
 
+    // Where a block is full, hands whole lines on as `make_room` does.
+    fn make_room_in_full(&mut self) -> Result<(), OutFailed>
+        ensures room { OnOk result (self.new.len < 4096) }
+        ensures kept { OnOk result (HandsOn (held_in self.old.long.items self.old.len self.old.held)
+            (held_in self.new.long.items self.new.len self.new.held) × (self.new.failed ≡ self.old.failed)) }
+        ensures failed { OnErr result (self.new.failed ≡ true) }
+    {
+        if self.len == 4096 {
+            return self.make_room();
+        }
+        Ok(())
+    }
+
     // Holds more bytes, behind those held.
     fn hold(&mut self, bytes: &[u8])
         requires room { self.old.len + length bytes.now ≤ 4096 }
@@ -128,9 +141,7 @@ impl<P: Print> Out for Stream<P> {
             × (held_in self.new.long.items self.new.len self.new.held ≡ mid ++ take n bytes.now) × (self.new.failed ≡ self.old.failed)) }
         ensures failed { OnErr result (self.new.failed ≡ true) }
     {
-        if self.len == 4096 {
-            self.make_room()?;
-        }
+        self.make_room_in_full()?;
         let count = bytes.len().min(4096 - self.len);
         self.hold(&bytes[..count]);
         Ok(count)
