@@ -268,8 +268,8 @@ fn write_words_behind<'a, 'b, V: Watch, O: Out>(
     requires form { steps.words.form ≡ Form.Words }
     ensures told { stepped.IsToldInTime on steps.entry (O.Out.state out.old) (O.Out.state out.new) result }
 {
-    let Ending { outcome, bound } = write_in_words(alloc, on, &steps, watch, out)?;
-    Ok(steps.cut_at(bound).with_outcome(outcome))
+    let ending = write_in_words(alloc, on, &steps, watch, out)?;
+    Ok(steps.cut_at(ending.bound).with_outcome(ending.outcome))
 }
 
 // A picture of a run, with what it came to.
