@@ -130,9 +130,20 @@ pub stopped_in_opening : (s : FoundSteps) (old new : OutState) (line : List ℕ)
     IsCutBehind s (opening_of s ∷ []) old new stop.WriteFailed
 stopped_in_opening s old new line json stops = InLines [] (entries_of s) line refl json stops
 
+-- what is cut off within all statements that it has
+pub cut_within : (s : FoundSteps) (before : List Data) (old new : OutState) {why : Stop} → IsCutBehind s before old new why →
+    IsCutBehind (cut_at s s.limit.bound) before old new why
+cut_within s before old new (InLines first rest text whole lines stops) = InLines first rest text whole lines stops
+cut_within s before old new (InText o text comes all stops) = InText o text comes all stops
+cut_within s before old new (BehindLines first rest text whole lines written) = BehindLines first rest text whole lines written
+cut_within s before old new (Unbegun same) = Unbegun same
+
 -- what tells no outcome
 pub not_told : (s : FoundSteps) (old new : OutState) (r : Result Ending Stop) (why : Stop) → IsErrAnd r (λ e. e ≡ why) →
-    IsCutBehind (cut_at s s.limit.bound) (opening_of s ∷ []) old new why → IsToldBy s old new r
+    IsCutBehind s (opening_of s ∷ []) old new why → IsToldBy s old new r
 not_told s old new (Ok o) why is cut = absurd is
-not_told s old new (Err e) why is cut =
-    (s.limit.bound, all_of_it s, subst (IsCutBehind (cut_at s s.limit.bound) (opening_of s ∷ []) old new) (sym is) cut)
+not_told s old new (Err e) why is cut = (
+  s.limit.bound,
+  all_of_it s,
+  cut_within s (opening_of s ∷ []) old new (subst (IsCutBehind s (opening_of s ∷ []) old new) (sym is) cut),
+)

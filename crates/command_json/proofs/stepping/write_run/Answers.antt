@@ -3,14 +3,15 @@ use Rattle.std.specs.String.{string_bytes}
 use Rattle.program_texts.specs.Status.{status_of}
 use Rattle.command_facts.specs.Found.{cut_at}
 use Rattle.command_facts.proofs.Steps.{all_of_it}
-use Rattle.command_json.proofs.StepsTold.{cut_in_outcome, cut_told, outcome_as, told_whole, unmade}
+use Rattle.command_json.proofs.StepsTold.{cut_in_outcome, cut_told, cut_within, outcome_as, told_whole, unmade}
 use Rattle.command_json.proofs.stepping.write_run.Goals as goal
 
 pub returns-in_err-ending : goal.returns-in_err-ending
 returns-in_err-ending g c =
     let s = c.args.steps.now in
     record {
-      told = cut_told s _ s.limit.bound _ _ c.in_err-ending.field-0.0 c.from_residual.ensures.1 (all_of_it s) c.in_err-ending.ensures.cut;
+      told = cut_told s _ s.limit.bound _ _ c.in_err-ending.field-0.0 c.from_residual.ensures.1 (all_of_it s)
+          (cut_within s _ _ _ c.in_err-ending.ensures.cut);
     }
 
 pub returns-in_err-line : goal.returns-in_err-line
