@@ -125,7 +125,8 @@ streamed_by s telling old new given r q same is h =
 
 -- a failure on the way
 pub lines_cut : (s : FoundSteps) (telling : Telling) (old new : OutState) (f : StreamFailure) (why : Stop) → why ≡ stop_of f →
-    HasStreamed old new (lines_of s telling) (run_entries s.loaded.program s.input.items) s.limit.bound (Err f) → (f ≡ failure.InputTooLong → ⊥) → IsCutIn s telling old new why
+    HasStreamed old new (lines_of s telling) (run_entries s.loaded.program s.input.items) s.limit.bound (Err f) →
+    (f ≡ failure.InputTooLong → ⊥) → IsCutIn s telling old new why
 lines_cut s telling old new failure.WriteFailed why is h fits = subst (IsCutIn s telling old new) (sym is) h
 lines_cut s telling old new failure.OutOfMemory why is h fits = subst (IsCutIn s telling old new) (sym is) h
 lines_cut s telling old new failure.InputTooLong why is h fits = absurd (fits refl)

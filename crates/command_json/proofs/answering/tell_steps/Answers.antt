@@ -12,7 +12,8 @@ returns-in-Ok g c =
     record {
       leaves = subst (LeavesFound (map string_bytes c.args.words.now) (found.Stepped c.args.steps.now) _ _ _ _) (sym c.of.ensures)
           (ToldAsItRan c.args.steps.now c.in-Ok.ending.bound c.in-Ok.ending.outcome t.1.1.0 refl t.0 t.1.0 t.1.1.1 t.1.1.2
-          (subst (λ (l : Limit). IsTimeTold c.in-Ok.ending.outcome l (g.E.Out.state c.args.err.now) (g.E.Out.state c.tell_time.new.err)) c.limit_at.ensures.limit c.tell_time.ensures.told));
+          (subst (λ (l : Limit). IsTimeTold c.in-Ok.ending.outcome l (g.E.Out.state c.args.err.now) (g.E.Out.state c.tell_time.new.err))
+          c.limit_at.ensures.limit c.tell_time.ensures.told));
     }
 
 pub returns-in-Err : goal.returns-in-Err
