@@ -324,7 +324,8 @@ def rows_wrong():
             wrong += [] if end["folds"] == [told] and len(end["cells"]) == 16 * rows and shown in end["cells"] else [f"{name}, {size}: rows"]
             wrong += [f"{name}, {size}: {it}" for it in places_differ(end, size, False)]
     seen = browsed(written(PAGES / "many_rows.pram", None, "--html", "--from", "9"), [], *SIZES["wide"])
-    return wrong + ([] if seen["cut"] == "This page has no statement of the run, which has 2 statements." else [f"no statement: {seen['cut']}"])
+    told = "This page has no statement of the run, which has 2 statements."
+    return wrong + ([] if seen["cut"].startswith(told) else [f"no statement: {seen['cut']}"])
 
 
 def main():
