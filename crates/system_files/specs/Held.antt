@@ -1,5 +1,5 @@
 -- What a stream of the system holds.
-use Rattle.std.specs.Prelude.{◌≡◌, ◌++◌, ℕ, List, [], ◌∷◌, take}
+use Rattle.std.specs.Prelude.{◌≡◌, ◌≢◌, ◌⊎◌, ◌<◌, ◌++◌, ℕ, List, [], ◌∷◌, take, All}
 
 -- the beginning of a line that is longer than a block, and behind it the block so far
 abbrev pub held_in : (long : List ℕ) → (len : ℕ) → (block : List ℕ) → List ℕ
@@ -9,8 +9,14 @@ held_in long len block = long ++ take len block
 abbrev pub IsLines : List ℕ → Type 0
 IsLines bytes = (front : List ℕ) × (bytes ≡ front ++ 10 ∷ [])
 
--- of what was held nothing was handed on, or whole lines in front of the rest, or all of it
-pub data HandsOn (old new : List ℕ) : Type 0 where
-  Kept : new ≡ old → HandsOn old new
-  Lines : (lines : List ℕ) → IsLines lines → old ≡ lines ++ new → HandsOn old new
-  All : new ≡ [] → HandsOn old new
+-- no line ends among these bytes
+abbrev pub HasNoEnd : List ℕ → Type 0
+HasNoEnd bytes = All (λ b. b ≢ 10) bytes
+
+-- What is still held, when room was made in the block: all of it, where the block had room. Of a full block whole lines are handed on, and
+-- what stands behind the last end of a line is held. Where no line ends in a full block, all is held; or all was handed on, as where
+-- memory was refused.
+pub data HandsOn (long : List ℕ) (len : ℕ) (block : List ℕ) (still : List ℕ) : Type 0 where
+  Room : len < 4096 → still ≡ held_in long len block → HandsOn long len block still
+  Lines : len ≡ 4096 → (lines : List ℕ) → take len block ≡ lines ++ still → IsLines lines → HasNoEnd still → HandsOn long len block still
+  Long : len ≡ 4096 → HasNoEnd (take len block) → (still ≡ held_in long len block) ⊎ (still ≡ []) → HandsOn long len block still

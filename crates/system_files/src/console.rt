@@ -1,8 +1,8 @@
 //! The system's files and streams.
 
-ghost use Rattle.std.specs.Prelude.{◌≡◌, ◌⊎◌, ◌+◌, ◌++◌, ◌<◌, ◌≤◌, [], List, None, true, false, IfOk, OnOk, OnErr, length, take, ℕ};
+ghost use Rattle.std.specs.Prelude.{◌≡◌, ◌⊎◌, ◌+◌, ◌++◌, ◌<◌, ◌≤◌, [], List, None, true, false, IfOk, OnOk, OnErr, length, take, drop, ℕ};
 ghost use Rattle.text_out.specs.Out.{OutState, with_failure};
-ghost use Rattle.system_files.specs.Held.{HandsOn, IsLines, held_in};
+ghost use Rattle.system_files.specs.Held.{HandsOn, HasNoEnd, IsLines, held_in};
 
 use crate::folder::{names_in, parted};
 use crate::sources::{Beside, SourceFault, Sources};
@@ -15,6 +15,7 @@ use text_out::{Out, OutFailed};
 fn lines_in(bytes: &[u8]) -> usize
     ensures few { result ≤ length bytes.now }
     ensures lines { (result ≡ 0) ⊎ IsLines (take result bytes.now) }
+    ensures rest { HasNoEnd (drop result bytes.now) }
 {
     let mut count = bytes.len();
     while count > 0 && bytes[count - 1] != b'\n' {
@@ -85,7 +86,7 @@ impl<P: Print> Stream<P> {
     fn make_room(&mut self) -> Result<(), OutFailed>
         requires full { self.old.len ≡ 4096 }
         ensures room { OnOk result (self.new.len < 4096) }
-        ensures kept { OnOk result (HandsOn (held_in self.old.long.items self.old.len self.old.held)
+        ensures kept { OnOk result (HandsOn self.old.long.items self.old.len self.old.held
             (held_in self.new.long.items self.new.len self.new.held) × (self.new.failed ≡ self.old.failed)) }
         ensures failed { OnErr result (self.new.failed ≡ true) }
     {
@@ -106,7 +107,7 @@ impl<P: Print> Stream<P> {
     // Where a block is full, hands whole lines on as `make_room` does.
     fn make_room_in_full(&mut self) -> Result<(), OutFailed>
         ensures room { OnOk result (self.new.len < 4096) }
-        ensures kept { OnOk result (HandsOn (held_in self.old.long.items self.old.len self.old.held)
+        ensures kept { OnOk result (HandsOn self.old.long.items self.old.len self.old.held
             (held_in self.new.long.items self.new.len self.new.held) × (self.new.failed ≡ self.old.failed)) }
         ensures failed { OnErr result (self.new.failed ≡ true) }
     {
@@ -135,10 +136,10 @@ impl<P: Print> Out for Stream<P> {
     fn write(&mut self, bytes: &[u8]) -> Result<usize, OutFailed>
         ensures some { IfOk result (λ n. (bytes.now ≡ []) ⊎ (0 < n)) }
         ensures part { IfOk result (λ n. n ≤ length bytes.now) }
-        // What was taken is held behind what was held before, of which whole lines may be handed on, or all where
-        // memory for a long line was refused.
-        ensures taken { IfOk result (λ n. (mid : List ℕ) × HandsOn (held_in self.old.long.items self.old.len self.old.held) mid
-            × (held_in self.new.long.items self.new.len self.new.held ≡ mid ++ take n bytes.now) × (self.new.failed ≡ self.old.failed)) }
+        // Taken bytes stand behind those still held: a block with room keeps all, a full one only what follows its whole
+        // lines, one without a line's end all or nothing.
+        ensures taken { IfOk result (λ n. (still : List ℕ) × HandsOn self.old.long.items self.old.len self.old.held still
+            × (held_in self.new.long.items self.new.len self.new.held ≡ still ++ take n bytes.now) × (self.new.failed ≡ self.old.failed)) }
         ensures failed { OnErr result (self.new.failed ≡ true) }
     {
         self.make_room_in_full()?;

@@ -1,4 +1,4 @@
-use Rattle.std.proofs.Common.{◌∙◌, ap, take}
+use Rattle.std.proofs.Common.{◌∙◌, ap}
 use Rattle.system_files.specs.Held.{held_in}
 use Rattle.system_files.proofs.Blocks.{held_behind}
 use Rattle.system_files.proofs.console.StreamOut.write.Goals as goal
