@@ -12,7 +12,7 @@ use Rattle.sweeps.specs.Echelons.{IsDependent, IsEchelon, MaySolve, SolveFirst, 
 use Rattle.sweeps.specs.Equations.{Vector, dot, entry, unit_entry}
 use Rattle.sweeps.proofs.Eliminations.{times_nothing}
 use Rattle.sweeps.proofs.Ring.{mul_add, mul_assoc, mul_comm, neg_mul, no_factor}
-use Rattle.sweeps.proofs.Sizes.{below_6}
+use Rattle.sweeps.proofs.Sizes.{below_7}
 
 pub unit_here : (k : ℕ) → unit_entry k k ≡ pos 1
 unit_here k = by (k == k) refl
@@ -47,10 +47,10 @@ dot_combined zero x z u p v = omega (arith, ints)
 dot_combined (suc n) x z u p v =
     ap (λ s. s +ℤ (x n *ℤ combined p v z u n)) (dot_combined n x z u p v) ∙ step p v (dot n x z) (dot n x u) (x n) (z n) (u n)
 
-pub dot_unit : (x : Vector) (m : ℕ) → m < 6 → dot 6 x (unit_entry m) ≡ x m
+pub dot_unit : (x : Vector) (m : ℕ) → m < 7 → dot 7 x (unit_entry m) ≡ x m
 dot_unit x =
-    below_6 (λ m. dot 6 x (unit_entry m) ≡ x m) (omega (arith, ints)) (omega (arith, ints)) (omega (arith, ints)) (omega (arith, ints))
-    (omega (arith, ints)) (omega (arith, ints))
+    below_7 (λ m. dot 7 x (unit_entry m) ≡ x m) (omega (arith, ints)) (omega (arith, ints)) (omega (arith, ints)) (omega (arith, ints))
+    (omega (arith, ints)) (omega (arith, ints)) (omega (arith, ints))
 
 -- numbers that solve the equations from m on, and are nothing before m and behind the column
 record Null (ps : List Equation) (column m : ℕ) : Type 0 where
@@ -58,14 +58,14 @@ record Null (ps : List Equation) (column m : ℕ) : Type 0 where
   some : z column ≢ pos 0
   before : (i : ℕ) → i < m → z i ≡ pos 0
   behind : (i : ℕ) → column < i → z i ≡ pos 0
-  solves : (j : ℕ) → m ≤ j → j < column → dot 6 (entry (pivot ps j)) z ≡ pos 0
+  solves : (j : ℕ) → m ≤ j → j < column → dot 7 (entry (pivot ps j)) z ≡ pos 0
 
-module _ (ps : List Equation) (column : ℕ) (echelon : IsEchelon ps column) (within : column < 6) where
+module _ (ps : List Equation) (column : ℕ) (echelon : IsEchelon ps column) (within : column < 7) where
   one_more : (m : ℕ) → m < column → Null ps column (suc m) → Null ps column m
   one_more m less n =
       let e = entry (pivot ps m) in
       let p = e m in
-      let v = neg_ℤ (dot 6 e n.z) in
+      let v = neg_ℤ (dot 7 e n.z) in
       let begins = echelon m less in
       let away = λ (i : ℕ) (differ : i ≡ m → ⊥) (none : n.z i ≡ pos 0).
       let a = times_nothing p (n.z i) none in
@@ -85,23 +85,23 @@ module _ (ps : List Equation) (column : ℕ) (echelon : IsEchelon ps column) (wi
       sums {a = a} {b = b} x y = omega (arith, ints, x, y)
 
       solved : (j : ℕ) → m ≤ j → j < column → (j ≡ m) ⊎ (j ≡ m → ⊥) →
-          dot 6 (entry (pivot ps j)) (combined (entry (pivot ps m) m) (neg_ℤ (dot 6 (entry (pivot ps m)) n.z)) n.z (unit_entry m)) ≡ pos 0
+          dot 7 (entry (pivot ps j)) (combined (entry (pivot ps m) m) (neg_ℤ (dot 7 (entry (pivot ps m)) n.z)) n.z (unit_entry m)) ≡ pos 0
       solved j from to (inl same) =
           let e = entry (pivot ps m) in
-          let d = dot 6 e n.z in
-          let whole = dot_combined 6 e n.z (unit_entry m) (e m) (neg_ℤ d) in
+          let d = dot 7 e n.z in
+          let whole = dot_combined 7 e n.z (unit_entry m) (e m) (neg_ℤ d) in
           let u = ap (λ t. neg_ℤ d *ℤ t) (dot_unit e m (omega (arith, less, within))) in
           let turn = mul_comm (e m) d in
-          ap (λ k. dot 6 (entry (pivot ps k)) (combined (e m) (neg_ℤ d) n.z (unit_entry m))) same ∙ whole
+          ap (λ k. dot 7 (entry (pivot ps k)) (combined (e m) (neg_ℤ d) n.z (unit_entry m))) same ∙ whole
           ∙ (let s = neg_mul d (e m) in omega (arith, ints, u, turn, s))
       solved j from to (inr differ) =
           let e = entry (pivot ps m) in
           let x = entry (pivot ps j) in
-          let d = dot 6 e n.z in
-          let whole = dot_combined 6 x n.z (unit_entry m) (e m) (neg_ℤ d) in
-          let old = times_nothing (e m) (dot 6 x n.z) (n.solves j (omega (arith, from, differ)) to) in
+          let d = dot 7 e n.z in
+          let whole = dot_combined 7 x n.z (unit_entry m) (e m) (neg_ℤ d) in
+          let old = times_nothing (e m) (dot 7 x n.z) (n.solves j (omega (arith, from, differ)) to) in
           let zero_there = dot_unit x m (omega (arith, less, within)) ∙ (echelon j to).zeros m (omega (arith, from, differ)) in
-          let u = times_nothing (neg_ℤ d) (dot 6 x (unit_entry m)) zero_there in
+          let u = times_nothing (neg_ℤ d) (dot 7 x (unit_entry m)) zero_there in
           omega (arith, ints, whole, old, u)
 
   from_there : (d m : ℕ) → m + d ≡ column → Null ps column m
@@ -119,9 +119,9 @@ module _ (ps : List Equation) (column : ℕ) (echelon : IsEchelon ps column) (wi
   null : Null ps column 0
   null = from_there column 0 (omega arith)
 
-pub dependent : (table : List Row) (set column : ℕ) (ps : List Equation) → column < 5 → IsEchelon ps column → chosen set column ≡ 1 →
-    ((j : ℕ) → j < column → chosen set j ≡ 0 → (z : Vector) → dot 6 (entry (pivot ps j)) z ≡ z j) →
-    ((z : Vector) → SolveFirst ps column z → ((i : ℕ) → i < 6 → column < i → z i ≡ pos 0) → All (MaySolve z) table) →
+pub dependent : (table : List Row) (set column : ℕ) (ps : List Equation) → column < 6 → IsEchelon ps column → chosen set column ≡ 1 →
+    ((j : ℕ) → j < column → chosen set j ≡ 0 → (z : Vector) → dot 7 (entry (pivot ps j)) z ≡ z j) →
+    ((z : Vector) → SolveFirst ps column z → ((i : ℕ) → i < 7 → column < i → z i ≡ pos 0) → All (MaySolve z) table) →
     IsDependent table set
 dependent table set column ps within echelon is units rows =
     let n = null ps column echelon (omega (arith, within)) in
@@ -131,7 +131,7 @@ dependent table set column ps within echelon is units rows =
       within = within;
       some = n.some;
       of_choice = λ j less none. by n j none (cases_lt j column) (cases_eq j column);
-      last = n.behind 5 within;
+      last = n.behind 6 within;
       rows = rows n.z (λ j less. n.solves j (omega arith) less) (λ i less high. n.behind i high);
     }
   where

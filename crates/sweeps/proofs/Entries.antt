@@ -10,17 +10,18 @@ use Rattle.std.proofs.lemmas.Int.{ints}
 use Rattle.sweeps.specs.Formulas.{IsLog}
 use Rattle.sweeps.specs.Wides.{IsWithin, integer}
 use Rattle.sweeps.proofs.Eliminations.{times_nothing}
-use Rattle.sweeps.proofs.Sizes.{below_6}
+use Rattle.sweeps.proofs.Sizes.{below_7}
 use Rattle.std.proofs.Math.Nat.{pow-le-pow_right, one-le-pow}
 
-pub six_entries : (a b c d e f : Wide) (v : Vector) → integer a ≡ v 0 → integer b ≡ v 1 → integer c ≡ v 2 → integer d ≡ v 3 →
-    integer e ≡ v 4 → integer f ≡ v 5 → (i : ℕ) → i < 6 → entry (record { entries = a ∷ b ∷ c ∷ d ∷ e ∷ f ∷ [] }) i ≡ v i
+pub seven_entries : (a b c d e f g : Wide) (v : Vector) → integer a ≡ v 0 → integer b ≡ v 1 → integer c ≡ v 2 → integer d ≡ v 3 →
+    integer e ≡ v 4 → integer f ≡ v 5 → integer g ≡ v 6 → (i : ℕ) → i < 7 →
+    entry (record { entries = a ∷ b ∷ c ∷ d ∷ e ∷ f ∷ g ∷ [] }) i ≡ v i
 unfolding entry
-six_entries a b c d e f v = below_6 (λ i. entry (record { entries = a ∷ b ∷ c ∷ d ∷ e ∷ f ∷ [] }) i ≡ v i)
+seven_entries a b c d e f g v = below_7 (λ i. entry (record { entries = a ∷ b ∷ c ∷ d ∷ e ∷ f ∷ g ∷ [] }) i ≡ v i)
 
-pub six_within : (a b c d e f : Wide) (n : ℕ) → IsWithin n a → IsWithin n b → IsWithin n c → IsWithin n d → IsWithin n e → IsWithin n f →
-    (i : ℕ) → i < 6 → IsWithin n (entry_at (record { entries = a ∷ b ∷ c ∷ d ∷ e ∷ f ∷ [] }) i)
-six_within a b c d e f n = below_6 (λ i. IsWithin n (entry_at (record { entries = a ∷ b ∷ c ∷ d ∷ e ∷ f ∷ [] }) i))
+pub seven_within : (a b c d e f g : Wide) (n : ℕ) → IsWithin n a → IsWithin n b → IsWithin n c → IsWithin n d → IsWithin n e →
+    IsWithin n f → IsWithin n g → (i : ℕ) → i < 7 → IsWithin n (entry_at (record { entries = a ∷ b ∷ c ∷ d ∷ e ∷ f ∷ g ∷ [] }) i)
+seven_within a b c d e f g n = below_7 (λ i. IsWithin n (entry_at (record { entries = a ∷ b ∷ c ∷ d ∷ e ∷ f ∷ g ∷ [] }) i))
 
 -- a number has one logarithm
 not_less : (n a b : ℕ) → 2 ^ a ≤ n → n < 2 * 2 ^ b → b < a → ⊥
@@ -33,7 +34,7 @@ one_log n a b x y =
     let second : ¬ (a < b) = not_less n b a y.reached x.next in omega (arith, first, second)
 
 -- the logarithm doesn't count where its terms are left out
-pub no_log : (n a b v : ℕ) (z : Vector) → z 1 ≡ pos 0 → z 3 ≡ pos 0 → dot 6 (row_entry n a v) z ≡ dot 6 (row_entry n b v) z
+pub no_log : (n a b v : ℕ) (z : Vector) → z 1 ≡ pos 0 → z 3 ≡ pos 0 → dot 7 (row_entry n a v) z ≡ dot 7 (row_entry n b v) z
 no_log n a b v z first third =
     let x = times_nothing (pos a) (z 1) first in
     let y = times_nothing (pos b) (z 1) first in

@@ -62,12 +62,12 @@ products_below a b c d j k wa wb wc wd = (
       (product_below _ _ j k wc.plus wd.minus) (product_below _ _ j k wc.minus wd.plus),
 )
 
-pub has_room : (n k : ℕ) → n < 2 ^ k → k ≤ 576 → n < limit
-has_room n k below fits = let h = pow-le-pow_right {n = 2} (omega arith) {i = k} {j = 576} fits in omega (arith, below, h)
+pub has_room : (n k : ℕ) → n < 2 ^ k → k ≤ 1024 → n < limit
+has_room n k below fits = let h = pow-le-pow_right {n = 2} (omega arith) {i = k} {j = 1024} fits in omega (arith, below, h)
 
 -- ---- one entry without a column
 
-module _ (column i : ℕ) (other x mine y minus : Wide) (small : bits column column + bits column i + 2 ≤ 576)
+module _ (column i : ℕ) (other x mine y minus : Wide) (small : bits column column + bits column i + 2 ≤ 1024)
     (wo : IsWithin (bits column column) other) (wx : IsWithin (bits column i) x) (wm : IsWithin (bits column column) mine)
     (wy : IsWithin (bits column i) y) (turned : number minus.plus ≡ number mine.minus) (turned' : number minus.minus ≡ number
     mine.plus) where
@@ -123,18 +123,18 @@ with_product_value sum a b to plus minus =
     let d = differences (number a.plus) (number a.minus) (number b.plus) (number b.minus) in omega (arith, ints, plus, minus, d)
 
 -- ---- one more product in a sum
-module _ (sum a b : Wide) (i : ℕ) (wa : IsWithin 388 a) (wb : IsWithin 128 b) (less : i < 6) (plus : number sum.plus ≤ i * 2 ^ 517)
-    (minus : number sum.minus ≤ i * 2 ^ 517) where
-  pub next_plus : plus_with sum a b ≤ (i + 1) * 2 ^ 517
+module _ (sum a b : Wide) (i : ℕ) (wa : IsWithin 842 a) (wb : IsWithin 128 b) (less : i < 7) (plus : number sum.plus ≤ i * 2 ^ 971)
+    (minus : number sum.minus ≤ i * 2 ^ 971) where
+  pub next_plus : plus_with sum a b ≤ (i + 1) * 2 ^ 971
   next_plus =
-      let x = product_below _ _ 388 128 wa.plus wb.plus in
-      let y = product_below _ _ 388 128 wa.minus wb.minus in
+      let x = product_below _ _ 842 128 wa.plus wb.plus in
+      let y = product_below _ _ 842 128 wa.minus wb.minus in
       omega (arith, plus, x, y)
 
-  pub next_minus : minus_with sum a b ≤ (i + 1) * 2 ^ 517
+  pub next_minus : minus_with sum a b ≤ (i + 1) * 2 ^ 971
   next_minus =
-      let x = product_below _ _ 388 128 wa.plus wb.minus in
-      let y = product_below _ _ 388 128 wa.minus wb.plus in
+      let x = product_below _ _ 842 128 wa.plus wb.minus in
+      let y = product_below _ _ 842 128 wa.minus wb.plus in
       omega (arith, minus, x, y)
 
   pub room_plus : plus_with sum a b < limit

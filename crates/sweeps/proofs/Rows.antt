@@ -33,23 +33,24 @@ pub has_value : (f : Formula) (n : ℕ) → (0 < n) ⊎ ((f.logarithm ≡ pos 0)
 has_value f n (inl some) = let h = has_log n some in (h.0, inl h.1)
 has_value f n (inr none) = (0, inr none)
 
-row_is : (f : Formula) (n log v : ℕ) → (dot 6 (row_entry n log v) (vector f) ≡ pos 0) ↔ (pos v ≡ value f n log)
+row_is : (f : Formula) (n log v : ℕ) → (dot 7 (row_entry n log v) (vector f) ≡ pos 0) ↔ (pos v ≡ value f n log)
 row_is f n log v =
     let a = mul_comm (pos log) f.logarithm in
     let b = mul_comm (pos n) f.linear in
     let c = mul_comm (pos (n * log)) f.linearithmic in
     let d = mul_comm (pos (n * n)) f.square in
-    (λ is. omega (arith, ints, is, a, b, c, d), λ is. omega (arith, ints, is, a, b, c, d))
+    let e = mul_comm (pos (n * n * n)) f.cube in
+    (λ is. omega (arith, ints, is, a, b, c, d, e), λ is. omega (arith, ints, is, a, b, c, d, e))
 
 pub gives_is : (f : Formula) (row : Row) (x y : Equation) (sum : Wide) (r : Bool) → HasValue f row.size →
-    ((z : Vector) (log : ℕ) → IsLogFor (z 1) (z 3) row.size log → dot 6 (entry x) z ≡ dot 6 (row_entry row.size log row.number) z) →
-    ((i : ℕ) → i < 6 → entry y i ≡ vector f i) → integer sum ≡ dot 6 (entry x) (entry y) →
+    ((z : Vector) (log : ℕ) → IsLogFor (z 1) (z 3) row.size log → dot 7 (entry x) z ≡ dot 7 (row_entry row.size log row.number) z) →
+    ((i : ℕ) → i < 7 → entry y i ≡ vector f i) → integer sum ≡ dot 7 (entry x) (entry y) →
     IsTrue r ↔ (number sum.plus ≡ number sum.minus) → IsTrue r ↔ IsValue f row.size (pos row.number)
 gives_is f row x y sum r l of_row of_formula is tested = (
   λ so.
       let h = tested.0 so in
       let w = whole l.0 l.1 in
-      let z : dot 6 (row_entry row.size l.0 row.number) (vector f) ≡ pos 0 = omega (arith, ints, w, h) in
+      let z : dot 7 (row_entry row.size l.0 row.number) (vector f) ≡ pos 0 = omega (arith, ints, w, h) in
       record { log = l.0; is_log = l.1; is = (row_is f row.size l.0 row.number).0 z },
   λ v.
       let w = whole v.log v.is_log in
@@ -57,6 +58,6 @@ gives_is f row x y sum r l of_row of_formula is tested = (
       tested.1 (omega (arith, ints, w, z)),
 )
   where
-    whole : (log : ℕ) → IsLogFor f.logarithm f.linearithmic row.size log → integer sum ≡ dot 6 (row_entry row.size log row.number) (vector f)
+    whole : (log : ℕ) → IsLogFor f.logarithm f.linearithmic row.size log → integer sum ≡ dot 7 (row_entry row.size log row.number) (vector f)
     whole log is_log =
-        is ∙ dot_vectors 6 (entry x) (entry y) (vector f) of_formula ∙ of_row (vector f) log is_log
+        is ∙ dot_vectors 7 (entry x) (entry y) (vector f) of_formula ∙ of_row (vector f) log is_log

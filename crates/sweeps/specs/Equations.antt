@@ -1,6 +1,6 @@
--- Equations for the coefficients of a formula. An equation has six entries: those of the coefficients of 1, log n, n, n log n and n^2,
--- and its
--- number. Numbers for the coefficients solve it where the sum of the entries, each times its coefficient, and the last times -1, is 0.
+-- Equations for the coefficients of a formula. An equation has seven entries: those of the coefficients of 1, log n, n, n log n, n^2 and
+-- n^3, and its number. Numbers for the coefficients solve it where the sum of the entries, each times its coefficient, and the last times
+-- -1, is 0.
 use Rattle.std.specs.Prelude.{ℕ, zero, suc, ◌+◌, ◌*◌, ◌<◌, ◌==◌, if◌then◌else◌, [], ℤ, pos, negsuc, neg_ℤ, ◌+ℤ◌, ◌*ℤ◌}
 use Rattle.std.specs.Prelude.{slice_index_or}
 use Rattle.sweeps.specs.declared.equation.Equation.{Equation}
@@ -23,7 +23,8 @@ row_entry n log number (suc zero) = pos log
 row_entry n log number (suc (suc zero)) = pos n
 row_entry n log number (suc (suc (suc zero))) = pos (n * log)
 row_entry n log number (suc (suc (suc (suc zero)))) = pos (n * n)
-row_entry n log number (suc (suc (suc (suc (suc i))))) = pos number
+row_entry n log number (suc (suc (suc (suc (suc zero))))) = pos (n * n * n)
+row_entry n log number (suc (suc (suc (suc (suc (suc i)))))) = pos number
 
 -- the numbers of a formula
 abbrev pub vector : Formula → Vector
@@ -32,7 +33,8 @@ vector f (suc zero) = f.logarithm
 vector f (suc (suc zero)) = f.linear
 vector f (suc (suc (suc zero))) = f.linearithmic
 vector f (suc (suc (suc (suc zero)))) = f.square
-vector f (suc (suc (suc (suc (suc i))))) = negsuc 0
+vector f (suc (suc (suc (suc (suc zero))))) = f.cube
+vector f (suc (suc (suc (suc (suc (suc i)))))) = negsuc 0
 
 abbrev pub none : Wide
 none = record { plus = record { digits = [] }; minus = record { digits = [] } }
@@ -50,14 +52,16 @@ first_bits zero = 1
 first_bits (suc zero) = 6
 first_bits (suc (suc zero)) = 64
 first_bits (suc (suc (suc zero))) = 70
-first_bits (suc (suc (suc (suc i)))) = 128
+first_bits (suc (suc (suc (suc zero)))) = 128
+first_bits (suc (suc (suc (suc (suc zero))))) = 192
+first_bits (suc (suc (suc (suc (suc (suc i)))))) = 128
 
 abbrev pub bits : ℕ → ℕ → ℕ
 bits zero i = first_bits i
 bits (suc k) i = bits k k + bits k i + 2
 
 abbrev pub IsBounded : ℕ → Equation → Type 0
-IsBounded k e = (i : ℕ) → i < 6 → IsWithin (bits k i) (entry_at e i)
+IsBounded k e = (i : ℕ) → i < 7 → IsWithin (bits k i) (entry_at e i)
 
 -- one column alone
 abbrev pub unit_entry : ℕ → Vector

@@ -2,7 +2,7 @@
 use Rattle.std.specs.Prelude.{◌≡◌, ◌⊎◌, ◌+◌, ◌*◌, ◌^◌, ◌≤◌, ◌<◌, ◌==◌, ℕ, ℤ, pos, ◌+ℤ◌, ◌*ℤ◌, if◌then◌else◌, unsigned_abs}
 use Rattle.sweeps.specs.declared.formula.Formula.{Formula}
 use Rattle.sweeps.specs.declared.term.Term.{Term}
-use Rattle.sweeps.specs.declared.term.Term.TheVariants.{Constant, Logarithm, Linear, Linearithmic, Square}
+use Rattle.sweeps.specs.declared.term.Term.TheVariants.{Constant, Logarithm, Linear, Linearithmic, Square, Cube}
 
 -- log is the logarithm of n to base 2, rounded down
 pub record IsLog (n log : ℕ) : Type 0 where
@@ -16,7 +16,8 @@ IsLogFor logarithm linearithmic n log = IsLog n log ⊎ ((logarithm ≡ pos 0) �
 -- what the formula comes to where log n is log
 abbrev pub value : Formula → (n log : ℕ) → ℤ
 value f n log =
-    (f.square *ℤ pos (n * n)) +ℤ ((f.linearithmic *ℤ pos (n * log)) +ℤ ((f.linear *ℤ pos n) +ℤ ((f.logarithm *ℤ pos log) +ℤ f.constant)))
+    (f.cube *ℤ pos (n * n * n)) +ℤ ((f.square *ℤ pos (n * n))
+    +ℤ ((f.linearithmic *ℤ pos (n * log)) +ℤ ((f.linear *ℤ pos n) +ℤ ((f.logarithm *ℤ pos log) +ℤ f.constant))))
 
 -- the formula is v at n
 pub record IsValue (f : Formula) (n : ℕ) (v : ℤ) : Type 0 where
@@ -34,10 +35,11 @@ coefficient f Logarithm = f.logarithm
 coefficient f Linear = f.linear
 coefficient f Linearithmic = f.linearithmic
 coefficient f Square = f.square
+coefficient f Cube = f.cube
 
 abbrev pub counted : ℤ → ℕ
 counted c = if unsigned_abs c == 0 then 0 else 1
 
 -- how many terms have a coefficient other than 0
 abbrev pub term_count : Formula → ℕ
-term_count f = counted f.constant + counted f.logarithm + counted f.linear + counted f.linearithmic + counted f.square
+term_count f = counted f.constant + counted f.logarithm + counted f.linear + counted f.linearithmic + counted f.square + counted f.cube

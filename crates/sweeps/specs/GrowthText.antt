@@ -4,14 +4,14 @@ use Rattle.std.specs.Prelude.{unsigned_abs}
 use Rattle.std.specs.Fmt.{signed_decimal}
 use Rattle.sweeps.specs.declared.formula.Formula.{Formula}
 use Rattle.sweeps.specs.declared.term.Term.{Term}
-use Rattle.sweeps.specs.declared.term.Term.TheVariants.{Constant, Logarithm, Linear, Linearithmic, Square}
+use Rattle.sweeps.specs.declared.term.Term.TheVariants.{Constant, Logarithm, Linear, Linearithmic, Square, Cube}
 use Rattle.sweeps.specs.declared.growth.Growth.{Growth}
 use Rattle.sweeps.specs.declared.growth.Growth.TheVariants.{Formula as ByFormula, Doubling, Nothing}
 use Rattle.sweeps.specs.Formulas.{coefficient}
 
 -- the terms as they are written, from the one that grows fastest
 abbrev pub written : List Term
-written = Square ∷ Linearithmic ∷ Linear ∷ Logarithm ∷ Constant ∷ []
+written = Cube ∷ Square ∷ Linearithmic ∷ Linear ∷ Logarithm ∷ Constant ∷ []
 
 -- the sign of a coefficient, of the first term that is written or of a later one
 abbrev pub sign_text : Bool → ℤ → List ℕ
@@ -31,6 +31,7 @@ product_text n m Logarithm = factor_text m ++ (codes "log " ++ n)
 product_text n m Linear = factor_text m ++ n
 product_text n m Linearithmic = factor_text m ++ (n ++ (codes " log " ++ n))
 product_text n m Square = factor_text m ++ (n ++ codes "^2")
+product_text n m Cube = factor_text m ++ (n ++ codes "^3")
 
 -- `4 log n`, ` + 4 log n` or ` - 4 log n`
 abbrev pub signed_text : List ℕ → Bool → ℤ → Term → List ℕ

@@ -42,9 +42,11 @@ pub record IsCandidate (f : Formula) (table : List Row) : Type 0 where
   pub explains : Explains f table
   pub determined : IsDetermined f table
 
--- the terms of a formula as a number: 1 stands for the constant, 2 for log n, 4 for n, 8 for n log n and 16 for n^2
+-- the terms of a formula as a number: 1 stands for the constant, 2 for log n, 4 for n, 8 for n log n, 16 for n^2 and 32 for n^3
 abbrev pub term_set : Formula → ℕ
-term_set f = counted f.constant + 2 * counted f.logarithm + 4 * counted f.linear + 8 * counted f.linearithmic + 16 * counted f.square
+term_set f =
+    counted f.constant + 2 * counted f.logarithm + 4 * counted f.linear + 8 * counted f.linearithmic + 16 * counted f.square
+    + 32 * counted f.cube
 
 -- f has fewer terms than g, or as many that are no later: the fastest term that only one of them has is g's
 abbrev pub IsNotAfter : (f g : Formula) → Type 0

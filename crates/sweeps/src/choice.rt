@@ -13,7 +13,7 @@ pub(crate) struct Choice {
 impl Choice {
     /// Whether the term of a column is in it.
     pub(crate) fn has(self, column: usize) -> bool
-        requires { column < 5 }
+        requires { column < 6 }
         ensures { IsTrue result ↔ (chosen self.bits column ≡ 1) }
     {
         (self.bits >> column) % 2 == 1
@@ -24,6 +24,6 @@ impl Choice {
         ensures { result ≡ chosen_count self.bits }
     {
         let bits = self.bits;
-        bits % 2 + bits / 2 % 2 + bits / 4 % 2 + bits / 8 % 2 + bits / 16 % 2
+        bits % 2 + bits / 2 % 2 + bits / 4 % 2 + bits / 8 % 2 + bits / 16 % 2 + bits / 32 % 2
     }
 }

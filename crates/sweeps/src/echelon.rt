@@ -10,14 +10,14 @@ use crate::equation::Equation;
 use crate::row::Row;
 
 // An equation without the first columns, by their pivots.
-fn reduced(equation: &Equation, pivots: &[Equation; 5], column: usize) -> Equation
-    requires column { column < 5 }
+fn reduced(equation: &Equation, pivots: &[Equation; 6], column: usize) -> Equation
+    requires column { column < 6 }
     requires bounded { IsBounded 0 equation.now }
     requires pivots { IsEchelon pivots.now column }
     ensures bounded { IsBounded column result }
     ensures zeros { (i : ℕ) → i < column → entry result i ≡ pos 0 }
     // Numbers that solve the pivots solve both equations or none.
-    ensures same { (z : Vector) → SolveFirst pivots.now column z → (dot 6 (entry equation.now) z ≡ pos 0) ↔ (dot 6 (entry result) z ≡
+    ensures same { (z : Vector) → SolveFirst pivots.now column z → (dot 7 (entry equation.now) z ≡ pos 0) ↔ (dot 7 (entry result) z ≡
         pos 0) }
 {
     let mut left = *equation;
@@ -28,12 +28,12 @@ fn reduced(equation: &Equation, pivots: &[Equation; 5], column: usize) -> Equati
 }
 
 // An equation that begins at a column, by the first row that has one.
-fn pivot_of(table: &[Row], pivots: &[Equation; 5], column: usize) -> Option<Equation>
-    requires column { column < 5 }
+fn pivot_of(table: &[Row], pivots: &[Equation; 6], column: usize) -> Option<Equation>
+    requires column { column < 6 }
     requires pivots { IsEchelon pivots.now column }
     ensures { MatchOption result
-        ((z : Vector) → SolveFirst pivots.now column z → ((i : ℕ) → i < 6 → column < i → z i ≡ pos 0) → All (MaySolve z) table.now)
-        (λ p. BeginsAt column p × ((z : Vector) → SolveFirst pivots.now column z → All (Solves z) table.now → dot 6 (entry p) z ≡ pos 0)) }
+        ((z : Vector) → SolveFirst pivots.now column z → ((i : ℕ) → i < 7 → column < i → z i ≡ pos 0) → All (MaySolve z) table.now)
+        (λ p. BeginsAt column p × ((z : Vector) → SolveFirst pivots.now column z → All (Solves z) table.now → dot 7 (entry p) z ≡ pos 0)) }
 {
     for row in table {
         let left = reduced(&Equation::of_row(row), pivots, column);
@@ -48,16 +48,16 @@ fn pivot_of(table: &[Row], pivots: &[Equation; 5], column: usize) -> Option<Equa
 fn pivot_by(
     table: &[Row],
     choice: Choice,
-    pivots: &[Equation; 5],
+    pivots: &[Equation; 6],
     column: usize,
 ) -> Option<Equation>
-    requires column { column < 5 }
+    requires column { column < 6 }
     requires pivots { IsEchelon pivots.now column }
     ensures { MatchOption result
         ((chosen choice.bits column ≡ 1) × ((z : Vector) → SolveFirst pivots.now column z →
-        ((i : ℕ) → i < 6 → column < i → z i ≡ pos 0) → All (MaySolve z) table.now))
+        ((i : ℕ) → i < 7 → column < i → z i ≡ pos 0) → All (MaySolve z) table.now))
         (λ p. BeginsAt column p × ((z : Vector) → SolveFirst pivots.now column z → All (Solves z) table.now → IsOfChoice choice.bits z →
-        dot 6 (entry p) z ≡ pos 0) × (chosen choice.bits column ≡ 0 → (z : Vector) → dot 6 (entry p) z ≡ z column)) }
+        dot 7 (entry p) z ≡ pos 0) × (chosen choice.bits column ≡ 0 → (z : Vector) → dot 7 (entry p) z ≡ z column)) }
 {
     if choice.has(column) {
         pivot_of(table, pivots, column)
@@ -67,12 +67,12 @@ fn pivot_by(
 }
 
 /// For each column an equation that begins there. `None`: the columns chosen depend on one another.
-pub(crate) fn echelon(table: &[Row], choice: Choice) -> Option<[Equation; 5]>
+pub(crate) fn echelon(table: &[Row], choice: Choice) -> Option<[Equation; 6]>
     ensures { MatchOption result (IsDependent table.now choice.bits)
-        (λ ps. IsEchelon ps 5 × ((z : Vector) → All (Solves z) table.now → IsOfChoice choice.bits z → SolveFirst ps 5 z)) }
+        (λ ps. IsEchelon ps 6 × ((z : Vector) → All (Solves z) table.now → IsOfChoice choice.bits z → SolveFirst ps 6 z)) }
 {
-    let mut pivots = [Equation::unit(0); 5];
-    for column in 0..5usize {
+    let mut pivots = [Equation::unit(0); 6];
+    for column in 0..6usize {
         match pivot_by(table, choice, &pivots, column) {
             Some(pivot) => pivots[column] = pivot,
             None => return None,

@@ -1,6 +1,6 @@
 //! A row as an equation for the coefficients.
 
-ghost use Rattle.std.specs.Prelude.{◌≡◌, ◌<◌, ◌+◌, ◌*◌, ℕ, ℤ, IsTrue};
+ghost use Rattle.std.specs.Prelude.{◌≡◌, ◌<◌, ◌+◌, ◌*◌, ℕ, ℤ, pos, IsTrue};
 ghost use Rattle.sweeps.specs.Equations.{IsBounded, Vector, bits, crossed, dot, entry, entry_at, row_entry, unit_entry, vector};
 ghost use Rattle.sweeps.specs.Formulas.{IsLog, IsLogFor};
 ghost use Rattle.sweeps.specs.Naturals.{limit, number};
@@ -10,11 +10,11 @@ use crate::formula::Formula;
 use crate::row::Row;
 use crate::wide::Wide;
 
-/// The sum of the first five entries, each times the unknown coefficient of its column, is the last entry. The columns are 1, log n, n,
-/// n log n and n^2.
+/// The sum of the first six entries, each times the unknown coefficient of its column, is the last entry. The columns are 1, log n, n,
+/// n log n, n^2 and n^3.
 #[derive(Clone, Copy)]
 pub(crate) struct Equation {
-    entries: [Wide; 6],
+    entries: [Wide; 7],
 }
 
 // A product of two numbers.
@@ -22,6 +22,14 @@ fn product(a: u64, b: u64) -> u128
     ensures { result ≡ a * b }
 {
     u128::from(a) * u128::from(b)
+}
+
+// The third power of a number.
+fn cube(n: u64) -> Wide
+    ensures value { integer result ≡ pos (n * n * n) }
+    ensures within { IsWithin 192 result }
+{
+    Wide::of(0).with_product(&Wide::of(product(n, n)), &Wide::of(u128::from(n)))
 }
 
 // The logarithm of a size other than 0.
@@ -64,10 +72,10 @@ fn products(a: &Wide, b: &Wide, c: &Wide, d: &Wide) -> Wide
 impl Equation {
     /// The equation of a row.
     pub(crate) fn of_row(row: &Row) -> Equation
-        ensures entries { (log : ℕ) → IsLog row.now.size log → (i : ℕ) → i < 6 → entry result i ≡ row_entry row.now.size log
+        ensures entries { (log : ℕ) → IsLog row.now.size log → (i : ℕ) → i < 7 → entry result i ≡ row_entry row.now.size log
             row.now.number i }
         ensures sum { (z : Vector) (log : ℕ) → IsLogFor (z 1) (z 3) row.now.size log →
-            dot 6 (entry result) z ≡ dot 6 (row_entry row.now.size log row.now.number) z }
+            dot 7 (entry result) z ≡ dot 7 (row_entry row.now.size log row.now.number) z }
         ensures bounded { IsBounded 0 result }
     {
         let log = log_of(row.size);
@@ -78,6 +86,7 @@ impl Equation {
                 Wide::of(u128::from(row.size)),
                 Wide::of(product(row.size, log)),
                 Wide::of(product(row.size, row.size)),
+                cube(row.size),
                 Wide::of(row.number),
             ],
         }
@@ -85,8 +94,8 @@ impl Equation {
 
     /// The coefficients of a formula as entries, and behind them -1.
     pub(crate) fn of_formula(formula: &Formula) -> Equation
-        ensures entries { (i : ℕ) → i < 6 → entry result i ≡ vector formula.now i }
-        ensures within { (i : ℕ) → i < 6 → IsWithin 128 (entry_at result i) }
+        ensures entries { (i : ℕ) → i < 7 → entry result i ≡ vector formula.now i }
+        ensures within { (i : ℕ) → i < 7 → IsWithin 128 (entry_at result i) }
     {
         Equation {
             entries: [
@@ -95,6 +104,7 @@ impl Equation {
                 Wide::of_signed(formula.linear),
                 Wide::of_signed(formula.linearithmic),
                 Wide::of_signed(formula.square),
+                Wide::of_signed(formula.cube),
                 Wide::of_signed(-1),
             ],
         }
@@ -102,13 +112,13 @@ impl Equation {
 
     /// The sum of the entries, each times that of another equation.
     pub(crate) fn sum(&self, other: &Equation) -> Wide
-        requires mine { (i : ℕ) → i < 6 → IsWithin 388 (entry_at self.now i) }
-        requires other { (i : ℕ) → i < 6 → IsWithin 128 (entry_at other.now i) }
-        ensures value { integer result ≡ dot 6 (entry self.now) (entry other.now) }
-        ensures within { IsWithin 530 result }
+        requires mine { (i : ℕ) → i < 7 → IsWithin 842 (entry_at self.now i) }
+        requires other { (i : ℕ) → i < 7 → IsWithin 128 (entry_at other.now i) }
+        ensures value { integer result ≡ dot 7 (entry self.now) (entry other.now) }
+        ensures within { IsWithin 980 result }
     {
         let mut sum = Wide::of(0);
-        for i in 0..6usize {
+        for i in 0..7usize {
             sum = sum.with_product(&self.entries[i], &other.entries[i]);
         }
         sum
@@ -116,9 +126,9 @@ impl Equation {
 
     /// That the coefficient of a column is 0.
     pub(crate) fn unit(column: usize) -> Equation
-        requires { column < 6 }
-        ensures entries { (i : ℕ) → i < 6 → entry result i ≡ unit_entry column i }
-        ensures bounded { (i : ℕ) → i < 6 → IsWithin 1 (entry_at result i) }
+        requires { column < 7 }
+        ensures entries { (i : ℕ) → i < 7 → entry result i ≡ unit_entry column i }
+        ensures bounded { (i : ℕ) → i < 7 → IsWithin 1 (entry_at result i) }
     {
         Equation {
             entries: [
@@ -128,13 +138,14 @@ impl Equation {
                 one_at(column, 3),
                 one_at(column, 4),
                 one_at(column, 5),
+                one_at(column, 6),
             ],
         }
     }
 
     /// The entry of a column.
     pub(crate) fn at(&self, column: usize) -> Wide
-        requires { column < 6 }
+        requires { column < 7 }
         ensures { result ≡ entry_at self.now column }
     {
         self.entries[column]
@@ -142,16 +153,16 @@ impl Equation {
 
     /// This equation without a column, by an equation that has it.
     pub(crate) fn without(&self, column: usize, pivot: &Equation) -> Equation
-        requires column { column < 4 }
+        requires column { column < 5 }
         requires mine { IsBounded column self.now }
         requires pivot { IsBounded column pivot.now }
-        ensures entries { (i : ℕ) → i < 6 → entry result i ≡ crossed column (entry self.now) (entry pivot.now) i }
+        ensures entries { (i : ℕ) → i < 7 → entry result i ≡ crossed column (entry self.now) (entry pivot.now) i }
         ensures bounded { IsBounded (column + 1) result }
     {
         let mine = self.entries[column].negated();
         let other = pivot.entries[column];
-        let mut entries = [Wide::of(0); 6];
-        for i in 0..6usize {
+        let mut entries = [Wide::of(0); 7];
+        for i in 0..7usize {
             entries[i] = products(&other, &self.entries[i], &mine, &pivot.entries[i]);
         }
         Equation { entries }

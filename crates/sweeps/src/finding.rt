@@ -38,7 +38,7 @@ fn formula_of(table: &[Row], count: usize) -> Option<Formula>
         (λ f. IsCandidate f table.now × (term_count f ≡ count) ×
         ((g : TheFormula) → IsCandidate g table.now → term_count g ≡ count → term_set f ≤ term_set g)) }
 {
-    for bits in 0..32usize {
+    for bits in 0..64usize {
         let choice = Choice { bits };
         if choice.count() == count {
             match chosen_formula(table, choice) {
@@ -54,7 +54,7 @@ fn formula_of(table: &[Row], count: usize) -> Option<Formula>
 fn first_formula(table: &[Row]) -> Option<Formula>
     ensures { MatchOption result (HasNoFormula table.now) (λ f. IsFirst f table.now) }
 {
-    for count in 0..6usize {
+    for count in 0..7usize {
         match formula_of(table, count) {
             Some(formula) => return Some(formula),
             None => {}

@@ -1,13 +1,13 @@
 //! Formulas in the size n.
 
-ghost use Rattle.std.specs.Prelude.{◌≡◌};
+ghost use Rattle.std.specs.Prelude.{◌≡◌, ◌≤◌};
 ghost use Rattle.sweeps.specs.Formulas as spec;
 ghost use Rattle.sweeps.specs.Tables.{term_set};
 
 use crate::term::Term;
 
-/// An integer combination of the terms: `square` n^2 + `linearithmic` n log n + `linear` n + `logarithm` log n + `constant`, where log n
-/// is the logarithm to base 2, rounded down.
+/// An integer combination of the terms: `cube` n^3 + `square` n^2 + `linearithmic` n log n + `linear` n + `logarithm` log n + `constant`,
+/// where log n is the logarithm to base 2, rounded down.
 #[derive(Clone, Copy, Debug, PartialEq, Eq)]
 pub struct Formula {
     pub constant: i128,
@@ -15,6 +15,7 @@ pub struct Formula {
     pub linear: i128,
     pub linearithmic: i128,
     pub square: i128,
+    pub cube: i128,
 }
 
 impl Formula {
@@ -28,6 +29,7 @@ impl Formula {
             Term::Linear => self.linear,
             Term::Linearithmic => self.linearithmic,
             Term::Square => self.square,
+            Term::Cube => self.cube,
         }
     }
 
@@ -40,6 +42,7 @@ impl Formula {
             + counted(self.linear)
             + counted(self.linearithmic)
             + counted(self.square)
+            + counted(self.cube)
     }
 
     /// The terms that have a coefficient other than 0, as a number.
@@ -51,12 +54,14 @@ impl Formula {
             + 4 * counted(self.linear)
             + 8 * counted(self.linearithmic)
             + 16 * counted(self.square)
+            + 32 * counted(self.cube)
     }
 }
 
 // 1 for a coefficient other than 0.
 fn counted(coefficient: i128) -> usize
-    ensures { result ≡ spec.counted coefficient }
+    ensures value { result ≡ spec.counted coefficient }
+    ensures few { result ≤ 1 }
 {
     if coefficient == 0 { 0 } else { 1 }
 }

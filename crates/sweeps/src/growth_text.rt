@@ -65,6 +65,7 @@ fn write_product<W: Out>(
         Term::Linear => write_times(size, &[variable], out),
         Term::Linearithmic => write_times(size, &[variable, b" log ", variable], out),
         Term::Square => write_times(size, &[variable, b"^2"], out),
+        Term::Cube => write_times(size, &[variable, b"^3"], out),
     }
 }
 

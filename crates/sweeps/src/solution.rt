@@ -18,8 +18,8 @@ use crate::row::Row;
 
 // A formula with a coefficient in a column.
 fn with(formula: Formula, column: usize, coefficient: i128) -> Formula
-    requires { column < 5 }
-    ensures { (i : ℕ) → i < 6 → vector result i ≡ column_at formula column coefficient i }
+    requires { column < 6 }
+    ensures { (i : ℕ) → i < 7 → vector result i ≡ column_at formula column coefficient i }
 {
     let mut to = formula;
     match column {
@@ -27,29 +27,30 @@ fn with(formula: Formula, column: usize, coefficient: i128) -> Formula
         1 => to.logarithm = coefficient,
         2 => to.linear = coefficient,
         3 => to.linearithmic = coefficient,
-        _ => to.square = coefficient,
+        4 => to.square = coefficient,
+        _ => to.cube = coefficient,
     }
     to
 }
 
 // The coefficient that solves an equation which begins at a column, where those behind it are known and the others are 0.
 fn solved(pivot: &Equation, known: &Formula, column: usize) -> Option<i128>
-    requires column { column < 5 }
+    requires column { column < 6 }
     requires begins { BeginsAt column pivot.now }
     ensures { MatchOption result
-        ((x : ℤ) → FitsSigned w128 x → (entry pivot.now column *ℤ x) ≢ neg_ℤ (dot 6 (entry pivot.now) (vector known.now)))
-        (λ x. (entry pivot.now column *ℤ x) ≡ neg_ℤ (dot 6 (entry pivot.now) (vector known.now))) }
+        ((x : ℤ) → FitsSigned w128 x → (entry pivot.now column *ℤ x) ≢ neg_ℤ (dot 7 (entry pivot.now) (vector known.now)))
+        (λ x. (entry pivot.now column *ℤ x) ≡ neg_ℤ (dot 7 (entry pivot.now) (vector known.now))) }
 {
     let sum = pivot.sum(&Equation::of_formula(known));
     quotient(&sum.negated(), &pivot.at(column))
 }
 
 // The only formula that solves the equations.
-fn solution(pivots: &[Equation; 5]) -> Option<Formula>
-    requires { IsEchelon pivots.now 5 }
+fn solution(pivots: &[Equation; 6]) -> Option<Formula>
+    requires { IsEchelon pivots.now 6 }
     ensures { MatchOption result
-        ((g : TheFormula) → HasSmall g → ¬ SolveFirst pivots.now 5 (vector g))
-        (λ f. (g : TheFormula) → SolveFirst pivots.now 5 (vector g) → f ≡ g) }
+        ((g : TheFormula) → HasSmall g → ¬ SolveFirst pivots.now 6 (vector g))
+        (λ f. (g : TheFormula) → SolveFirst pivots.now 6 (vector g) → f ≡ g) }
 {
     let mut known = Formula {
         constant: 0,
@@ -57,9 +58,10 @@ fn solution(pivots: &[Equation; 5]) -> Option<Formula>
         linear: 0,
         linearithmic: 0,
         square: 0,
+        cube: 0,
     };
-    for step in 0..5usize {
-        let column = 4 - step;
+    for step in 0..6usize {
+        let column = 5 - step;
         match solved(&pivots[column], &known, column) {
             Some(coefficient) => known = with(known, column, coefficient),
             None => return None,

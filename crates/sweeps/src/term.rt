@@ -8,10 +8,12 @@ pub(crate) enum Term {
     Linear,
     Linearithmic,
     Square,
+    Cube,
 }
 
 /// The terms as they are written, from the one that grows fastest.
-pub(crate) const WRITTEN: [Term; 5] = [
+pub(crate) const WRITTEN: [Term; 6] = [
+    Term::Cube,
     Term::Square,
     Term::Linearithmic,
     Term::Linear,

@@ -216,12 +216,42 @@ const GREAT_SQUARES: [Row; 3] = [
     },
 ];
 
+const CUBES: [Row; 4] = [
+    Row { size: 0, number: 0 },
+    Row {
+        size: 3,
+        number: 27,
+    },
+    Row {
+        size: 5,
+        number: 125,
+    },
+    Row {
+        size: 9,
+        number: 729,
+    },
+];
+
+// n^3 up to the greatest third power of 128 bits.
+const GREAT_CUBES: [Row; 3] = [
+    Row { size: 1, number: 1 },
+    Row {
+        size: 2_097_152,
+        number: 9_223_372_036_854_775_808,
+    },
+    Row {
+        size: 6_981_463_658_331,
+        number: 340_282_366_920_856_711_588_743_492_508_790_678_691,
+    },
+];
+
 const NONE: Formula = Formula {
     constant: 0,
     logarithm: 0,
     linear: 0,
     linearithmic: 0,
     square: 0,
+    cube: 0,
 };
 
 fn line(alloc: Global, table: &[Row]) -> Result<Buffer, WriteFault> {
@@ -254,6 +284,7 @@ fn sums_by_a_tree_have_their_formulas(rt: HostRuntime) -> Result<(), Fail> {
 fn one_term_and_three_and_none(rt: HostRuntime) -> Result<(), Fail> {
     assert_line(&rt, rt.alloc(), &SQUARES, b"time n^2\n")?;
     assert_line(&rt, rt.alloc(), &PAIRS, b"time n^2 - n + 2\n")?;
+    assert_line(&rt, rt.alloc(), &CUBES, b"time n^3\n")?;
     assert_line(&rt, rt.alloc(), &ZEROS, b"time 0\n")
 }
 
@@ -294,5 +325,6 @@ fn nothing_is_told_of_other_tables(rt: HostRuntime) -> Result<(), Fail> {
 fn great_numbers_are_told_where_coefficients_are_not(rt: HostRuntime) -> Result<(), Fail> {
     assert_eq!(rt; fit(&GREAT_NUMBERS), Growth::Nothing);
     assert_eq!(rt; fit(&GREAT_SIZES), Growth::Nothing);
-    assert_line(&rt, rt.alloc(), &GREAT_SQUARES, b"time n^2\n")
+    assert_line(&rt, rt.alloc(), &GREAT_SQUARES, b"time n^2\n")?;
+    assert_line(&rt, rt.alloc(), &GREAT_CUBES, b"time n^3\n")
 }

@@ -8,7 +8,7 @@ loop-i-preserved c =
     let i = c.loop-i.i in
     let p = pivot c.args.pivots.now i in
     let to = c.without-left.result in
-    let within : i < 6 = let a = c.loop-i-test.true in let b = c.requires.column in omega (arith, a, b) in
+    let within : i < 7 = let a = c.loop-i-test.true in let b = c.requires.column in omega (arith, a, b) in
     let begins = c.requires.pivots i c.loop-i-test.true in (
       c.without-left.ensures.bounded,
       next_zeros c.loop-i.left p to i c.without-left.ensures.entries begins within c.loop-i.invariant.1,

@@ -2,7 +2,7 @@ use Rattle.std.proofs.Common.{◌≡◌, ◌∙◌, ap, sym, subst, rules, FitsS
 use Rattle.std.specs.Int.{w128}
 use Rattle.sweeps.specs.declared.formula.Formula.{Formula}
 use Rattle.sweeps.specs.declared.term.Term.{Term}
-use Rattle.sweeps.specs.declared.term.Term.TheVariants.{Constant, Logarithm, Linear, Linearithmic, Square}
+use Rattle.sweeps.specs.declared.term.Term.TheVariants.{Constant, Logarithm, Linear, Linearithmic, Square, Cube}
 use Rattle.sweeps.specs.Formulas.{coefficient}
 use Rattle.sweeps.specs.Tables.{Explains, term_set}
 use Rattle.sweeps.proofs.Candidates.{only, same_as}
@@ -11,20 +11,22 @@ use Rattle.sweeps.proofs.finding.chosen_formula.Goals as goal
 use Rattle.sweeps.proofs.finding.chosen_formula.Goals.{else-explains-via-then-explains+else-term_set-choice}
 use Rattle.sweeps.proofs.finding.chosen_formula.Goals.{else-explains-via-else-explains}
 
-five : (f : Formula) → FitsSigned w128 f.constant → FitsSigned w128 f.logarithm → FitsSigned w128 f.linear →
-    FitsSigned w128 f.linearithmic → FitsSigned w128 f.square → (term : Term) → FitsSigned w128 (coefficient f term)
-five f a b c d e Constant = a
-five f a b c d e Logarithm = b
-five f a b c d e Linear = c
-five f a b c d e Linearithmic = d
-five f a b c d e Square = e
+six : (f : Formula) → FitsSigned w128 f.constant → FitsSigned w128 f.logarithm → FitsSigned w128 f.linear →
+    FitsSigned w128 f.linearithmic → FitsSigned w128 f.square → FitsSigned w128 f.cube →
+    (term : Term) → FitsSigned w128 (coefficient f term)
+six f a b c d e g Constant = a
+six f a b c d e g Logarithm = b
+six f a b c d e g Linear = c
+six f a b c d e g Linearithmic = d
+six f a b c d e g Square = e
+six f a b c d e g Cube = g
 
 pub returns-then-term_set-choice : goal.returns-then-term_set-choice
 returns-then-term_set-choice c =
     let f = c.in-Some.formula in
     let set : term_set f ≡ c.args.choice.bits = sym c.term_set.ensures ∙ c.if-term_set-choice.true in (
       record {
-        small = five f (search rules) (search rules) (search rules) (search rules) (search rules);
+        small = six f (search rules) (search rules) (search rules) (search rules) (search rules) (search rules);
         explains = c.explains.ensures.0 (is_true c.explains.result c.if-explains.true);
         determined = only c.args.table.now c.args.choice.bits f c.in-Some.ensures set;
       },

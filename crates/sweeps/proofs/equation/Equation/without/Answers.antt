@@ -8,7 +8,7 @@ use Rattle.sweeps.proofs.Linear.{crossed_room, crossed_value, crossed_within}
 use Rattle.sweeps.proofs.Sizes.{bits_small}
 use Rattle.sweeps.proofs.equation.Equation.without.Goals as goal
 
-small : (column i : ℕ) → column < 4 → i < 6 → bits column column + bits column i + 2 ≤ 576
+small : (column i : ℕ) → column < 5 → i < 7 → bits column column + bits column i + 2 ≤ 1024
 small column i within less = let h = bits_small (suc column) (omega (arith, within)) i less in omega (arith, h)
 
 pub products-requires-clause-plus : goal.products-requires-clause-plus
@@ -17,7 +17,7 @@ products-requires-clause-plus c =
     let p = c.args.pivot.now in
     let k = c.args.column in
     let i = c.loop-i.i in
-    let kn : k < 6 = let h = c.requires.column in omega (arith, h) in
+    let kn : k < 7 = let h = c.requires.column in omega (arith, h) in
     (crossed_room k i (entry_at p k) (entry_at x i) (entry_at x k) (entry_at p i) c.negated-mine.result
     (small k i c.requires.column c.loop-i-test.true)
     (c.requires.pivot k kn) (c.requires.mine i c.loop-i-test.true) (c.requires.mine k kn) (c.requires.pivot i c.loop-i-test.true)
@@ -29,7 +29,7 @@ products-requires-clause-minus c =
     let p = c.args.pivot.now in
     let k = c.args.column in
     let i = c.loop-i.i in
-    let kn : k < 6 = let h = c.requires.column in omega (arith, h) in
+    let kn : k < 7 = let h = c.requires.column in omega (arith, h) in
     (crossed_room k i (entry_at p k) (entry_at x i) (entry_at x k) (entry_at p i) c.negated-mine.result
     (small k i c.requires.column c.loop-i-test.true)
     (c.requires.pivot k kn) (c.requires.mine i c.loop-i-test.true) (c.requires.mine k kn) (c.requires.pivot i c.loop-i-test.true)
@@ -47,7 +47,7 @@ loop-i-preserved c =
     let p = c.args.pivot.now in
     let k = c.args.column in
     let i = c.loop-i.i in
-    let kn : k < 6 = let h = c.requires.column in omega (arith, h) in
+    let kn : k < 7 = let h = c.requires.column in omega (arith, h) in
     let room : i < length c.loop-i.entries = let m = c.loop-i.invariant.0 in let t = c.loop-i-test.true in omega (arith, m, t) in
     let w = small k i c.requires.column c.loop-i-test.true in
     let next : suc k ≡ k + 1 = omega arith in (

@@ -5,6 +5,6 @@ use Rattle.sweeps.proofs.equation.Equation.without.Given as goal
 
 abbrev pub invariant-loop-i : goal.invariant-loop-i
 invariant-loop-i l =
-    (length l.entries ≡ 6)
+    (length l.entries ≡ 7)
     × ((k : ℕ) → k < l.i → integer (get_or l.entries k none) ≡ crossed l.column (entry l.self) (entry l.pivot) k)
     × ((k : ℕ) → k < l.i → IsWithin (bits (l.column + 1) k) (get_or l.entries k none))
