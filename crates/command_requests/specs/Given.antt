@@ -29,6 +29,10 @@ GivesNone (Swept word value) = ⊥
 abbrev pub has_name : List Size → List ℕ → Bool
 has_name sizes name = list_any (λ s. same_text s.name name) sizes
 
+-- the names that are known are those of the sizes
+abbrev pub AreNamesOf : (is_known : List ℕ → Bool) → List Size → Type 0
+AreNamesOf is_known sizes = (name : List ℕ) → is_known name ≡ has_name sizes name
+
 -- a word that gives a size, of a name that none of these has
 abbrev pub IsNewSize : List Size → SizeWord → Size → Type 0
 IsNewSize sizes word s = GivesSize word s × (has_name sizes s.name ≡ false)
