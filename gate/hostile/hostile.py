@@ -57,6 +57,7 @@ NO_MEMORY_IN_JSON = (
     b'{"message":"memory was refused: nothing is said of the text or the run, and with more memory it may go well",'
     b'"name":"OutOfMemory","refused":"E16"}\n'
 )
+NO_MEMORY_FOR_JSON = b'{"name":"OutOfMemory","refused":"E16"}\n'
 NOT_WRITTEN = b"refused E17 WriteFailed\n"
 
 own = threading.local()
@@ -125,8 +126,8 @@ def refuse_one(words, expected, refused):
     """One allocation or start is refused: the program says so, or does what it does else; in any case it gives its memory back."""
     given, left, *_ = tallied(words, **refused)
     says_so = given == (2, b"", NO_MEMORY_IN_JSON if "json" in words else NO_MEMORY)
-    # memory for the words themselves: before they are read nobody knows whether they ask for JSON
-    unread = given == (2, b"", NO_MEMORY)
+    # memory for the words themselves
+    unread = given == (2, b"", NO_MEMORY_FOR_JSON if "json" in words else NO_MEMORY)
     if left or not (says_so or given == expected or (unread and refused.get("REFUSE", "").startswith("0:"))):
         raise Wrong(f"{words} with {refused}: {given}, {left} blocks are left")
     if "REFUSE_START" in refused and not says_so:

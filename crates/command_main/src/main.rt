@@ -3,6 +3,7 @@
 
 use command_requests::{NotText, Reader, Request};
 use command_words::CommandLine;
+use json_texts::out_of_memory_line;
 use pramc::{ErrorStream, ProgressLine, Stop, Terminal, command};
 use std::alloc::{AllocError, Global};
 use std::env::{Env, FillError};
@@ -39,11 +40,17 @@ fn terminal(rt: &HostRuntime) -> Terminal {
     }
 }
 
-// What is told where memory for the words was refused.
-const NO_MEMORY: &[u8] = b"refused E16 OutOfMemory\n";
-
 // The system gives a program no longer word.
 const LONGEST: usize = 131_072;
+
+// The words that ask for JSON, of which none is longer than that.
+const FORMAT: &[u8] = b"--format";
+
+const JSON: &[u8] = b"json";
+
+const FORMAT_JSON: &[u8] = b"--format=json";
+
+const LONGEST_OF_FORMAT: usize = 13;
 
 // The words behind the program's name, and the first that isn't UTF-8, by its place.
 #[derive(Drop)]
@@ -133,9 +140,36 @@ fn line_of(words: &CallWords) -> AnyLine<'_> {
     }
 }
 
+// Whether the words ask for JSON. They are read one by one, which takes no memory: where there was none for all of them.
+fn ask_for_json(rt: &HostRuntime) -> bool {
+    let mut buffer = [0u8; LONGEST_OF_FORMAT];
+    let mut behind_format = false;
+    for place in 1..usize::MAX {
+        let word: &[u8] = match rt.arg(place, &mut buffer) {
+            Ok(count) => &buffer[..count],
+            Err(FillError::NotPresent) => return false,
+            Err(FillError::TooLong) => b"",
+        };
+        if word == FORMAT_JSON || (behind_format && word == JSON) {
+            return true;
+        }
+        behind_format = word == FORMAT;
+    }
+    false
+}
+
+// What is told where memory for the words was refused.
+fn no_memory(rt: &HostRuntime) -> &'static [u8] {
+    if ask_for_json(rt) {
+        out_of_memory_line()
+    } else {
+        b"refused E16 OutOfMemory\n"
+    }
+}
+
 fn refused(rt: &HostRuntime) -> ExitCode {
     let mut err = Stream::new(rt.alloc(), rt.stderr());
-    let _ = err.write_all(NO_MEMORY);
+    let _ = err.write_all(no_memory(rt));
     let _ = err.flush();
     ExitCode::from(2)
 }
