@@ -7,7 +7,7 @@ use Rattle.std.specs.List.{Contains}
 use Rattle.pram_check.specs.Checked.{Checked}
 use Rattle.pram_tokens.specs.declared.token.Location.{Location}
 use Rattle.pram_names.specs.declared.body.Expression.{Expression}
-use Rattle.pram_names.specs.declared.body.Statement.{If, Statement, While}
+use Rattle.pram_names.specs.declared.body.Statement.{If, Statement}
 use Rattle.pram_names.specs.declared.body.Statement.TheBlock.{hidden-the_row-Statement-0}
 use Rattle.pram_meaning.specs.Attempt.{attempt}
 use Rattle.pram_meaning.specs.Bounded as bounded
@@ -15,11 +15,10 @@ use Rattle.pram_meaning.specs.Bounded.{Behaviour, Done, Goes, Reaches, perform, 
 use Rattle.pram_meaning.specs.Meaning as relation
 use Rattle.pram_meaning.specs.Meaning.{Ends, Fate, Means, MeansList, Tested, at_fault, at_start, on}
 use Rattle.pram_meaning.specs.Moments.{Alone, Chooses, Moment, Turns, behind, closing, left_by, list_moments, moments, nowhere, row_moments}
-use Rattle.pram_meaning.specs.Moments.{test_moment, turns_moments, unchanged, writing}
+use Rattle.pram_meaning.specs.Moments.{test_moment, unchanged, writing}
 use Rattle.pram_meaning.specs.Store.{State, seen}
 use Rattle.pram_meaning.proofs.Agree.{agree_tested}
 use Rattle.pram_meaning.proofs.AgreeAll.{agree_list}
-use Rattle.pram_meaning.proofs.Blocks.{block_is}
 use Rattle.pram_meaning.proofs.HeardBlocks.{told_is}
 use Rattle.endless_runs.specs.Endless.{ComesBack, IsTestedIn}
 use Rattle.endless_runs.specs.Search.{HasShown}
