@@ -2,6 +2,8 @@
 use Rattle.std.proofs.Common.{◌≡◌, ◌∙◌, ◌+◌, ◌-◌, ◌≤◌, ◌<◌, ◌⊎◌, ℕ, List, [], ◌++◌, ap, append_assoc, append-nil, arith, drop}
 use Rattle.std.proofs.Common.{inl, inr, length, subst, sym, take}
 use Rattle.std.specs.List.{copy_within}
+use Rattle.std.specs.declared.alloc.Global.{Global}
+use Rattle.std.specs.declared.vec.Vec.{Vec}
 use Rattle.std.proofs.Math.Seq.{take-append_seam}
 use Rattle.std.proofs.lemmas.List.{length-drop, take-append-drop, take_all}
 use Rattle.system_files.specs.Held.{HandsOn, HasNoEnd, IsLines, Lines, Long, held_in}
@@ -20,7 +22,7 @@ moved held end whole few =
 whole_block : (held : List ℕ) (len : ℕ) → length held ≡ 4096 → len ≡ 4096 → take len held ≡ held
 whole_block held len whole full = ap (λ n. take n held) full ∙ take_all 4096 held (omega (arith, whole))
 
-pub lines_handed_on : (long held new rest : List ℕ) (len end late : ℕ) → length held ≡ 4096 → len ≡ 4096 → end ≤ 4096 →
+pub lines_handed_on : (long : Vec ℕ Global) (held new rest : List ℕ) (len end late : ℕ) → length held ≡ 4096 → len ≡ 4096 → end ≤ 4096 →
     (end ≡ 0) ⊎ IsLines (take end held) → HasNoEnd (drop end held) → 0 < end → new ≡ copy_within held end 4096 0 → late ≡ 4096 - end →
     rest ≡ [] → HandsOn long len held (held_in rest late new)
 lines_handed_on long held new rest len end late whole full few (inl none) ends some is at empty = absurd (omega (arith, none, some))
@@ -36,17 +38,12 @@ no_end : (held : List ℕ) (len end : ℕ) → length held ≡ 4096 → len ≡ 
 no_end held len end whole full ends none =
     subst HasNoEnd (sym (whole_block held len whole full)) (subst (λ n. HasNoEnd (drop n held)) none ends)
 
-pub kept_long : (long held new : List ℕ) (len end late : ℕ) → length held ≡ 4096 → len ≡ 4096 → HasNoEnd (drop end held) → end ≡ 0 →
-    new ≡ long ++ held → late ≡ 0 → HandsOn long len held (held_in new late held)
+pub kept_long : (long : Vec ℕ Global) (held new : List ℕ) (len end late : ℕ) → length held ≡ 4096 → len ≡ 4096 → HasNoEnd (drop end held) → end ≡ 0 →
+    new ≡ long.items ++ held → late ≡ 0 → HandsOn long len held (held_in new late held)
 kept_long long held new len end late whole full ends none is at =
     Long full (no_end held len end whole full ends none)
-    (inl (ap (λ r. r ++ take late held) is ∙ ap (λ n. (long ++ held) ++ take n held) at ∙ append-nil (long ++ held)
-    ∙ ap (λ xs. long ++ xs) (sym (whole_block held len whole full))))
-
-pub all_handed_on : (long held rest new : List ℕ) (len end late : ℕ) → length held ≡ 4096 → len ≡ 4096 → HasNoEnd (drop end held) →
-    end ≡ 0 → rest ≡ [] → late ≡ 0 → HandsOn long len held (held_in rest late new)
-all_handed_on long held rest new len end late whole full ends none empty at =
-    Long full (no_end held len end whole full ends none) (inr (ap (λ r. r ++ take late new) empty ∙ ap (λ n. take n new) at))
+    (inl (ap (λ r. r ++ take late held) is ∙ ap (λ n. (long.items ++ held) ++ take n held) at ∙ append-nil (long.items ++ held)
+    ∙ ap (λ xs. long.items ++ xs) (sym (whole_block held len whole full))))
 
 -- what is held behind it
 pub held_behind : (long old new bytes : List ℕ) (len late : ℕ) → take late new ≡ take len old ++ bytes →

@@ -86,7 +86,7 @@ impl<P: Print> Stream<P> {
     fn make_room(&mut self) -> Result<(), OutFailed>
         requires full { self.old.len ≡ 4096 }
         ensures room { OnOk result (self.new.len < 4096) }
-        ensures kept { OnOk result (HandsOn self.old.long.items self.old.len self.old.held
+        ensures kept { OnOk result (HandsOn self.old.long self.old.len self.old.held
             (held_in self.new.long.items self.new.len self.new.held) × (self.new.failed ≡ self.old.failed)) }
         ensures failed { OnErr result (self.new.failed ≡ true) }
     {
@@ -107,7 +107,7 @@ impl<P: Print> Stream<P> {
     // Where a block is full, hands whole lines on as `make_room` does.
     fn make_room_in_full(&mut self) -> Result<(), OutFailed>
         ensures room { OnOk result (self.new.len < 4096) }
-        ensures kept { OnOk result (HandsOn self.old.long.items self.old.len self.old.held
+        ensures kept { OnOk result (HandsOn self.old.long self.old.len self.old.held
             (held_in self.new.long.items self.new.len self.new.held) × (self.new.failed ≡ self.old.failed)) }
         ensures failed { OnErr result (self.new.failed ≡ true) }
     {
@@ -136,9 +136,9 @@ impl<P: Print> Out for Stream<P> {
     fn write(&mut self, bytes: &[u8]) -> Result<usize, OutFailed>
         ensures some { IfOk result (λ n. (bytes.now ≡ []) ⊎ (0 < n)) }
         ensures part { IfOk result (λ n. n ≤ length bytes.now) }
-        // Taken bytes stand behind those still held: a block with room keeps all, a full one only what follows its whole
-        // lines, one without a line's end all or nothing.
-        ensures taken { IfOk result (λ n. (still : List ℕ) × HandsOn self.old.long.items self.old.len self.old.held still
+        // The taken bytes are held behind a block with room, behind what follows the lines of a full one, or behind a
+        // longer line, or alone for want of room.
+        ensures taken { IfOk result (λ n. (still : List ℕ) × HandsOn self.old.long self.old.len self.old.held still
             × (held_in self.new.long.items self.new.len self.new.held ≡ still ++ take n bytes.now) × (self.new.failed ≡ self.old.failed)) }
         ensures failed { OnErr result (self.new.failed ≡ true) }
     {

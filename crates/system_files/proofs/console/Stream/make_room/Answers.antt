@@ -9,7 +9,7 @@ returns-then-end-gt0-clause-kept g c =
     let ok = c.in_ok-hand_on.ensures.ok in
     let whole : length a.held ≡ 4096 = search rules in
     let end = c.lines_in-end.result in (
-      lines_handed_on a.long.items a.held c.copy_within.new.self c.hand_on.new.self.long.items a.len end _ whole c.requires.full
+      lines_handed_on a.long a.held c.copy_within.new.self c.hand_on.new.self.long.items a.len end _ whole c.requires.full
           (subst (λ n. end ≤ n) whole c.lines_in-end.ensures.few) c.lines_in-end.ensures.lines c.lines_in-end.ensures.rest c.if-end-gt0.true
           (c.copy_within.ensures.after ∙ ap (λ h. copy_within h end 4096 0) c.hand_on.ensures.held.0) refl ok.1,
       ok.0,
@@ -21,4 +21,4 @@ returns-clause-kept g c =
     let whole : length a.held ≡ 4096 = search rules in
     let none : c.lines_in-end.result ≡ 0 = omega (arith, c.if-end-gt0.false) in
     let more : c.extend_from_slice.new.self.items ≡ a.long.items ++ a.held = search rules in
-    (kept_long a.long.items a.held _ a.len _ 0 whole c.requires.full c.lines_in-end.ensures.rest none more refl, refl)
+    (kept_long a.long a.held _ a.len _ 0 whole c.requires.full c.lines_in-end.ensures.rest none more refl, refl)
