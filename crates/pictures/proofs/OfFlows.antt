@@ -20,4 +20,3 @@ pub mod Shaped
 pub mod Standing
 pub mod Taken
 pub mod ChosenRows
-pub mod Ended

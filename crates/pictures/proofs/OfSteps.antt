@@ -5,3 +5,4 @@ pub mod Contained
 pub mod Standings
 pub mod Ordered
 pub mod Whole
+pub mod KeptEntries

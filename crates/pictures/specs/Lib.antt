@@ -4,3 +4,4 @@ pub mod Faults
 pub mod Steps
 pub mod Flows
 pub mod Sizes
+pub mod Streamed

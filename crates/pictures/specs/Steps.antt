@@ -7,3 +7,6 @@ pub mod Columns
 pub mod Bands
 pub mod Picture
 pub mod Standing
+pub mod Kept
+pub mod KeptLaws
+pub mod Streamed

@@ -21,8 +21,8 @@ pub use flows::spans::CellSpan;
 pub use flows::streaming::stream_flow;
 pub use sizes::picture::write_sweep_picture;
 pub use sizes::picture_laws::each_row_is_told;
-pub use steps::picture::write_excerpt;
 pub use steps::picture_laws::{
     a_fault_is_drawn, each_processor_has_a_box, each_row_has_its_name, each_statement_has_a_column,
     rows_are_of_those_that_act, what_is_left_out_is_told,
 };
+pub use steps::streaming::stream_excerpt;

@@ -2,9 +2,12 @@
 pub(crate) mod bands;
 pub(crate) mod columns;
 pub(crate) mod drawn;
+pub(crate) mod excerpt;
 pub(crate) mod foot;
 pub(crate) mod frame;
 pub(crate) mod head;
+pub(crate) mod keeper;
+pub(crate) mod kept_run;
 pub(crate) mod key;
 pub(crate) mod marks;
 pub(crate) mod measure;
@@ -13,3 +16,4 @@ pub(crate) mod picture;
 pub(crate) mod picture_laws;
 pub(crate) mod program_lines;
 pub(crate) mod rows;
+pub(crate) mod streaming;

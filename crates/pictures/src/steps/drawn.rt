@@ -1,16 +1,17 @@
 //! Which statements of a run are drawn.
 
-ghost use Rattle.std.specs.Prelude.{◌≡◌, ◌≤◌, ◌+◌, ◌-◌, length, map, min};
+ghost use Rattle.std.specs.Prelude.{◌≡◌, ◌≤◌, ◌+◌, ◌-◌, ◌^◌, length, map, min};
 ghost use Rattle.journal.specs.Entries.{entry_is};
 ghost use Rattle.pictures.specs.Steps.Drawn as spec;
 ghost use Rattle.pictures.specs.Steps.Measures as measures;
 
 use journal::Entry;
 
-// No more statements are drawn: of more the first, and the last.
-const MOST_DRAWN: usize = 112;
+/// No more statements are drawn: of more the first, and the last.
+pub(crate) const MOST_DRAWN: usize = 112;
 
-const FIRST_DRAWN: usize = 96;
+/// So many of the first then.
+pub(crate) const FIRST_DRAWN: usize = 96;
 
 const LAST_DRAWN: usize = 16;
 
@@ -30,7 +31,6 @@ pub(crate) fn first_drawn(entries: &[Entry]) -> &[Entry]
 pub(crate) fn last_drawn(entries: &[Entry]) -> &[Entry]
     ensures last { map entry_is result.now ≡ spec.last_drawn (map entry_is entries.now) }
     ensures few { length result.now ≤ 16 }
-    ensures within { length result.now + spec.last_number (map entry_is entries.now) ≤ length entries.now + 1 }
 {
     if entries.len() > MOST_DRAWN {
         entries.split_at(entries.len() - LAST_DRAWN).1
@@ -39,11 +39,12 @@ pub(crate) fn last_drawn(entries: &[Entry]) -> &[Entry]
     }
 }
 
-/// The number of the first of the last ones.
-pub(crate) fn last_number(entries: &[Entry]) -> usize
-    ensures { result ≡ spec.last_number (map entry_is entries.now) }
+/// The number of the first of the last ones, of so many.
+pub(crate) fn last_number(statements: u32) -> usize
+    ensures number { result ≡ (statements - 16) + 1 }
+    ensures small { result ≤ 2 ^ 32 }
 {
-    entries.len().saturating_sub(LAST_DRAWN) + 1
+    (statements as usize).saturating_sub(LAST_DRAWN) + 1
 }
 
 /// How many statements are drawn, of so many.

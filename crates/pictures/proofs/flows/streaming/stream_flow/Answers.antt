@@ -20,7 +20,8 @@ returns-in-Err-clause-written g c =
     let only = c.args.only.now in
     let shows = ap (λ l. picture l text only (drawing_is c.in-Ok.drawing)) c.layout-2.ensures
     ∙ c.in-Ok.ensures.drawn c.args.program.now.layout text only in (
-      c.in-Ok.outcome,
+      c.in-Ok.ending,
+      c.in-Ok.ensures.ends,
       c.in-Ok.ensures.outcome,
       subst (λ t. StopsIn (g.W.Out.state c.args.out.now) (g.W.Out.state c.write_flow.new.out) t) (λ i. picture_text (shows i))
           c.in-Err.ensures.written,
