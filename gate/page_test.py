@@ -325,7 +325,8 @@ def rows_wrong():
             wrong += [f"{name}, {size}: {it}" for it in places_differ(end, size, False)]
     seen = browsed(written(PAGES / "many_rows.pram", None, "--html", "--from", "9"), [], *SIZES["wide"])
     told = "This page has no statement of the run, which has 2 statements."
-    return wrong + ([] if seen["cut"].startswith(told) else [f"no statement: {seen['cut']}"])
+    folds = ["a has 2,048 cells; no row is shown. "]
+    return wrong + ([] if seen["cut"] == told and seen["end"]["folds"] == folds else [f"no statement: {seen['cut']}, {seen['end']['folds']}"])
 
 
 def main():

@@ -104,7 +104,7 @@ read_tokens d text shallow is =
     (ap (json.value max_depth) (is ∙ sym (append-nil (tree.json_tokens (outline d))))
     ∙ value-json_tokens (outline d) max_depth [] (omega (arith, deep, shallow)))
 
-read_compact : (d : Data) → HasIntegers d → depth d ≤ 127 → read (compact_text d) ≡ of_json (outline d)
+pub read_compact : (d : Data) → HasIntegers d → depth d ≤ 127 → read (compact_text d) ≡ of_json (outline d)
 read_compact d h shallow =
     read_tokens d (compact_text d) shallow (ap tokens (sym (print-outline d))
     ∙ tokens-print (tree.json_tokens (outline d)) (ArePrintable-json_tokens (outline d) (numbers d h)))

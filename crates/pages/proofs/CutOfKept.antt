@@ -1,12 +1,12 @@
 -- The cut of a text is found in what is kept of it.
 use Rattle.std.proofs.Common.{◌≡◌, ◌<◌, ◌≤◌, ◌+◌, ◌-◌, ◌∙◌, List, ℕ, zero, suc, ap, arith, drop, get_or, inl, inr, length, refl, subst, sym}
 use Rattle.std.proofs.Common.{take}
-use Rattle.std.proofs.lemmas.Bool.{cases_lt}
+use Rattle.std.proofs.lemmas.Bool.{cases_lt, le-leb, le-ltb, lt-leb, lt-ltb, true≢false}
 use Rattle.std.proofs.lemmas.List.{drop-drop, get_or-drop, get_or-take, length-append, length-drop, length-take-le, take-append-drop}
 use Rattle.std.proofs.lemmas.List.{take-take, take_all}
-use Rattle.std.specs.Prelude.{◌⊎◌}
-use Rattle.pages.specs.Cut.{AreFirst, AreLast, IsBack, IsCut, IsFront, IsLastLine, half, room}
-use Rattle.pages.specs.Facts.{BeginsLine, embedded}
+use Rattle.std.specs.Prelude.{◌⊎◌, Bool, None, Option, Some, false, if◌then◌else◌, nat_lt, true}
+use Rattle.pages.specs.Cut.{AreFirst, AreLast, IsBack, IsCut, IsFront, IsLastLine, gap_end, half, room}
+use Rattle.pages.specs.Facts.{BeginsLine, embedded, line_count}
 use Rattle.pages.specs.Kept.{FitsBeside, Holds, IsLongest}
 use Rattle.pages.specs.declared.lines.KeptLines.{KeptLines}
 use Rattle.pages.proofs.Embedding.{embedded-wide}
@@ -129,16 +129,16 @@ module _ (text : List ℕ) (k : ℕ) (inside : k ≤ length text) (far : room < 
       few (inr alone) = inr (last_line at alone)
 
 -- of all bytes, or the last ones
-pub back_held : (k : KeptLines) (text : List ℕ) (at : ℕ) → Holds k text → IsBack k.last.items at → IsBack text (k.before + at)
+pub back_held : (k : KeptLines) (text : List ℕ) (at : ℕ) → (h : Holds k text) → IsBack k.last.items at → IsBack text (h.offset + at)
 back_held k text at h is = by h.enough where
-  last : IsBack (drop k.before text) at
+  last : IsBack (drop h.offset text) at
   last = subst (λ l. IsBack l at) h.last is
 
-  by : (k.before ≡ 0) ⊎ (room < length k.last.items) → IsBack text (k.before + at)
+  by : (h.offset ≡ 0) ⊎ (room < length k.last.items) → IsBack text (h.offset + at)
   by (inl none) =
-      let there : at ≡ k.before + at = omega (arith, none) in
+      let there : at ≡ h.offset + at = omega (arith, none) in
       subst (IsBack text) there (subst (λ n. IsBack (drop n text) at) none last)
-  by (inr far) = back_of_rest text k.before h.within (subst (λ l. room < length l) h.last far) at last
+  by (inr far) = back_of_rest text h.offset h.within (subst (λ l. room < length l) h.last far) at last
 
 -- ---- the first lines
 
@@ -192,18 +192,74 @@ front_held text first back most beside front is inside sized below within all h 
 -- ---- both
 
 -- the last lines are those of the text
-pub last_is : (k : KeptLines) (text : List ℕ) (at : ℕ) → Holds k text → drop at k.last.items ≡ drop (k.before + at) text
-last_is k text at h = ap (drop at) h.last ∙ drop-drop at k.before text
+pub last_is : (k : KeptLines) (text : List ℕ) (at : ℕ) → (h : Holds k text) → drop at k.last.items ≡ drop (h.offset + at) text
+last_is k text at h = ap (drop at) h.last ∙ drop-drop at h.offset text
+
+-- no more of the first ones are kept than have room
+pub first_long : (k : KeptLines) (text : List ℕ) → Holds k text → length k.first.items ≤ room
+first_long k text h =
+    let e : length k.first.items ≡ length (take room text) = ap length h.first in
+    let s = length_take_most room text in
+    omega (arith, e, s)
+
+-- where some are left out there are, also where their number isn't known
+pub gap_is : (k : KeptLines) (text : List ℕ) (front at : ℕ) → (h : Holds k text) → front ≤ length k.first.items →
+    nat_lt front (k.before + at) ≡ nat_lt front (h.offset + at)
+gap_is k text front at h le = by h.known where
+  by : (k.before ≡ h.offset) ⊎ ((room < k.before) × (k.before ≤ h.offset)) → nat_lt front (k.before + at) ≡ nat_lt front (h.offset + at)
+  by (inl same) = ap (λ n. nat_lt front (n + at)) same
+  by (inr far) =
+      let f = far.0 in let u = far.1 in let l = first_long k text h in
+      lt-ltb front (k.before + at) (omega (arith, f, l, le)) ∙ sym (lt-ltb front (h.offset + at) (omega (arith, f, u, l, le)))
+
+-- as many of the first ones as there are before a place of the last
+most_before : (k : KeptLines) (text : List ℕ) (at most : ℕ) → (h : Holds k text) →
+    ((n : ℕ) → n ≤ k.before + at → n ≤ length k.first.items → n ≤ most) → (n : ℕ) → n ≤ h.offset + at → n ≤ length k.first.items →
+    n ≤ most
+most_before k text at most h all n below inside = by h.known where
+  by : (k.before ≡ h.offset) ⊎ ((room < k.before) × (k.before ≤ h.offset)) → n ≤ most
+  by (inl same) = all n (omega (arith, same, below)) inside
+  by (inr far) = let f = far.0 in let l = first_long k text h in all n (omega (arith, f, l, inside)) inside
+
+before_known : (k : KeptLines) (text : List ℕ) → (h : Holds k text) → k.before ≤ h.offset
+before_known k text h = by h.known where
+  by : (k.before ≡ h.offset) ⊎ ((room < k.before) × (k.before ≤ h.offset)) → k.before ≤ h.offset
+  by (inl same) = omega (arith, same)
+  by (inr far) = far.1
 
 pub cut_held : (k : KeptLines) (text first last : List ℕ) (at size most front : ℕ) → first ≡ k.first.items → last ≡ k.last.items →
     IsBack last at → size ≡ length (embedded (drop at last)) → most ≤ k.before + at → most ≤ length k.first.items →
-    ((n : ℕ) → n ≤ k.before + at → n ≤ length k.first.items → n ≤ most) → IsLongest first most size front → Holds k text →
-    IsCut text front (k.before + at)
+    ((n : ℕ) → n ≤ k.before + at → n ≤ length k.first.items → n ≤ most) → IsLongest first most size front → (h : Holds k text) →
+    IsCut text front (h.offset + at)
 cut_held k text first last at size most front first_is same back sized below within all longest h =
+    let known = before_known k text h in
     let is = back_held k text at h (subst (λ l. IsBack l at) same back) in
     record {
       last = is;
-      first = front_held text k.first.items (k.before + at) most size front h.first is.within
-          (sized ∙ ap (λ l. length (embedded (drop at l))) same ∙ ap (λ l. length (embedded l)) (last_is k text at h)) below within all
+      first = front_held text k.first.items (h.offset + at) most size front h.first is.within
+          (sized ∙ ap (λ l. length (embedded (drop at l))) same ∙ ap (λ l. length (embedded l)) (last_is k text at h)) (omega (arith, below, known)) within
+          (most_before k text at most h all)
           (subst (λ l. IsLongest l most size front) first_is longest);
     }
+
+-- ---- what is left out
+
+abbrev end_by : (text : List ℕ) → (back last : ℕ) → Bool → Option ℕ
+end_by text back last none = if none then None else Some (last - (line_count (drop back text) - 1))
+
+pub gap_none : (k : KeptLines) (text : List ℕ) (front at last : ℕ) → (h : Holds k text) → front ≤ length k.first.items →
+    nat_lt front (k.before + at) ≡ false → None ≡ gap_end text front (h.offset + at) last
+gap_none k text front at last h le is = by (cases_lt front (h.offset + at)) where
+  by : (front < h.offset + at) ⊎ (h.offset + at ≤ front) → None ≡ gap_end text front (h.offset + at) last
+  by (inl lt) = absurd (true≢false (sym (lt-ltb front (h.offset + at) lt) ∙ sym (gap_is k text front at h le) ∙ is))
+  by (inr over) = sym (ap (end_by text (h.offset + at) last) (le-leb (h.offset + at) front over))
+
+pub gap_some : (k : KeptLines) (text lines : List ℕ) (front at last n : ℕ) → (h : Holds k text) → front ≤ length k.first.items →
+    nat_lt front (k.before + at) ≡ true → lines ≡ drop at k.last.items → n ≡ last - (line_count lines - 1) →
+    Some n ≡ gap_end text front (h.offset + at) last
+gap_some k text lines front at last n h le is same number = by (cases_lt front (h.offset + at)) where
+  by : (front < h.offset + at) ⊎ (h.offset + at ≤ front) → Some n ≡ gap_end text front (h.offset + at) last
+  by (inl lt) =
+      ap Some (number ∙ ap (λ l. last - (line_count l - 1)) (same ∙ last_is k text at h))
+      ∙ sym (ap (end_by text (h.offset + at) last) (lt-leb (h.offset + at) front lt))
+  by (inr over) = absurd (true≢false (sym is ∙ gap_is k text front at h le ∙ le-ltb front (h.offset + at) over))

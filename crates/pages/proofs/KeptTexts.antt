@@ -1,6 +1,6 @@
 -- What is kept of lines as they come, and of lines that are put before them.
 use Rattle.std.proofs.Common.{◌≡◌, ◌<◌, ◌≤◌, ◌+◌, ◌-◌, ◌++◌, ◌∷◌, ◌∙◌, [], List, ℕ, zero, suc, ap, arith, drop, inl, inr, length}
-use Rattle.std.proofs.Common.{length-append, min, subst, sym, take}
+use Rattle.std.proofs.Common.{length-append, min, refl, subst, sym, take}
 use Rattle.std.proofs.lemmas.Bool.{cases_lt}
 use Rattle.std.proofs.lemmas.List.{drop-append-le, drop-drop, length-drop, length-take-le, take-take, take_all, take_min}
 use Rattle.std.specs.Prelude.{◌⊎◌}
@@ -51,20 +51,37 @@ take_within xs ys =
 
 -- ---- all that is kept
 
+pub none_held : (k : KeptLines) → k.first.items ≡ [] → k.last.items ≡ [] → k.before ≡ 0 → k.count ≡ 0 → Holds k []
+none_held k first last before count = record {
+  first = first ∙ sym (take_all room [] (omega arith));
+  offset = 0;
+  last = last;
+  within = omega arith;
+  enough = inl refl;
+  known = inl before;
+  count = count;
+}
+
 -- bytes were put behind
 pub put_held : (k n : KeptLines) (text bytes : List ℕ) → n.first.items ≡ take room (text ++ bytes) → n.last.items ≡ k.last.items ++ bytes →
     n.before ≡ k.before → n.count ≡ k.count + line_count bytes → Holds k text → Holds n (text ++ bytes)
 put_held k n text bytes first last before count h = record {
   first = first;
-  last = last ∙ ap (λ l. l ++ bytes) h.last ∙ sym (drop-append-le k.before text bytes h.within)
-      ∙ ap (λ m. drop m (text ++ bytes)) (sym before);
-  within = let w : k.before ≤ length text = h.within in let l = length-append text bytes in omega (arith, w, l, before);
+  offset = h.offset;
+  last = last ∙ ap (λ l. l ++ bytes) h.last ∙ sym (drop-append-le h.offset text bytes h.within);
+  within = let w : h.offset ≤ length text = h.within in let l = length-append text bytes in omega (arith, w, l);
   enough = more h.enough;
+  known = place h.known;
   count = let c : k.count ≡ line_count text = h.count in let l = line_count-append text bytes in omega (arith, c, l, count);
 }
   where
-    more : (k.before ≡ 0) ⊎ (room < length k.last.items) → (n.before ≡ 0) ⊎ (room < length n.last.items)
-    more (inl none) = inl (before ∙ none)
+    place : (k.before ≡ h.offset) ⊎ ((room < k.before) × (k.before ≤ h.offset)) →
+        (n.before ≡ h.offset) ⊎ ((room < n.before) × (n.before ≤ h.offset))
+    place (inl same) = inl (before ∙ same)
+    place (inr far) = let f = far.0 in let u = far.1 in inr (omega (arith, f, before), omega (arith, u, before))
+
+    more : (h.offset ≡ 0) ⊎ (room < length k.last.items) → (h.offset ≡ 0) ⊎ (room < length n.last.items)
+    more (inl none) = inl none
     more (inr far) =
         let l : length n.last.items ≡ length k.last.items + length bytes = ap length last ∙ length-append k.last.items bytes in
         inr (omega (arith, far, l))
@@ -73,20 +90,30 @@ put_held k n text bytes first last before count h = record {
 pub trimmed_held : (k n : KeptLines) (text : List ℕ) (over : ℕ) → over + (room + 1) ≡ length k.last.items → n.first.items ≡ k.first.items →
     n.last.items ≡ drop over k.last.items → n.before ≡ k.before + over → n.count ≡ k.count → Holds k text → Holds n text
 trimmed_held k n text over fits first last before count h =
-    let sized : length k.last.items ≡ length text - k.before = ap length h.last ∙ length-drop k.before text in
-    let w : k.before ≤ length text = h.within in
+    let sized : length k.last.items ≡ length text - h.offset = ap length h.last ∙ length-drop h.offset text in
+    let w : h.offset ≤ length text = h.within in
     record {
       first = first ∙ h.first;
-      last = last ∙ ap (drop over) h.last ∙ drop-drop over k.before text ∙ ap (λ m. drop m text) (sym before);
-      within = omega (arith, w, sized, fits, before);
+      offset = h.offset + over;
+      last = last ∙ ap (drop over) h.last ∙ drop-drop over h.offset text;
+      within = omega (arith, w, sized, fits);
       enough = let l : length n.last.items ≡ length k.last.items - over = ap length last ∙ length-drop over k.last.items in
           inr (omega (arith, l, fits));
+      known = place h.known;
       count = count ∙ h.count;
     }
+  where
+    place : (k.before ≡ h.offset) ⊎ ((room < k.before) × (k.before ≤ h.offset)) →
+        (n.before ≡ h.offset + over) ⊎ ((room < n.before) × (n.before ≤ h.offset + over))
+    place (inl same) = inl (omega (arith, before, same))
+    place (inr far) = let f = far.0 in let u = far.1 in inr (omega (arith, f, before), omega (arith, u, before))
 
 -- all bytes are kept
 all_kept : (k : KeptLines) (text : List ℕ) → k.before ≡ 0 → Holds k text → k.last.items ≡ text
-all_kept k text none h = h.last ∙ ap (λ m. drop m text) none
+all_kept k text none h = h.last ∙ ap (λ m. drop m text) (place h.known) where
+  place : (k.before ≡ h.offset) ⊎ ((room < k.before) × (k.before ≤ h.offset)) → h.offset ≡ 0
+  place (inl same) = omega (arith, same, none)
+  place (inr far) = let f = far.0 in absurd (omega (arith, f, none))
 
 pub all_behind_held : (k n : KeptLines) (head text : List ℕ) → k.before ≡ 0 → Holds n (head ++ k.last.items) → Holds k text → Holds n
     (head ++ text)
@@ -98,12 +125,21 @@ pub some_behind_held : (k n : KeptLines) (head text : List ℕ) → n.first.item
     Holds n (head ++ text)
 some_behind_held k n head text first last before count some h = record {
   first = first ∙ ap (λ l. take room (head ++ l)) h.first ∙ take_within head text;
-  last = last ∙ h.last ∙ sym (drop_past head text n.before k.before (omega (arith, before)));
-  within = let w : k.before ≤ length text = h.within in let l = length-append head text in omega (arith, w, l, before);
-  enough = far h.enough;
+  offset = h.offset + length head;
+  last = last ∙ h.last ∙ sym (drop_past head text (h.offset + length head) h.offset (omega arith));
+  within = let w : h.offset ≤ length text = h.within in let l = length-append head text in omega (arith, w, l);
+  enough = far h.known h.enough;
+  known = place h.known;
   count = let c : k.count ≡ line_count text = h.count in let l = line_count-append head text in omega (arith, c, l, count);
 }
   where
-    far : (k.before ≡ 0) ⊎ (room < length k.last.items) → (n.before ≡ 0) ⊎ (room < length n.last.items)
-    far (inl none) = absurd (omega (arith, none, some))
-    far (inr more) = let l : length n.last.items ≡ length k.last.items = ap length last in inr (omega (arith, more, l))
+    place : (k.before ≡ h.offset) ⊎ ((room < k.before) × (k.before ≤ h.offset)) →
+        (n.before ≡ h.offset + length head) ⊎ ((room < n.before) × (n.before ≤ h.offset + length head))
+    place (inl same) = inl (omega (arith, before, same))
+    place (inr far) = let f = far.0 in let u = far.1 in inr (omega (arith, f, before), omega (arith, u, before))
+
+    far : (k.before ≡ h.offset) ⊎ ((room < k.before) × (k.before ≤ h.offset)) → (h.offset ≡ 0) ⊎ (room < length k.last.items) →
+        (h.offset + length head ≡ 0) ⊎ (room < length n.last.items)
+    far (inl same) (inl none) = absurd (omega (arith, same, none, some))
+    far (inr past) (inl none) = let f = past.0 in let u = past.1 in absurd (omega (arith, f, u, none))
+    far at (inr more) = let l : length n.last.items ≡ length k.last.items = ap length last in inr (omega (arith, more, l))

@@ -7,7 +7,7 @@ use Rattle.pages.specs.Facts.{embedded, line_count, state_room}
 use Rattle.pages.specs.Kept.{Holds}
 use Rattle.pages.specs.Page.{page, page_of}
 use Rattle.pages.specs.declared.lines.KeptLines.{KeptLines}
-use Rattle.pages.proofs.CutOfKept.{last_is, length_take_most}
+use Rattle.pages.proofs.CutOfKept.{gap_is, last_is, length_take_most}
 use Rattle.pages.proofs.LineEnds.{line_count-append}
 
 -- the first ones
@@ -31,13 +31,13 @@ shown_if state gap = if gap && nat_le (length (embedded state)) state_room then 
 pub page_held : (k : KeptLines) (text state first last shown : List ℕ) (front at left : ℕ) (gap : Bool) → front ≤ length k.first.items →
     first ≡ take front k.first.items → last ≡ drop at k.last.items → left ≡ (k.count - line_count first) - line_count last →
     gap ≡ nat_lt front (k.before + at) →
-    shown ≡ (if gap && nat_le (length (embedded state)) state_room then state else []) → Holds k text →
-    page_of first shown last left ≡ page text state front (k.before + at)
+    shown ≡ (if gap && nat_le (length (embedded state)) state_room then state else []) → (h : Holds k text) →
+    page_of first shown last left ≡ page text state front (h.offset + at)
 page_held k text state first last shown front at left gap le f l n g s h =
-    let back = k.before + at in
+    let back = h.offset + at in
     let front_is : first ≡ take front text = f ∙ first_is k text front h le in
     let back_is : last ≡ drop back text = l ∙ last_is k text at h in
-    let state_is : shown ≡ shown_if state (nat_lt front back) = s ∙ ap (shown_if state) g in
+    let state_is : shown ≡ shown_if state (nat_lt front back) = s ∙ ap (shown_if state) (g ∙ gap_is k text front at h le) in
     let counts : line_count (drop front text) ≡ line_count text - line_count (take front text) = rest_is text front in
     let left_is : left ≡ line_count (drop front text) - line_count (drop back text) =
     n ∙ ap (λ c. (c - line_count first) - line_count last) h.count

@@ -35,7 +35,7 @@ drawing_size : length drawing ≤ 8000
 drawing_size =
     let whole = length-append PLACING DRAWING in
     let a : length PLACING ≡ 1983 = refl in
-    let b : length DRAWING ≡ 3988 = refl in
+    let b : length DRAWING ≡ 4045 = refl in
     omega (arith, whole, a, b)
 
 telling_size : length telling ≤ 8000
@@ -49,7 +49,7 @@ stepping_size : length stepping ≤ 8000
 stepping_size =
     let whole = length-append STEPPING GUIDING in
     let a : length STEPPING ≡ 2383 = refl in
-    let b : length GUIDING ≡ 3126 = refl in
+    let b : length GUIDING ≡ 3141 = refl in
     omega (arith, whole, a, b)
 
 front_size : length front ≤ 11000

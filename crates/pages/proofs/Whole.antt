@@ -13,6 +13,7 @@ use Rattle.pram_check.specs.Checked.{Checked}
 use Rattle.write_rules.specs.Verdict.{Verdict, verdict_of}
 use Rattle.write_rules.specs.declared.outcome.Outcome.{Outcome}
 use Rattle.journal.specs.Entries.{Entry}
+use Rattle.journal.specs.declared.telling_in_time.Ending.{Ending}
 use Rattle.pages.specs.Kept.{Holds}
 use Rattle.pages.specs.Opening.{opening_facts}
 use Rattle.journal.specs.Replay.{with_cells, with_printed, with_variables}
@@ -129,15 +130,15 @@ between_so input es behind gap state same is = subst (λ b. IsStateBehind input 
 
 pub is_page : (file text : List ℕ) (program : Checked) (input : List ℤ) (outcome : Outcome) (es : List Entry) (first last : ℕ) (p : Page)
     (state : List ℕ) → state ≡ string_bytes p.state → (h : IsPaged file text program input outcome es first last p) →
-    IsPage file text program input outcome es first last (page h.keeps.facts state p.kept.front (p.lines.before + p.kept.back))
+    IsPage file text program input outcome es first last (page h.keeps.facts state p.kept.front (h.keeps.holds.offset + p.kept.back))
 is_page file text program input outcome es first last p state same h = record {
   facts = h.keeps.facts;
   are = h.keeps.are;
   front = p.kept.front;
-  back = p.lines.before + p.kept.back;
+  back = h.keeps.holds.offset + p.kept.back;
   cut = h.cut;
   state = state;
-  between = subst (IsStateBehind input es (gap_end h.keeps.facts p.kept.front (p.lines.before + p.kept.back) (min last (length es))))
+  between = subst (IsStateBehind input es (gap_end h.keeps.facts p.kept.front (h.keeps.holds.offset + p.kept.back) (min last (length es))))
       (sym same) h.between;
   is = refl;
 }
@@ -148,12 +149,12 @@ pub fits_in : (n cells : ℕ) (layout of : List SharedEntry) → cells ≡ total
 fits_in n cells layout of sized same le =
     subst (λ l. n ≤ total_size l) same (subst (λ c. n ≤ c) sized le)
 
-abbrev IsNotLong : Result Outcome StreamFailure → Type 0
+abbrev IsNotLong : Result Ending StreamFailure → Type 0
 IsNotLong (Ok o) = Unit {0}
 IsNotLong (Err failure.InputTooLong) = ⊥
 IsNotLong (Err failure.OutOfMemory) = Unit {0}
 IsNotLong (Err failure.WriteFailed) = Unit {0}
 
-pub not_too_long : (r : Result Outcome StreamFailure) (n cells : ℕ) → IsNotLong r → n ≤ cells →
+pub not_too_long : (r : Result Ending StreamFailure) (n cells : ℕ) → IsNotLong r → n ≤ cells →
     (r ≡ Err failure.InputTooLong) ↔ (cells < n)
 not_too_long r n cells is le = ((λ e. absurd (subst IsNotLong e is)), (λ lt. absurd (omega (arith, le, lt))))

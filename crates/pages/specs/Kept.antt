@@ -4,13 +4,15 @@ use Rattle.pages.specs.Cut.{room}
 use Rattle.pages.specs.Facts.{BeginsLine, embedded, line_count}
 use Rattle.pages.specs.declared.lines.KeptLines.{KeptLines}
 
--- Of this text the first bytes are kept, as many as a page has room for; those behind some place, which are more than that, or all; and how
--- many lines end in it.
+-- Of this text the first bytes are kept, as many as a page has room for; those behind some place, which are more than that, or all; where
+-- that place is, or a number up to there of more bytes than a page has room for; and how many lines end in it.
 pub record Holds (k : KeptLines) (text : List ℕ) : Type 0 where
   pub first : k.first.items ≡ take room text
-  pub last : k.last.items ≡ drop k.before text
-  pub within : k.before ≤ length text
-  pub enough : (k.before ≡ 0) ⊎ (room < length k.last.items)
+  pub offset : ℕ
+  pub last : k.last.items ≡ drop offset text
+  pub within : offset ≤ length text
+  pub enough : (offset ≡ 0) ⊎ (room < length k.last.items)
+  pub known : (k.before ≡ offset) ⊎ ((room < k.before) × (k.before ≤ offset))
   pub count : k.count ≡ line_count text
 
 -- whole lines that end within the first `most` bytes and have room beside so many others

@@ -20,8 +20,8 @@ pub record KeepsFacts (file text : List ℕ) (program : Checked) (input : List �
 pub record IsPaged (file text : List ℕ) (program : Checked) (input : List ℤ) (outcome : Outcome) (entries : List Entry) (first last : ℕ)
     (p : Page) : Type 0 where
   pub keeps : KeepsFacts file text program input outcome entries first last p.lines
-  pub cut : IsCut keeps.facts p.kept.front (p.lines.before + p.kept.back)
+  pub cut : IsCut keeps.facts p.kept.front (keeps.holds.offset + p.kept.back)
   pub front_within : p.kept.front ≤ length p.lines.first.items
   pub back_within : p.kept.back ≤ length p.lines.last.items
   pub between : IsStateBehind input entries
-      (gap_end keeps.facts p.kept.front (p.lines.before + p.kept.back) (min last (length entries))) (string_bytes p.state)
+      (gap_end keeps.facts p.kept.front (keeps.holds.offset + p.kept.back) (min last (length entries))) (string_bytes p.state)

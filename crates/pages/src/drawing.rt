@@ -44,7 +44,7 @@ function show_line(s) {
 ";
 
 /// The boxes of the cells, and which rows of them are seen.
-pub(crate) const DRAWING: [u8; 3988] =
+pub(crate) const DRAWING: [u8; 4045] =
     *b"// Shared memory: a box for each cell. Of a large array only the rows that a statement touches, unless all are asked for.
 var ROW = 16, FOLDED = 64, MOST_ROWS = 64, boxes = Object.create(null);
 function widen(name, text) {
@@ -103,9 +103,10 @@ function show_row(entry, i, on) {
   if (entry.rows[i]) { entry.rows[i].hidden = !on; }
 }
 // Which rows are seen: of so many that are wanted, and the row of a fault, where it has one.
-function told_rows(entry, touched, seen, fault) {
+function told_rows(entry, s, touched, seen, fault) {
   var first = grouped(Math.min(entry.size, MOST_ROWS * ROW)) + (fault < MOST_ROWS ? '' : ' and the row of the fault');
   if (entry.all) { return 'the first ' + first + ' are shown. '; }
+  if (!s || s.gap) { return 'no row is shown. '; }
   if (touched === 0) { return 'this statement touches none. '; }
   return seen < touched ? 'of the ' + grouped(touched) + ' rows that this statement touches ' + seen + ' are shown. '
     : 'the rows that this statement touches are shown. ';
@@ -122,7 +123,7 @@ function show_rows(marks, s) {
       seen += on ? 1 : 0;
     }
     entry.told.textContent = c.name + ' has ' + grouped(entry.size) + ' cells; '
-      + told_rows(entry, Object.keys(touched).length, seen, fault);
+      + told_rows(entry, s, Object.keys(touched).length, seen, fault);
     entry.button.textContent = entry.all ? 'Only rows that are touched' : 'Show rows';
   });
 }

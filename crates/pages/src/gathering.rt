@@ -3,6 +3,7 @@
 ghost use Rattle.std.specs.Prelude.{IfOk};
 ghost use Rattle.write_rules.specs.Verdict.{verdict_of};
 ghost use Rattle.pram_meaning.specs.Outcome.{IsOutcome};
+ghost use Rattle.journal.specs.InTime.{EndsBy};
 ghost use Rattle.journal.specs.RunEntries.{run_entries};
 ghost use Rattle.pages.specs.Gathered.{IsGathered};
 
@@ -10,11 +11,10 @@ use crate::asked::Asked;
 use crate::gatherer::Gatherer;
 use crate::lines::KeptLines;
 use crate::state::RunState;
-use journal::tell_run;
+use journal::{Ending, tell_in_time};
 use observing::Watch;
 use pram_check::Program;
 use std::alloc::{AllocError, Global};
-use write_rules::Outcome;
 
 /// How many entries a run has, the state before the first one that is asked for, and the lines of those that are.
 #[derive(Drop)]
@@ -24,18 +24,20 @@ pub(crate) struct Gathered {
     pub(crate) lines: KeptLines,
 }
 
-/// Runs a program on an input that fits, for at most `bound` statements, and gathers what its page takes. Beside the run it takes the
-/// memory of one statement, of the state and of the lines that are kept. `AllocError`: memory was refused.
+/// Runs a program on an input that fits, for at most `bound` statements, as long as there is time, and gathers what its page takes. Beside
+/// the run it takes the memory of one statement, of the state and of the lines that are kept. `AllocError`: memory was refused.
 pub(crate) fn gather<V: Watch>(
     alloc: Global,
     asked: Asked<'_>,
     program: &Program,
     input: &[i64],
     bound: u32,
+    until: Option<u64>,
     watch: &mut V,
-) -> Result<(Outcome, Gathered), AllocError>
-    ensures outcome { IfOk result (λ r. IsOutcome program.now input.now bound (verdict_of r.0)) }
-    ensures gathered { IfOk result (λ r. IsGathered asked.entry input.now (run_entries program.now input.now bound) r.1) }
+) -> Result<(Ending, Gathered), AllocError>
+    ensures outcome { IfOk result (λ r. IsOutcome program.now input.now r.0.bound (verdict_of r.0.outcome)) }
+    ensures ends { IfOk result (λ r. EndsBy until bound r.0.bound) }
+    ensures gathered { IfOk result (λ r. IsGathered asked.entry input.now (run_entries program.now input.now r.0.bound) r.1) }
 {
     let state = RunState::before_all(alloc, input)?;
     let gatherer = Gatherer {
@@ -45,12 +47,12 @@ pub(crate) fn gather<V: Watch>(
         state,
         lines: KeptLines::new(alloc),
     };
-    let (gatherer, done) = tell_run(alloc, program, input, bound, gatherer, watch);
+    let (gatherer, done) = tell_in_time(alloc, program, input, bound, until, gatherer, watch);
     match done {
-        Ok(outcome) => {
+        Ok(ending) => {
             let (count, state, lines) = (gatherer.count, gatherer.state, gatherer.lines);
             Ok((
-                outcome,
+                ending,
                 Gathered {
                     count,
                     state,

@@ -20,7 +20,7 @@ pub(crate) struct KeptLines {
     pub(crate) first: Vec<u8>,
     /// The last ones, more than a page has room for, or all.
     pub(crate) last: Vec<u8>,
-    /// How many stand before the last ones.
+    /// How many stand before the last ones; or fewer, but more than a page has room for.
     pub(crate) before: usize,
     /// How many lines end.
     pub(crate) count: usize,
@@ -55,6 +55,7 @@ fn told_before(lines: &[u8], last: usize) -> usize
 
 impl KeptLines {
     /// No lines.
+    #[tactic(auto, using(crate::proofs::KeptTexts::none_held))]
     pub(crate) fn new(alloc: Global) -> KeptLines
         ensures { Holds result [] }
     {
@@ -169,7 +170,7 @@ impl KeptLines {
     pub(crate) fn kept(&self) -> Kept
         // All lines are kept where they have room, else the longest end within half the room, or the last line alone,
         // and the longest front beside it.
-        ensures cut { (text : List ℕ) → Holds self.now text → IsCut text result.front (self.now.before + result.back) }
+        ensures cut { (text : List ℕ) → (h : Holds self.now text) → IsCut text result.front (h.offset + result.back) }
         ensures front_within { result.front ≤ length self.now.first.items }
         ensures back_within { result.back ≤ length self.now.last.items }
     {
@@ -195,10 +196,11 @@ impl KeptLines {
 
     /// The number of the last statement that is left out, if some are; `last` is that of the last one of which facts tell, whose line
     /// stands before that of the outcome.
+    #[tactic(auto, using(crate::proofs::CutOfKept::gap_none, crate::proofs::CutOfKept::gap_some))]
     pub(crate) fn gap_end(&self, kept: Kept, last: usize) -> Option<usize>
         requires back_within { kept.back ≤ length self.now.last.items }
-        ensures { (text : List ℕ) → Holds self.now text →
-            result ≡ end_of_gap text kept.front (self.now.before + kept.back) last }
+        ensures { (text : List ℕ) → (h : Holds self.now text) → kept.front ≤ length self.now.first.items →
+            result ≡ end_of_gap text kept.front (h.offset + kept.back) last }
     {
         if !self.has_gap(kept) {
             return None;

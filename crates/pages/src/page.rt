@@ -65,8 +65,8 @@ pub(crate) fn write_page<W: Out>(
     requires back_within { kept.back ≤ length lines.now.last.items }
     // Exactly the defined page of the kept lines is written, with the state between them if it has at most 256,000
     // bytes there, or a beginning and then a failure.
-    ensures written { (text : List ℕ) → Holds lines.now text → Writes (W.Out.state out.old) (W.Out.state out.new)
-        (spec.page text state.now kept.front (lines.now.before + kept.back)) result }
+    ensures written { (text : List ℕ) → (h : Holds lines.now text) → Writes (W.Out.state out.old) (W.Out.state out.new)
+        (spec.page text state.now kept.front (h.offset + kept.back)) result }
 {
     let (first, _) = lines.first.as_slice().split_at(kept.front);
     let (_, last) = lines.last.as_slice().split_at(kept.back);

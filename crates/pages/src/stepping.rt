@@ -62,7 +62,7 @@ function follow() {
 ";
 
 /// What stands above the run, and the buttons and keys.
-pub(crate) const GUIDING: [u8; 3126] = *b"// What stands above the run, and the buttons and keys.
+pub(crate) const GUIDING: [u8; 3141] = *b"// What stands above the run, and the buttons and keys.
 function about() {
   var seen = [], i, from;
   for (i = 0; i < last; i = Math.max(i, from + 1)) {
@@ -72,7 +72,7 @@ function about() {
   var whole = grouped(total) + (total === 1 ? ' statement' : ' statements');
   var text = !gaps.length ? '' : seen.length ? 'This page has statements ' + seen.join(' and ') + ' of ' + grouped(total) + '.'
     : 'This page has no statement of the run, which has ' + whole + '.';
-  if (gaps.some(function (s) { return !state_of(s); })) { text += ' Behind what it leaves out, a value is a ? where it is not known.'; }
+  if (seen.length && gaps.some(function (s) { return !state_of(s); })) { text += ' Behind what it leaves out, a value is a ? where it is not known.'; }
   if (gaps.length && such('left_out')[0].left_out > 0) { text += ' The whole run has no room on one page.'; }
   if (!opening) { text += ' The program has no room on this page.'; }
   if (!outcome) { text += ' The outcome has no room on this page.'; }

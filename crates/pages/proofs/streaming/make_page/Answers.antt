@@ -8,17 +8,17 @@ use Rattle.pages.proofs.streaming.make_page.Goals as goal
 pub returns-clause-page : goal.returns-clause-page
 returns-clause-page g c =
     let input = c.args.input.now in
-    let es = run_entries c.args.program.now input c.args.bound in
-    let gathered = c.in_ok-outcome.ensures.gathered in
+    let es = run_entries c.args.program.now input c.in_ok-ending.ending.bound in
+    let gathered = c.in_ok-ending.ensures.gathered in
     let keeps = c.in_ok-lines.ensures.facts es gathered in
     let kept = c.kept-kept in
-    let gap = gap_end keeps.facts kept.result.front (c.in_ok-lines.lines.before + kept.result.back) in
+    let gap = gap_end keeps.facts kept.result.front (keeps.holds.offset + kept.result.back) in
     let told = c.min-told.ensures ∙ ap (min c.args.last) gathered.counted in
     record {
       keeps = keeps;
       cut = kept.ensures.cut keeps.facts keeps.holds;
       front_within = kept.ensures.front_within;
       back_within = kept.ensures.back_within;
-      between = between_so input es _ _ (string_bytes c.in_ok-state.state) (c.gap_end.ensures keeps.facts keeps.holds ∙ ap gap told)
+      between = between_so input es _ _ (string_bytes c.in_ok-state.state) (c.gap_end.ensures keeps.facts keeps.holds kept.ensures.front_within ∙ ap gap told)
           c.in_ok-state.ensures.line;
     }

@@ -9,7 +9,7 @@ returns-in-Ok-write_page-clause-fits g c = fits_in _ _ _ _ c.cells.ensures.total
 
 pub returns-in-Ok-write_page-clause-too_long : goal.returns-in-Ok-write_page-clause-too_long
 returns-in-Ok-write_page-clause-too_long g c =
-    not_too_long (Ok c.in-Ok.outcome) _ _ tt (fits_in _ _ _ _ c.cells.ensures.total c.layout.ensures c.if-input-cells.false)
+    not_too_long (Ok c.in-Ok.ending) _ _ tt (fits_in _ _ _ _ c.cells.ensures.total c.layout.ensures c.if-input-cells.false)
 
 pub returns-in-Err-clause-too_long : goal.returns-in-Err-clause-too_long
 returns-in-Err-clause-too_long g c =
@@ -20,7 +20,7 @@ returns-in-Ok-write_page-clause-written g c =
     let p = c.in-Ok.page in
     let h = c.in-Ok.ensures.page in
     let state = c.as_bytes.result.now in (
-      page h.keeps.facts state p.kept.front (p.lines.before + p.kept.back),
+      page h.keeps.facts state p.kept.front (h.keeps.holds.offset + p.kept.back),
       (c.in-Ok.ensures.outcome, is_page _ _ _ _ _ _ _ _ p state c.as_bytes.ensures.value h),
       c.in-Ok-write_page.ensures.written h.keeps.facts h.keeps.holds,
     )
@@ -30,8 +30,9 @@ returns-in-Err-clause-written g c =
     let p = c.in-Ok.page in
     let h = c.in-Ok.ensures.page in
     let state = c.as_bytes.result.now in (
-      c.in-Ok.outcome,
-      page h.keeps.facts state p.kept.front (p.lines.before + p.kept.back),
+      c.in-Ok.ending,
+      c.in-Ok.ensures.ends,
+      page h.keeps.facts state p.kept.front (h.keeps.holds.offset + p.kept.back),
       (c.in-Ok.ensures.outcome, is_page _ _ _ _ _ _ _ _ p state c.as_bytes.ensures.value h),
       c.in-Err.ensures.written h.keeps.facts h.keeps.holds,
     )
