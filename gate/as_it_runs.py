@@ -3,7 +3,7 @@
 
 as_it_runs.py PROGRAM: a line has to come through a pipe, or to a terminal of Python's `pty`, a good while before a run is over, also where
 no other line follows. A file that a killed run leaves ends with a whole line. With `--seconds 1` a run is told for a second and no longer,
-in words, as JSON and as a page, and what is told is what it is within the bound that is named. Where the machine is busy, a row is tried
+in each form, and what is told is what it is within the bound that is named. Where the machine is busy, a row is tried
 up to three times, and has as much more time as some calls take that do nothing. The texts are worked out by hand.
 """
 import json
@@ -24,7 +24,7 @@ TRIES = 3
 LONGEST = 30  # seconds of one call, far more than it takes
 WHILE = 0.6  # for so long a run goes on before it is killed
 SHORT = 1.5  # a call of one second
-LEAST = 0.9  # and so long it is told, where it isn't drawn or a page
+LEAST = 0.9  # and so long it takes
 ENDLESS = " --bound 4294967295"
 
 # One cell is set, and then a variable counts; and 3,000 processors count in a cell each, of which a line has more than 40,000 bytes.
@@ -43,7 +43,10 @@ COMING = [
     ("steps once --from 2 --to 1 --format json", False, OPENED),
     ("steps once --from 2 --to 1 --format json", True, OPENED),
 ]
-TIMED = ["once", "once --only s", "once --format json", "once --html", "wide", "once --svg --to 9"]
+TIMED = [
+    "once", "once --only s", "once --format json", "once --html", "once --html --to 9", "once --svg", "once --svg --to 9", "once --flow",
+    "wide", "wide --svg", "wide --html",
+]
 
 
 def slack():
@@ -135,8 +138,7 @@ def timed(words, folder):
 def in_time(words, folder):
     """What is wrong with a call that has one second."""
     took, status, output, errors = timed(words + " --seconds 1" + ENDLESS, folder)
-    at_least = 0 if {"--html", "--svg"} & {*words.split()} else LEAST
-    if not at_least <= took <= SHORT + slack() or status != 3:
+    if not LEAST <= took <= SHORT + slack() or status != 3:
         yield f"pramc {words} --seconds 1: {took:.2f} s, status {status}"
         return
     said = errors.decode().split()

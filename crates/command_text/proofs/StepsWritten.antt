@@ -1,13 +1,11 @@
 -- What tells a run statement by statement is the text that is asked for, or a beginning of it.
 use Rattle.std.proofs.Common.{◌≡◌, ◌∙◌, ◌++◌, ℕ, ℤ, List, ap, refl, subst, sym}
-use Rattle.std.specs.Prelude.{Result, Ok, Err, IsErrAnd, length}
+use Rattle.std.specs.Prelude.{Option, Result, Ok, Err, IsErrAnd}
 use Rattle.pram_model.specs.Layout.{SharedEntry}
 use Rattle.text_out.specs.Out.{OutState, StopsIn, with_bytes}
 use Rattle.text_out.proofs.Writing.{stops_behind, writes_then}
 use Rattle.write_rules.specs.Verdict.{verdict_of}
 use Rattle.write_rules.specs.declared.outcome.Outcome.{Outcome}
-use Rattle.journal.specs.Entries.{Entry}
-use Rattle.journal.specs.Between.{between}
 use Rattle.journal.specs.RunEntries.{run_entries}
 use Rattle.journal.specs.declared.telling_in_time.Ending.{Ending}
 use Rattle.step_text.specs.Stops.{stop_of}
@@ -16,10 +14,10 @@ use Rattle.step_text.specs.declared.failure.StreamFailure.{StreamFailure}
 use Rattle.step_text.specs.declared.failure.StreamFailure.TheVariants as failure
 use Rattle.pages.specs.Streamed.{HasStreamedPage, IsPageOfRun}
 use Rattle.pictures.specs.declared.flows.spans.CellSpan.{CellSpan}
-use Rattle.pictures.specs.Flows.Streamed.{HasStreamedFlow}
+use Rattle.pictures.specs.Flows.Streamed.{HasStreamedFlow, flow_of_run}
+use Rattle.pictures.specs.Steps.Streamed.{HasStreamedExcerpt, excerpt_of_run}
+use Rattle.pictures.specs.Streamed.{HasDrawn}
 use Rattle.diagnoses.specs.Sources.{text_in}
-use Rattle.pictures.specs.Steps.Picture.{part_of, picture}
-use Rattle.svg_texts.specs.Shapes as shapes
 use Rattle.step_text.specs.declared.telling.Telling.{Telling}
 use Rattle.program_texts.specs.Shown.{shown}
 use Rattle.program_texts.specs.Status.{status_of}
@@ -32,24 +30,20 @@ use Rattle.command_requests.specs.declared.form.Form.TheVariants as form
 use Rattle.command_facts.specs.declared.found.Found.TheVariants as found
 use Rattle.command_facts.specs.declared.found.FoundRun.{FoundRun}
 use Rattle.command_facts.specs.declared.found.FoundSteps.{FoundSteps}
-use Rattle.command_facts.specs.Found.{EndsIn, IsOutcomeOf, cut_at, entries_of, with_outcome}
+use Rattle.command_facts.specs.Found.{EndsIn, IsOutcomeOf, cut_at, entries_of, until_of, with_outcome}
+use Rattle.command_facts.proofs.Steps.{all_of_it, ends_by}
 use Rattle.command_facts.specs.Written.{Wrote}
 use Rattle.command_text.specs.declared.terminal.Terminal.{Terminal}
-use Rattle.command_text.specs.Stepped.{IsCutIn, IsCutOff, IsTellingOf, IsToldBy, IsToldInTime, IsToldRun, IsToldText, IsToldUpTo}
-use Rattle.command_text.specs.Stepped.{lines_of, InLines, InText, Untold}
+use Rattle.command_text.specs.Stepped.{IsCutIn, IsCutOff, IsCutUpTo, IsTellingOf, IsToldBy, IsToldInTime, IsToldRun, IsToldText}
+use Rattle.command_text.specs.Stepped.{IsToldUpTo, lines_of, InLines, InText, Untold}
 use Rattle.command_text.specs.Explained.{IsRunExplained}
 use Rattle.command_text.specs.Left.{LeavesFound, ToldAsItRan}
 use Rattle.command_text.specs.Steps.{IsTelling}
 use Rattle.command_text.specs.Spans.{chosen_spans}
-use Rattle.command_text.specs.Texts.{AreStepsText, flow_text, picture_text}
+use Rattle.command_text.specs.Texts.{AreStepsText}
 
 module _ (on : Terminal) (s : FoundSteps) (old : OutState) where
-  -- a run that is cut off is told by no outcome
-  pub cut_told : (new : OutState) (r : Result Outcome Stop) (why : Stop) → IsErrAnd r (λ e. e ≡ why) → IsCutOff on s old new why →
-      IsToldBy on s old new r
-  cut_told new (Ok o) why is cut = absurd is
-  cut_told new (Err e) why is cut = subst (IsCutOff on s old new) (sym is) cut
-
+  -- a run that is cut off comes to nothing
   pub cut_run : (new : OutState) (r : Result FoundRun Stop) (why : Stop) → IsErrAnd r (λ e. e ≡ why) → IsCutOff on s old new why →
       IsToldRun on s old new r
   cut_run new (Ok run) why is cut = absurd is
@@ -132,71 +126,102 @@ lines_cut s telling old new failure.OutOfMemory why is h fits = subst (IsCutIn s
 lines_cut s telling old new failure.InputTooLong why is h fits = absurd (fits refl)
 
 -- a page that was streamed by the values that were handed over
-pub page_by : (s : FoundSteps) (old new : OutState) (file text : List ℕ) (given : List ℤ) (r q : Result Outcome StreamFailure) →
-    file ≡ s.loaded.source.name.now → text ≡ text_in s.loaded.source → given ≡ s.input.items → r ≡ q →
-    HasStreamedPage (IsPageOfRun file text s.loaded.program given s.limit.bound s.words.from s.words.to) old new r →
-    HasStreamedPage (IsPageOfRun s.loaded.source.name.now (text_in s.loaded.source) s.loaded.program s.input.items s.limit.bound
-    s.words.from s.words.to) old new q
-page_by s old new file text given r q same_file same_text same is h =
-    let Is : (file text : List ℕ) → List ℤ → Outcome → List ℕ → Type 0 =
-    λ file text given. IsPageOfRun file text s.loaded.program given s.limit.bound s.words.from s.words.to in
-    subst (λ (f : List ℕ). HasStreamedPage (Is f (text_in s.loaded.source) s.input.items) old new q) same_file
-    (subst (λ (t : List ℕ). HasStreamedPage (Is file t s.input.items) old new q) same_text
-    (subst (λ (i : List ℤ). HasStreamedPage (Is file text i) old new q) same
-    (subst (HasStreamedPage (Is file text given) old new) is h)))
-
--- the writer failed in it
-page_stopped : (on : Terminal) (s : FoundSteps) (old new : OutState) → s.words.form ≡ form.Page →
-    HasStreamedPage (IsPageOfRun s.loaded.source.name.now (text_in s.loaded.source) s.loaded.program s.input.items s.limit.bound
-    s.words.from s.words.to) old new (Err failure.WriteFailed) → IsCutOff on s old new stop.WriteFailed
-page_stopped on s old new asked h =
-    let o = h.0 in
-    let shows = h.1 in
-    cut_in_text on s old form.Page asked o (record { fits = s.fits; outcome = h.2.0 }) new (status_of o) stop.WriteFailed shows h.2.1
-    (refl, h.3)
-
--- or memory was refused
-pub page_cut : (on : Terminal) (s : FoundSteps) (old new : OutState) → s.words.form ≡ form.Page → (f : StreamFailure) (why : Stop) →
-    why ≡ stop_of f →
-    HasStreamedPage (IsPageOfRun s.loaded.source.name.now (text_in s.loaded.source) s.loaded.program s.input.items s.limit.bound
-    s.words.from s.words.to) old new (Err f) → (f ≡ failure.InputTooLong → ⊥) → IsCutOff on s old new why
-page_cut on s old new asked failure.WriteFailed why is h fits = subst (IsCutOff on s old new) (sym is) (page_stopped on s old new asked h)
-page_cut on s old new asked failure.OutOfMemory why is h fits = subst (IsCutOff on s old new) (sym is) (Untold h)
-page_cut on s old new asked failure.InputTooLong why is h fits = absurd (fits refl)
+pub page_by : (s : FoundSteps) (old new : OutState) (file text : List ℕ) (given : List ℤ) (until : Option ℕ)
+    (r : Result Ending StreamFailure) → file ≡ s.loaded.source.name.now → text ≡ text_in s.loaded.source → given ≡ s.input.items →
+    HasStreamedPage (λ k. IsPageOfRun file text s.loaded.program given k s.words.from s.words.to) until s.limit.bound old new r →
+    HasStreamedPage (λ k. IsPageOfRun s.loaded.source.name.now (text_in s.loaded.source) s.loaded.program s.input.items k s.words.from
+    s.words.to) until s.limit.bound old new r
+page_by s old new file text given until r same_file same_text same h =
+    let Has : (file text : List ℕ) → List ℤ → Type 0 = λ file text given. HasStreamedPage
+    (λ k. IsPageOfRun file text s.loaded.program given k s.words.from s.words.to) until s.limit.bound old new r in
+    subst (λ (f : List ℕ). Has f (text_in s.loaded.source) s.input.items) same_file
+    (subst (λ (t : List ℕ). Has file t s.input.items) same_text (subst (λ (i : List ℤ). Has file text i) same h))
 
 -- a flow that was drawn by the values that were handed over
-pub flow_by : (s : FoundSteps) (old new : OutState) (text : List ℕ) (given : List ℤ) (only : List CellSpan)
-    (r q : Result Outcome StreamFailure) → text ≡ text_in s.loaded.source → given ≡ s.input.items →
-    only ≡ chosen_spans s.loaded.program.layout s.words.drawn → r ≡ q →
-    HasStreamedFlow text s.loaded.program given s.limit.bound only s.words.from s.words.to old new r →
-    HasStreamedFlow (text_in s.loaded.source) s.loaded.program s.input.items s.limit.bound
-    (chosen_spans s.loaded.program.layout s.words.drawn) s.words.from s.words.to old new q
-flow_by s old new text given only r q same_text same same_only is h =
-    let Has : List ℕ → List ℤ → List CellSpan → Result Outcome StreamFailure → Type 0 =
-    λ text given only r. HasStreamedFlow text s.loaded.program given s.limit.bound only s.words.from s.words.to
-    old new r in
-    subst (λ (t : List ℕ). Has t s.input.items (chosen_spans s.loaded.program.layout s.words.drawn) q) same_text
-    (subst (λ (i : List ℤ). Has text i (chosen_spans s.loaded.program.layout s.words.drawn) q) same
-    (subst (λ (c : List CellSpan). Has text given c q) same_only (subst (Has text given only) is h)))
+pub flow_by : (s : FoundSteps) (old new : OutState) (text : List ℕ) (given : List ℤ) (until : Option ℕ) (only : List CellSpan)
+    (r : Result Ending StreamFailure) → text ≡ text_in s.loaded.source → given ≡ s.input.items →
+    only ≡ chosen_spans s.loaded.program.layout s.words.drawn →
+    HasStreamedFlow text s.loaded.program given until s.limit.bound only s.words.from s.words.to old new r →
+    HasStreamedFlow (text_in s.loaded.source) s.loaded.program s.input.items until s.limit.bound
+    (chosen_spans s.loaded.program.layout s.words.drawn) s.words.from s.words.to old new r
+flow_by s old new text given until only r same_text same same_only h =
+    let Has : List ℕ → List ℤ → List CellSpan → Type 0 =
+    λ text given only. HasStreamedFlow text s.loaded.program given until s.limit.bound only s.words.from s.words.to old new r in
+    subst (λ (t : List ℕ). Has t s.input.items (chosen_spans s.loaded.program.layout s.words.drawn)) same_text
+    (subst (λ (i : List ℤ). Has text i (chosen_spans s.loaded.program.layout s.words.drawn)) same
+    (subst (λ (c : List CellSpan). Has text given c) same_only h))
 
--- the writer failed in it
-flow_stopped : (on : Terminal) (s : FoundSteps) (old new : OutState) → s.words.form ≡ form.Flow →
-    HasStreamedFlow (text_in s.loaded.source) s.loaded.program s.input.items s.limit.bound
-    (chosen_spans s.loaded.program.layout s.words.drawn) s.words.from s.words.to old new (Err failure.WriteFailed) →
-    IsCutOff on s old new stop.WriteFailed
-flow_stopped on s old new asked h =
-    cut_in_text on s old form.Flow asked h.0 (record { fits = s.fits; outcome = h.1 }) new (status_of h.0) stop.WriteFailed
-    (flow_text s.words (with_outcome s h.0) (entries_of s)) refl (refl, h.2)
+-- and statements
+pub excerpt_by : (s : FoundSteps) (old new : OutState) (text : List ℕ) (given : List ℤ) (until : Option ℕ)
+    (r : Result Ending StreamFailure) → text ≡ s.loaded.source.bytes.items → given ≡ s.input.items →
+    HasStreamedExcerpt text s.loaded.program given until s.limit.bound s.words.from s.words.to old new r →
+    HasStreamedExcerpt s.loaded.source.bytes.items s.loaded.program s.input.items until s.limit.bound s.words.from s.words.to old new r
+excerpt_by s old new text given until r same_text same h =
+    let Has : List ℕ → List ℤ → Type 0 =
+    λ text given. HasStreamedExcerpt text s.loaded.program given until s.limit.bound s.words.from s.words.to old new r in
+    subst (λ (t : List ℕ). Has t s.input.items) same_text (subst (λ (i : List ℤ). Has text i) same h)
 
--- or memory was refused
-pub flow_cut : (on : Terminal) (s : FoundSteps) (old new : OutState) → s.words.form ≡ form.Flow → (f : StreamFailure) (why : Stop) →
-    why ≡ stop_of f →
-    HasStreamedFlow (text_in s.loaded.source) s.loaded.program s.input.items s.limit.bound
-    (chosen_spans s.loaded.program.layout s.words.drawn) s.words.from s.words.to old new (Err f) → (f ≡ failure.InputTooLong → ⊥) →
-    IsCutOff on s old new why
-flow_cut on s old new asked failure.WriteFailed why is h fits = subst (IsCutOff on s old new) (sym is) (flow_stopped on s old new asked h)
-flow_cut on s old new asked failure.OutOfMemory why is h fits = subst (IsCutOff on s old new) (sym is) (Untold h)
-flow_cut on s old new asked failure.InputTooLong why is h fits = absurd (fits refl)
+-- a text of the run up to where it ends, in which the writer failed
+stopped_up_to : (on : Terminal) (s : FoundSteps) (old new : OutState) (f : Form) → s.words.form ≡ f → (r : Ending) (text : List ℕ) →
+    AreStepsText f on s.words (with_outcome (cut_at s r.bound) r.outcome) (entries_of (cut_at s r.bound)) text → EndsIn s r.bound →
+    IsOutcomeOf (cut_at s r.bound) r.outcome → StopsIn old new text → IsCutUpTo on s old new stop.WriteFailed
+stopped_up_to on s old new f asked r text is ends comes stops = (
+  r.bound,
+  ends,
+  cut_in_text on (cut_at s r.bound) old f asked r.outcome comes new (status_of r.outcome) stop.WriteFailed text is (refl, stops),
+)
+
+-- nothing of it
+untold_up_to : (on : Terminal) (s : FoundSteps) (old new : OutState) → new ≡ old → IsCutUpTo on s old new (stop.Refused refusal.OutOfMemory)
+untold_up_to on s old new same = (s.limit.bound, all_of_it s, Untold same)
+
+module _ (on : Terminal) (s : FoundSteps) (old new : OutState) (until : Option ℕ) (same : until ≡ until_of s.limit) where
+  -- a page
+  abbrev IsShown : (bound : ℕ) → Outcome → List ℕ → Type 0
+  IsShown k = IsPageOfRun s.loaded.source.name.now (text_in s.loaded.source) s.loaded.program s.input.items k s.words.from s.words.to
+
+  page_stopped : s.words.form ≡ form.Page → HasStreamedPage IsShown until s.limit.bound old new (Err failure.WriteFailed) →
+      IsCutUpTo on s old new stop.WriteFailed
+  page_stopped asked h =
+      let r = h.0 in
+      stopped_up_to on s old new form.Page asked r h.2 h.3.1 (ends_by s until r.bound same h.1)
+      (record { fits = s.fits; outcome = h.3.0 }) h.4
+
+  pub page_cut : s.words.form ≡ form.Page → (f : StreamFailure) (why : Stop) → why ≡ stop_of f →
+      HasStreamedPage IsShown until s.limit.bound old new (Err f) → (f ≡ failure.InputTooLong → ⊥) → IsCutUpTo on s old new why
+  page_cut asked failure.WriteFailed why is h fits = subst (IsCutUpTo on s old new) (sym is) (page_stopped asked h)
+  page_cut asked failure.OutOfMemory why is h fits = subst (IsCutUpTo on s old new) (sym is) (untold_up_to on s old new h)
+  page_cut asked failure.InputTooLong why is h fits = absurd (fits refl)
+
+  -- a picture that is known
+  module _ (f : Form) (asked : s.words.form ≡ f) (drawn : ℕ → List ℕ) (is_text : (r : Ending) →
+      AreStepsText f on s.words (with_outcome (cut_at s r.bound) r.outcome) (entries_of (cut_at s r.bound)) (drawn r.bound)) where
+    drawn_stopped : HasDrawn drawn s.loaded.program s.input.items until s.limit.bound old new (Err failure.WriteFailed) →
+        IsCutUpTo on s old new stop.WriteFailed
+    drawn_stopped h =
+        let r = h.0 in
+        stopped_up_to on s old new f asked r (drawn r.bound) (is_text r) (ends_by s until r.bound same h.1)
+        (record { fits = s.fits; outcome = h.2 }) h.3
+
+    drawn_cut : (e : StreamFailure) (why : Stop) → why ≡ stop_of e →
+        HasDrawn drawn s.loaded.program s.input.items until s.limit.bound old new (Err e) → (e ≡ failure.InputTooLong → ⊥) →
+        IsCutUpTo on s old new why
+    drawn_cut failure.WriteFailed why is h fits = subst (IsCutUpTo on s old new) (sym is) (drawn_stopped h)
+    drawn_cut failure.OutOfMemory why is h fits = subst (IsCutUpTo on s old new) (sym is) (untold_up_to on s old new h)
+    drawn_cut failure.InputTooLong why is h fits = absurd (fits refl)
+
+  pub flow_cut : s.words.form ≡ form.Flow → (e : StreamFailure) (why : Stop) → why ≡ stop_of e →
+      HasStreamedFlow (text_in s.loaded.source) s.loaded.program s.input.items until s.limit.bound
+      (chosen_spans s.loaded.program.layout s.words.drawn) s.words.from s.words.to old new (Err e) → (e ≡ failure.InputTooLong → ⊥) →
+      IsCutUpTo on s old new why
+  flow_cut asked = drawn_cut form.Flow asked (flow_of_run (text_in s.loaded.source) s.loaded.program s.input.items
+      (chosen_spans s.loaded.program.layout s.words.drawn) s.words.from s.words.to) (λ r. refl)
+
+  pub excerpt_cut : s.words.form ≡ form.Picture → (e : StreamFailure) (why : Stop) → why ≡ stop_of e →
+      HasStreamedExcerpt s.loaded.source.bytes.items s.loaded.program s.input.items until s.limit.bound s.words.from s.words.to old new
+      (Err e) → (e ≡ failure.InputTooLong → ⊥) → IsCutUpTo on s old new why
+  excerpt_cut asked = drawn_cut form.Picture asked (excerpt_of_run s.loaded.source.bytes.items s.loaded.program s.input.items s.words.from
+      s.words.to) (λ r. refl)
 
 -- how statements are told
 pub telling_by : (on : Terminal) (s : FoundSteps) (text sized : List ℕ) (telling : Telling) →
@@ -212,23 +237,6 @@ pub outcome_as : (s : FoundSteps) (o : Outcome) (layout : List SharedEntry) (end
     layout ≡ s.loaded.program.layout → Wrote ends (shown layout (verdict_of o)) mid new r →
     Wrote ends (shown s.loaded.program.layout (verdict_of o)) mid new r
 outcome_as s o layout ends mid new r same w = subst (λ (l : List SharedEntry). Wrote ends (shown l (verdict_of o)) mid new r) same w
-
--- the picture of an excerpt
-pub picture_as : (s : FoundSteps) (o : Outcome) (layout : List SharedEntry) (text : List ℕ) (whole : ℕ) (es : List Entry) (ends : Status)
-    (old new : OutState) (r : Result Status Stop) → layout ≡ s.loaded.program.layout → text ≡ s.loaded.source.bytes.items →
-    whole ≡ length (entries_of s) → es ≡ between s.words.from s.words.to (entries_of s) →
-    Wrote ends (shapes.picture_text (picture layout text (part_of s.words.from whole) es)) old new r →
-    Wrote ends (picture_text s.words (with_outcome s o) (entries_of s)) old new r
-picture_as s o layout text whole es ends old new r same_layout same_text same_whole same w =
-    subst (λ (l : List SharedEntry). Wrote ends (shapes.picture_text (picture l s.loaded.source.bytes.items
-    (part_of s.words.from (length (entries_of s))) (between s.words.from s.words.to (entries_of s)))) old new r)
-    same_layout
-    (subst (λ (t : List ℕ). Wrote ends (shapes.picture_text (picture layout t (part_of s.words.from (length (entries_of s)))
-    (between s.words.from s.words.to (entries_of s)))) old new r) same_text
-    (subst (λ (n : ℕ). Wrote ends (shapes.picture_text (picture layout text (part_of s.words.from n)
-    (between s.words.from s.words.to (entries_of s)))) old new r) same_whole
-    (subst (λ (es : List Entry). Wrote ends (shapes.picture_text (picture layout text (part_of s.words.from whole) es)) old new r)
-    same w)))
 
 -- the run, as it came back
 pub run_as : (on : Terminal) (s : FoundSteps) (o : Outcome) (run : FoundRun) (old new : OutState) → run ≡ with_outcome s o →
@@ -251,11 +259,6 @@ pub run_in_time : (on : Terminal) (s : FoundSteps) (k : ℕ) (o : Outcome) (cut 
     IsToldInTime on s old new (Ok run)
 run_in_time on s k o cut run old new is same told =
     (k, told.0, run_as on (cut_at s k) o run old new (same ∙ ap (λ (s : FoundSteps). with_outcome s o) is) told.1)
-
--- of a run that was cut before
-pub shown_in_time : (on : Terminal) (s cut : FoundSteps) (old new : OutState) (r : Result FoundRun Stop) →
-    (k : ℕ) × EndsIn s k × (cut ≡ cut_at s k) → IsToldRun on cut old new r → IsToldInTime on s old new r
-shown_in_time on s cut old new r is told = (is.0, is.1, subst (λ (s : FoundSteps). IsToldRun on s old new r) is.2 told)
 
 -- ---- both streams
 

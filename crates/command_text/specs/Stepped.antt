@@ -70,10 +70,14 @@ IsToldRun on s old new (Err why) = IsCutOff on s old new why
 
 -- ---- in time
 
--- it ends behind so many statements, up to which it is told
+-- it ends behind so many statements, up to which it is cut off
+abbrev pub IsCutUpTo : Terminal → FoundSteps → (old new : OutState) → Stop → Type 0
+IsCutUpTo on s old new why = (k : ℕ) × EndsIn s k × IsCutOff on (cut_at s k) old new why
+
+-- or up to which it is told
 abbrev pub IsToldUpTo : Terminal → FoundSteps → (old new : OutState) → Result Ending Stop → Type 0
 IsToldUpTo on s old new (Ok r) = EndsIn s r.bound × IsToldBy on (cut_at s r.bound) old new (Ok r.outcome)
-IsToldUpTo on s old new (Err why) = (k : ℕ) × EndsIn s k × IsCutOff on (cut_at s k) old new why
+IsToldUpTo on s old new (Err why) = IsCutUpTo on s old new why
 
 -- and the run comes back with what it came to there
 abbrev pub IsToldInTime : Terminal → FoundSteps → (old new : OutState) → Result FoundRun Stop → Type 0

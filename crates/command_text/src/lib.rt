@@ -6,11 +6,11 @@ mod choosing;
 mod explaining;
 mod flowing;
 mod paging;
+mod picturing;
 mod stepping;
 mod sweeping;
 mod telling;
 mod terminal;
-mod timing;
 mod tracing;
 mod writing;
 

@@ -1,34 +1,27 @@
 //! Runs of a program that are told statement by statement: in words as they go, drawn, or as a page.
 
-ghost use Rattle.std.specs.Prelude.{◌≡◌, IfErr, IfOk, length, map};
+ghost use Rattle.std.specs.Prelude.{◌≡◌, IfErr, IfOk};
 ghost use Rattle.text_out.specs.Out.{with_bytes};
 ghost use Rattle.write_rules.specs.Verdict.{verdict_of};
 ghost use Rattle.command_facts.specs.Found.{EndsIn, IsOutcomeOf, cut_at, entries_of};
 ghost use Rattle.command_facts.specs.Written.{Wrote};
 ghost use Rattle.program_texts.specs.Shown.{shown};
 ghost use Rattle.program_texts.specs.Status.{status_of};
-ghost use Rattle.program_texts.specs.declared.from_text.Refusal.TheVariants.{OutOfMemory};
-ghost use Rattle.program_texts.specs.declared.stop.Stop.TheVariants.{Refused};
-ghost use Rattle.journal.specs.Entries.{entry_is};
-ghost use Rattle.journal.specs.Between.{between};
-ghost use Rattle.pictures.specs.Steps.Picture.{part_of, picture};
-ghost use Rattle.svg_texts.specs.Shapes.{picture_text};
 ghost use Rattle.command_text.specs.Stepped as stepped;
 ghost use Rattle.command_text.specs.Steps as spec;
 
 use crate::flowing::write_as_flow;
 use crate::paging::write_as_page;
+use crate::picturing::write_as_picture;
 use crate::terminal::Terminal;
-use crate::timing::in_time;
 use command_facts::{FoundRun, FoundSteps};
 use command_requests::{Form, StepWords};
-use journal::{Ending, Excerpt, steps_between};
+use journal::Ending;
 use memory_texts::Choice;
 use observing::Watch;
-use pictures::write_excerpt;
 use pram_check::Program;
 use pram_trees::{Layout, Tree};
-use program_texts::{Refusal, Status, Stop, finish, show};
+use program_texts::{Status, Stop, finish, show};
 use std::alloc::Global;
 use step_text::{Detail, Focus, Manner, Telling, stream_steps};
 use text_out::Out;
@@ -174,124 +167,30 @@ fn write_in_words<'a, V: Watch, O: Out>(
     Ok(ending)
 }
 
-// The statements that are asked for, and how many there are in all. The input fits, so that a run is refused for memory alone.
-fn excerpt_of<'a, V: Watch>(
+// In the form that is asked for, as long as there is time.
+fn write_in_time<'a, V: Watch, O: Out>(
     alloc: Global,
+    on: Terminal,
     steps: &FoundSteps<'_>,
     watch: &mut V,
-) -> Result<(Outcome, Excerpt), Stop<'a>>
-    ensures outcome { IfOk result (λ r. IsOutcomeOf steps.now r.0) }
-    ensures entries { IfOk result (λ r. map entry_is r.1.entries.items
-        ≡ between steps.now.words.from steps.now.words.to (entries_of steps.now)) }
-    ensures whole { IfOk result (λ r. r.1.whole ≡ length (entries_of steps.now)) }
-    ensures refused { IfErr result (λ stop. stop ≡ Refused OutOfMemory) }
+    out: &mut O,
+) -> Result<Ending, Stop<'a>>
+    ensures told { stepped.IsToldUpTo on steps.now (O.Out.state out.old) (O.Out.state out.new) result }
 {
-    let (program, bound) = (&steps.loaded.program, steps.limit.bound);
-    let (first, last) = (steps.words.from as usize, steps.words.to as usize);
-    match steps_between(alloc, program, &steps.input, bound, first, last, watch) {
-        Ok(told) => Ok(told),
-        Err(_) => Err(Stop::Refused(Refusal::OutOfMemory)),
+    match steps.words.form {
+        Form::Words => write_in_words(alloc, on, steps, watch, out),
+        Form::Picture => write_as_picture(alloc, steps, watch, out),
+        Form::Flow => write_as_flow(alloc, steps, watch, out),
+        Form::Page => write_as_page(alloc, steps, watch, out),
     }
 }
 
-// Writes a picture of those statements beside the lines of this text.
-fn write_pictured<'a, O: Out>(
-    out: &mut O,
-    layout: &Layout,
-    text: &[u8],
-    outcome: &Outcome,
-    excerpt: &Excerpt,
-    from: usize,
-) -> Result<Status, Stop<'a>>
-    ensures written { Wrote (status_of outcome.now)
-        (picture_text (picture layout.now text.now (part_of from excerpt.now.whole) (map entry_is excerpt.now.entries.items)))
-        (O.Out.state out.old) (O.Out.state out.new) result }
-{
-    write_excerpt(out, layout, text, &excerpt.entries, from, excerpt.whole)?;
-    finish(out, Status::of(outcome))
-}
-
-// A picture of a run's statements.
-fn write_as_picture<'a, V: Watch, O: Out>(
-    alloc: Global,
-    steps: &FoundSteps<'_>,
-    watch: &mut V,
-    out: &mut O,
-) -> Result<Outcome, Stop<'a>>
-    requires form { steps.now.words.form ≡ Form.Picture }
-    ensures told { (on : Terminal) → stepped.IsToldBy on steps.now (O.Out.state out.old) (O.Out.state out.new) result }
-{
-    let (outcome, excerpt) = excerpt_of(alloc, steps, watch)?;
-    let layout = steps.loaded.program.layout();
-    let text = steps.loaded.source.bytes.as_slice();
-    let from = steps.words.from as usize;
-    write_pictured(out, layout, text, &outcome, &excerpt, from)?;
-    Ok(outcome)
-}
-
-// The flow of data in a run, drawn, with what it came to.
-fn write_flow_behind<'a, 'b, V: Watch, O: Out>(
-    alloc: Global,
-    steps: FoundSteps<'b>,
-    watch: &mut V,
-    out: &mut O,
-) -> Result<FoundRun<'b>, Stop<'a>>
-    requires form { steps.words.form ≡ Form.Flow }
-    ensures told { (on : Terminal) → stepped.IsToldRun on steps.entry (O.Out.state out.old) (O.Out.state out.new) result }
-{
-    let outcome = write_as_flow(alloc, &steps, watch, out)?;
-    Ok(steps.with_outcome(outcome))
-}
-
-// A run as a page, with what it came to.
-fn write_page_behind<'a, 'b, V: Watch, O: Out>(
-    alloc: Global,
-    steps: FoundSteps<'b>,
-    watch: &mut V,
-    out: &mut O,
-) -> Result<FoundRun<'b>, Stop<'a>>
-    requires form { steps.words.form ≡ Form.Page }
-    ensures told { (on : Terminal) → stepped.IsToldRun on steps.entry (O.Out.state out.old) (O.Out.state out.new) result }
-{
-    let outcome = write_as_page(alloc, &steps, watch, out)?;
-    Ok(steps.with_outcome(outcome))
-}
-
-// A run in words, with what it came to.
-fn write_words_behind<'a, 'b, V: Watch, O: Out>(
-    alloc: Global,
-    on: Terminal,
-    steps: FoundSteps<'b>,
-    watch: &mut V,
-    out: &mut O,
-) -> Result<FoundRun<'b>, Stop<'a>>
-    requires form { steps.words.form ≡ Form.Words }
-    ensures told { stepped.IsToldInTime on steps.entry (O.Out.state out.old) (O.Out.state out.new) result }
-{
-    let ending = write_in_words(alloc, on, &steps, watch, out)?;
-    Ok(steps.cut_at(ending.bound).with_outcome(ending.outcome))
-}
-
-// A picture of a run, with what it came to.
-fn write_picture_behind<'a, 'b, V: Watch, O: Out>(
-    alloc: Global,
-    steps: FoundSteps<'b>,
-    watch: &mut V,
-    out: &mut O,
-) -> Result<FoundRun<'b>, Stop<'a>>
-    requires form { steps.words.form ≡ Form.Picture }
-    ensures told { (on : Terminal) → stepped.IsToldRun on steps.entry (O.Out.state out.old) (O.Out.state out.new) result }
-{
-    let outcome = write_as_picture(alloc, &steps, watch, out)?;
-    Ok(steps.with_outcome(outcome))
-}
-
 /// Runs a program and tells it statement by statement, in words as it runs, drawn, or as a page; and answers the run with what it came to.
-/// Where its seconds are over it ends: in words where it is, and in the other forms within a bound that was found before.
+/// Where its seconds are over it ends where it is.
 ///
-/// In words a line is written as soon as its statement has run, and none is kept; of a picture those statements are kept that are asked
-/// for; of a page no more than the lines that could stand in it; of the flow of data the statements that are drawn. The watch is told how
-/// far the run is. E17 where the writer failed, E16 where memory was refused.
+/// In words a line is written as soon as its statement has run, and none is kept; of a picture the statements that are drawn are kept; of a
+/// page no more than the lines that could stand in it. The watch is told how far the run is. E17 where the writer failed, E16 where memory
+/// was refused.
 pub(crate) fn write_stepped<'a, 'b, V: Watch, O: Out>(
     alloc: Global,
     on: Terminal,
@@ -301,19 +200,6 @@ pub(crate) fn write_stepped<'a, 'b, V: Watch, O: Out>(
 ) -> Result<FoundRun<'b>, Stop<'a>>
     ensures told { stepped.IsToldInTime on steps.entry (O.Out.state out.old) (O.Out.state out.new) result }
 {
-    match steps.words.form {
-        Form::Words => write_words_behind(alloc, on, steps, watch, out),
-        Form::Picture => {
-            let steps = in_time(alloc, steps, watch);
-            write_picture_behind(alloc, steps, watch, out)
-        }
-        Form::Flow => {
-            let steps = in_time(alloc, steps, watch);
-            write_flow_behind(alloc, steps, watch, out)
-        }
-        Form::Page => {
-            let steps = in_time(alloc, steps, watch);
-            write_page_behind(alloc, steps, watch, out)
-        }
-    }
+    let ending = write_in_time(alloc, on, &steps, watch, out)?;
+    Ok(steps.cut_at(ending.bound).with_outcome(ending.outcome))
 }

@@ -1,20 +1,14 @@
-use Rattle.command_text.proofs.StepsWritten.{shown_in_time}
+use Rattle.command_text.proofs.StepsWritten.{cut_in_time, run_in_time}
 use Rattle.command_text.proofs.stepping.write_stepped.Goals as goal
 
-pub returns-in-Picture : goal.returns-in-Picture
-returns-in-Picture g c = record {
-  told = shown_in_time c.args.on c.args.steps c.in_time-steps.result _ _ _ c.in_time-steps.ensures
-      (c.write_picture_behind.ensures.told c.args.on);
+pub returns-in_err-ending : goal.returns-in_err-ending
+returns-in_err-ending g c = record {
+  told = cut_in_time c.args.on c.args.steps _ _ _ c.in_err-ending.field-0.0 c.from_residual.ensures.1
+      c.in_err-ending.ensures.told;
 }
 
-pub returns-in-Flow : goal.returns-in-Flow
-returns-in-Flow g c = record {
-  told = shown_in_time c.args.on c.args.steps c.in_time-steps-in-Flow.result _ _ _ c.in_time-steps-in-Flow.ensures
-      (c.write_flow_behind.ensures.told c.args.on);
-}
-
-pub returns-in-Page : goal.returns-in-Page
-returns-in-Page g c = record {
-  told = shown_in_time c.args.on c.args.steps c.in_time-steps-in-Page.result _ _ _ c.in_time-steps-in-Page.ensures
-      (c.write_page_behind.ensures.told c.args.on);
+pub returns : goal.returns
+returns g c = record {
+  told = run_in_time c.args.on c.args.steps c.in_ok-ending.ending.bound c.in_ok-ending.ending.outcome c.cut_at.result _ _ _
+      c.cut_at.ensures.cut c.with_outcome.ensures.run c.in_ok-ending.ensures.told;
 }
