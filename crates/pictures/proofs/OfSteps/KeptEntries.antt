@@ -1,10 +1,10 @@
 -- One entry more of those of which some are kept, and that the picture of these is that of all.
-use Rattle.std.proofs.Common.{◌≡◌, ◌∙◌, ◌+◌, ◌-◌, ◌<◌, ◌≤◌, ℕ, ℤ, List, [], ◌∷◌, ◌++◌, Bool, ap, append_assoc, arith, drop, inl, inr}
+use Rattle.std.proofs.Common.{◌≡◌, ◌∙◌, ◌+◌, ◌-◌, ◌<◌, ◌≤◌, ℕ, List, [], ◌∷◌, ◌++◌, Bool, ap, arith, drop, inl, inr}
 use Rattle.std.proofs.Common.{length, map, refl, subst, sym, take}
 use Rattle.std.proofs.lemmas.Bool.{cases_lt, le-ltb, lt-ltb}
 use Rattle.std.proofs.lemmas.List.{drop-append-le, drop-drop, drop-map, drop_all, drop_at, length-append, length-drop, length-map}
 use Rattle.std.proofs.lemmas.List.{length-take-le, take-append-le, take-map, take_all, take_at}
-use Rattle.std.specs.Prelude.{◌⊎◌, if◌then◌else◌, max, min, nat_lt}
+use Rattle.std.specs.Prelude.{◌⊎◌, if◌then◌else◌, max}
 use Rattle.journal.specs.declared.entry as rust
 use Rattle.journal.specs.Between.{between}
 use Rattle.journal.specs.Entries.{Entry, entry_is}
@@ -12,7 +12,7 @@ use Rattle.journal.proofs.KeptBetween.{one_before, one_past, one_within}
 use Rattle.journal.proofs.Pushed.{pushed}
 use Rattle.pictures.specs.Steps.Drawn.{first_drawn, first_met, last_drawn, met_of, rows_beside, rows_of, acting, with_all}
 use Rattle.pictures.specs.Steps.Kept.{Keeps, KeepsAsked, StandFor, with_room}
-use Rattle.pictures.specs.Steps.Measures.{count_drawn, letters_of}
+use Rattle.pictures.specs.Steps.Measures.{letters_of}
 use Rattle.pictures.specs.Steps.ProgramLines.{longest}
 use Rattle.pictures.specs.declared.steps.excerpt.Excerpt.{Excerpt}
 
