@@ -1,0 +1,14 @@
+pub mod Ends
+pub mod Joins
+pub mod Hulls
+pub mod Ranges
+pub mod Corners
+pub mod Floors
+pub mod Sides
+pub mod Rests
+pub mod Told
+pub mod Truths
+pub mod Points
+pub mod Narrowings
+pub mod Marks
+pub mod Wider

@@ -1,0 +1,11 @@
+pub mod Intervals
+pub mod Results
+pub mod Cuts
+pub mod Corners
+pub mod Hulls
+pub mod Remainders
+pub mod Comparisons
+pub mod Reaching
+pub mod Kinds
+pub mod Narrowing
+pub mod Widening
