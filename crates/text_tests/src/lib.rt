@@ -1,6 +1,9 @@
-//! Tests of small texts: those that are read beside a program, those that are written of many runs, of flows, of trees and of refusals.
+//! Tests of small texts: those that are read beside a program, those that are written of many runs, of flows, of trees and of refusals, and
+//! what is told of all inputs of a program.
 #![tactic(auto)]
 
+#[cfg(test)]
+mod all_inputs;
 #[cfg(test)]
 mod drawings;
 #[cfg(test)]

@@ -1,0 +1,63 @@
+-- Where runs come to, step by step.
+use Rattle.std.proofs.Common.{◌≡◌, ℕ, List, Ok, Err, ◌∙◌, true, false, [], Bool}
+use Rattle.pram_values.specs.declared.kind.Kind.{Kind}
+use Rattle.pram_check.specs.Checked.{Checked}
+use Rattle.pram_meaning.specs.Attempt.{Attempt, Gives, Fails}
+use Rattle.pram_meaning.specs.Bounded.{Behaviour, Done, Goes, Stops, Reaches, then_do, valued, counted, evaluated}
+use Rattle.pram_meaning.specs.Store.{State, View, seen}
+use Rattle.pram_meaning.specs.Together.{alone}
+use Rattle.abstract_runs.specs.declared.faults.Faults.{Faults}
+use Rattle.abstract_runs.specs.declared.standing.Standing.{Standing}
+use Rattle.abstract_runs.specs.declared.told.Told.{Told}
+use Rattle.abstract_runs.specs.Faulting.{May}
+use Rattle.abstract_runs.specs.Leads.{Leads}
+use Rattle.abstract_runs.specs.Standing.{IsKnownAs, StandsFor}
+use Rattle.abstract_runs.specs.Told.{MayAt, IsKept}
+use Rattle.abstract_runs.specs.Tried.{IsTried}
+use Rattle.abstract_runs.proofs.Trails as trails
+
+-- first the one, then the other
+pub leads_then : {A B : Type 0} (P : A → State → Type 0) (Q : B → State → Type 0) (told more : Told) (b : Behaviour A)
+    (f : A → State → Behaviour B) → Leads P told b → IsKept told more → ((a : A) (m : State) → P a m → Leads Q more (f a m)) →
+    Leads Q more (then_do b f)
+leads_then P Q told more (Goes a m) f h k g = g a m h
+leads_then P Q told more (Stops fault output) f h k g = k.faults fault.kind fault.line h
+leads_then P Q told more (Reaches output) f h k g = k.goes_on h
+
+pub leads_on : {A : Type 0} (P Q : A → State → Type 0) (told more : Told) (b : Behaviour A) → Leads P told b → IsKept told more →
+    ((a : A) (m : State) → P a m → Q a m) → Leads Q more b
+leads_on P Q told more (Goes a m) h k g = g a m h
+leads_on P Q told more (Stops fault output) h k g = k.faults fault.kind fault.line h
+leads_on P Q told more (Reaches output) h k g = k.goes_on h
+
+pub kept_same : (told : Told) → IsKept told told
+kept_same told = record { faults = λ kind line may. may; goes_on = λ on. on }
+
+pub kept_then : (a b c : Told) → IsKept a b → IsKept b c → IsKept a c
+kept_then a b c h k = record {
+  faults = λ kind line may. k.faults kind line (h.faults kind line may);
+  goes_on = λ on. k.goes_on (h.goes_on on);
+}
+
+-- the value or the fault of an attempt that is tried
+pub leads_valued : {A : Type 0} (P : A → Type 0) (Q : A → State → Type 0) (rs : trails.Reaches) (faults : Faults) (told : Told) (line : ℕ)
+    (a : Attempt A) (m : State) → IsTried P rs faults a → ((kind : Kind) → May kind faults → MayAt kind line told) →
+    ((x : A) → P x → Q x m) → Leads Q told (valued (alone line a) m)
+leads_valued P Q rs faults told line (Gives t x) m h may g = g x h.0
+leads_valued P Q rs faults told line (Fails t kind) m h may g = may kind h.1
+
+-- a statement that begins, and then its attempt
+pub leads_evaluated : {A : Type 0} (P : A → Type 0) (rs : trails.Reaches) (faults : Faults) (known : Standing) (began all : Told)
+    (n line : ℕ)
+    (a : State → Attempt A) (m : State) →
+    Leads (λ u s. (true ≡ true) × IsKnownAs known s × (s.team ≡ m.team)) began (counted n m) → IsKept began all →
+    ((s : State) → IsKnownAs known s → IsTried P rs faults (a s)) → ((kind : Kind) → May kind faults → MayAt kind line all) → m.team ≡ [] →
+    Leads (λ v s. P v × StandsFor known s) all (evaluated n line a m)
+leads_evaluated P rs faults known began all n line a m h k tried may none =
+    leads_then _ (λ v s. P v × StandsFor known s) began all (counted n m) _ h k
+    (λ u s g. leads_valued P (λ v s. P v × StandsFor known s) rs faults all line (a s) s (tried s g.1) may
+    (λ x p. (p, record { known_as = g.1; team = g.2 ∙ none })))
+
+pub leads_kept : {A : Type 0} (Q : A → State → Type 0) (told more : Told) (b : Behaviour A) → Leads Q told b → IsKept told more →
+    Leads Q more b
+leads_kept Q told more b h k = leads_on Q Q told more b h k (λ a m q. q)

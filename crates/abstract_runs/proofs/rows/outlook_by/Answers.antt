@@ -1,0 +1,33 @@
+use Rattle.std.proofs.Common.{arith, tests, rules, sym, subst, ap, ◌∙◌, [], FitsSigned, to_z, of_z}
+use Rattle.std.proofs.lemmas.Int.{to_z-of_z}
+use Rattle.std.specs.Int.{w64}
+use Rattle.pram_meaning.specs.Store.{member_of, Member}
+use Rattle.abstract_runs.specs.Covers.{Cover}
+use Rattle.abstract_runs.proofs.Members.{member_read, member_past}
+use Rattle.abstract_runs.proofs.rows.outlook_by.Goals as goal
+
+pub returns-in-Some : goal.returns-in-Some
+returns-in-Some c = λ m h.
+    let found = c.in-Some.ensures.lookup in
+    let g = member_read m.team c.args.team.now c.args.member c.in-Some.one.now (grind (arith, tests, found.0)) found.1 h.members in
+    let fits : FitsSigned w64 c.in-Some.one.now.index = search rules in
+    record {
+      layout = sym c.layout.ensures;
+      uniforms = h.known_as.uniforms;
+      cells = h.known_as.cells;
+      index = g.index ∙ sym (to_z-of_z w64 c.in-Some.one.now.index fits);
+      locals = g.locals;
+    }
+
+pub returns-in-None : goal.returns-in-None
+returns-in-None c = λ m h.
+    let found = c.in-None.ensures.lookup in
+    let g = member_past m.team c.args.team.now c.args.member (grind (arith, tests, found.0)) h.members in
+    record {
+      layout = sym c.layout-in-None.ensures;
+      uniforms = h.known_as.uniforms;
+      cells = h.known_as.cells;
+      index = ap (λ (k : Member). k.index) g;
+      locals = subst (λ l. Cover l (member_of m.team c.args.member).locals) (sym c.requires)
+          (subst (λ l. Cover [] l) (sym (ap (λ (k : Member). k.locals) g)) tt);
+    }

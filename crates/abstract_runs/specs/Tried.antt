@@ -1,0 +1,33 @@
+-- An attempt of which it is known where it reads, what it may give and how it may fail.
+use Rattle.std.specs.Prelude.{◌≡◌, ℕ, List, [], ◌∷◌, ◌++◌, length, Option, Some, None}
+use Rattle.pram_meaning.specs.Attempt.{Attempt, Gives, Fails, Trail}
+use Rattle.abstract_runs.specs.declared.faults.Faults.{Faults}
+use Rattle.abstract_runs.specs.declared.reach.Reach.{Reach}
+use Rattle.abstract_runs.specs.Covers.{IsReached}
+use Rattle.abstract_runs.specs.Faulting.{May}
+
+-- a cell that is read at a position lies in what is reached there
+abbrev pub IsReadIn : Option Reach → Option ℕ → Type 0
+IsReadIn reach None = Unit {0}
+IsReadIn None (Some c) = ⊥
+IsReadIn (Some reach) (Some c) = IsReached c reach
+
+-- a trail goes along the first of these positions
+abbrev pub GoesAlong : List (Option Reach) → Trail → Type 0
+GoesAlong reaches [] = Unit {0}
+GoesAlong [] (c ∷ t) = ⊥
+GoesAlong (r ∷ reaches) (c ∷ t) = IsReadIn r c × GoesAlong reaches t
+
+-- a trail goes along all of them
+pub record GoesThrough (reaches : List (Option Reach)) (t : Trail) : Type 0 where
+  pub along : GoesAlong reaches t
+  pub all : length t ≡ length reaches
+
+-- an attempt along these positions: it gives such a value behind the last one, or fails at one of them by a fault that may come
+abbrev pub IsTried : {A : Type 0} → (A → Type 0) → List (Option Reach) → Faults → Attempt A → Type 0
+IsTried Value reaches faults (Gives t a) = Value a × GoesThrough reaches t
+IsTried Value reaches faults (Fails t kind) = GoesAlong reaches t × May kind faults
+
+-- the first are the beginning of the second
+abbrev pub IsLonger : List (Option Reach) → List (Option Reach) → Type 0
+IsLonger reaches more = (rest : List (Option Reach)) × (more ≡ reaches ++ rest)

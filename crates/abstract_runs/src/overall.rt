@@ -1,0 +1,123 @@
+//! One run for all inputs of a scope.
+
+ghost use Rattle.std.specs.Prelude.{◌≡◌, ◌++◌, ◌-◌, ℤ, pos, List, length, replicate, true, Some, IfOk, OnOk};
+ghost use Rattle.write_rules.specs.Verdict.{Verdict};
+ghost use Rattle.pram_meaning.specs.Bounded.{perform_list};
+ghost use Rattle.pram_meaning.specs.Store.{State};
+ghost use Rattle.pram_meaning.specs.Outcome as meant;
+ghost use Rattle.pram_meaning.specs.Outcome.{IsOutcome};
+ghost use Rattle.abstract_runs.specs.Covers.{Cover};
+ghost use Rattle.abstract_runs.specs.Leads.{Leads};
+ghost use Rattle.abstract_runs.specs.Overall.{IsInScope, IsToldOf};
+ghost use Rattle.abstract_runs.specs.Standing.{StandsFor};
+
+use crate::halt::Halt;
+use crate::marks::marks_of;
+use crate::standing::Standing;
+use crate::survey::Survey;
+use crate::told::Told;
+use intervals::Interval;
+use pram_check::Program;
+use std::alloc::{AllocError, Global};
+
+/// The inputs of so many values, each of an interval.
+#[derive(Clone, Copy, Debug, PartialEq, Eq)]
+pub struct Scope {
+    pub values: u32,
+    pub of: Interval,
+}
+
+/// What is told of a program's runs on all inputs of a scope: the faults that may come, whether a run may go on behind the bound, and what
+/// is known of those that end, if any may.
+#[derive(Drop)]
+pub struct Overall {
+    pub told: Told,
+    pub end: Option<Standing>,
+}
+
+// More of the same interval, behind the others.
+fn add_more(items: &mut Vec<Interval>, more: u32, value: Interval) -> Result<(), AllocError>
+    ensures { OnOk result (items.new.items ≡ items.old.items ++ replicate more value) }
+{
+    items.resize(items.len() + more as usize, value)
+}
+
+// So many intervals, and behind them the number 0 alone.
+fn opening_cells(alloc: Global, cells: u32, scope: Scope) -> Result<Vec<Interval>, AllocError>
+    ensures { IfOk result (λ known. (input : List ℤ) → IsInScope scope input →
+        Cover known.items (input ++ replicate (cells - length input) (pos 0))) }
+{
+    let mut known = vec![in alloc; scope.of; scope.values as usize]?;
+    let more = cells.saturating_sub(scope.values);
+    add_more(&mut known, more, Interval::point(0))?;
+    Ok(known)
+}
+
+// What is known before the first statement.
+fn opening(alloc: Global, program: &Program, scope: Scope) -> Result<Standing, AllocError>
+    ensures { IfOk result (λ known. (input : List ℤ) → IsInScope scope input → StandsFor known (meant.opening program.now input)) }
+{
+    let uniforms = vec![in alloc; Interval::point(0); program.uniforms()]?;
+    let cells = opening_cells(alloc, program.layout().cells(), scope)?;
+    Ok(Standing {
+        least: 0,
+        most: 0,
+        uniforms,
+        cells,
+    })
+}
+
+// The whole body of the program; `false` where no run goes on.
+fn run_body(survey: &Survey, known: &mut Standing, told: &mut Told) -> Result<bool, Halt>
+    ensures leads { IfOk result (λ on. (m : State) → StandsFor known.old m → Leads (λ u n. (on ≡ true) × StandsFor known.new n) told.new
+        (perform_list survey.now.program.now survey.now.bound survey.now.program.now.body m)) }
+{
+    let body = survey.program.body();
+    for k in 0..body.len() {
+        let on = survey.run_statement(known, told, &body[k])?;
+        if !on {
+            return Ok(false);
+        }
+    }
+    Ok(true)
+}
+
+/// Runs a program once for all inputs of a scope, within a bound on its statements.
+pub fn run_for_all(
+    alloc: Global,
+    program: &Program,
+    scope: Scope,
+    bound: u32,
+) -> Result<Overall, Halt>
+    // The outcome of the program on each input of the scope is told: its fault by kind and line, that it goes on, or in what
+    // intervals its memory ends.
+    ensures told { IfOk result (λ overall. (input : List ℤ) (verdict : Verdict) → IsInScope scope input →
+        IsOutcome program.now input bound verdict → IsToldOf overall verdict) }
+{
+    let marks = marks_of(alloc, program, scope.of)?;
+    let mut known = opening(alloc, program, scope)?;
+    let mut told = Told::nothing(alloc);
+    let survey = Survey {
+        alloc,
+        program,
+        bound,
+        marks: marks.as_slice(),
+    };
+    let on = run_body(&survey, &mut known, &mut told)?;
+    Ok(overall_of(told, known, on))
+}
+
+// What is told, and what is known of the runs that end, if any may.
+fn overall_of(told: Told, known: Standing, on: bool) -> Overall
+    ensures told { result.told ≡ told }
+    ensures end { on ≡ true → result.end ≡ Some known }
+{
+    if on {
+        Overall {
+            told,
+            end: Some(known),
+        }
+    } else {
+        Overall { told, end: None }
+    }
+}

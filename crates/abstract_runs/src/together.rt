@@ -1,0 +1,62 @@
+//! Statements of a set of processors.
+
+ghost use Rattle.std.specs.Prelude.{◌≡◌, ◌≤◌, ◌<◌, ℕ, List, true, IfOk, IfSome, IsSomeAnd, OnOk};
+ghost use Rattle.pram_meaning.specs.Attempt.{attempt_step};
+ghost use Rattle.pram_meaning.specs.Bounded.{attempted_on};
+ghost use Rattle.pram_meaning.specs.Store.{State};
+ghost use Rattle.abstract_runs.specs.Following.{Follows};
+ghost use Rattle.abstract_runs.specs.Inside.{IsAttempted};
+ghost use Rattle.abstract_runs.specs.Leads.{Leads};
+ghost use Rattle.abstract_runs.specs.Rows.{AreActive};
+ghost use Rattle.abstract_runs.specs.Standing.{StandsWith};
+ghost use Rattle.abstract_runs.specs.Told.{IsKept};
+
+use crate::active::Active;
+use crate::conflicts::note_conflicts;
+use crate::faults::Faults;
+use crate::row::Row;
+use crate::standing::{Member, Standing};
+use crate::survey::Survey;
+use crate::told::Told;
+use pram_check::{Expression, StepTarget};
+use std::alloc::AllocError;
+
+impl<'a> Survey<'a> {
+    /// The parts of a set in a statement, where runs go on: it counts, and it may fault.
+    pub fn attempt_on(
+        &self,
+        known: &mut Standing,
+        told: &mut Told,
+        team: &Vec<Member>,
+        active: &[Active],
+        line: u32,
+        target: &StepTarget,
+        e: &Expression,
+    ) -> Result<Option<Vec<Row>>, AllocError>
+        // Each run goes on with parts of this kind, or comes to what is told.
+        ensures leads { IfOk result (λ found. (m : State) (vs : List ℕ) → StandsWith known.old team.now.items m → AreActive active.now vs →
+            Leads (λ xs n. IsSomeAnd found (λ rows. IsAttempted self.now.program.now rows.items vs xs) × StandsWith known.new team.now.items n)
+            told.new (attempted_on self.now.program.now self.now.bound line (λ s. attempt_step s target.now e.now) vs m)) }
+        // Where a run may stand at the bound, that is told.
+        ensures bound { OnOk result (self.now.bound ≤ known.old.most → told.new.may_go_on ≡ true) }
+        // Where there are parts, one statement more has run, and no more than the bound allows.
+        ensures more { IfOk result (λ found. IfSome found (λ rows. (known.old.least < known.new.least) × (known.old.least < self.now.bound))) }
+        ensures follows { Follows known.old known.new }
+        ensures kept { IsKept told.old told.new }
+    {
+        if !self.begin(known, told) {
+            return Ok(None);
+        }
+        let mut faults = Faults::none();
+        let rows = self.rows_of(known, team, active, target, e, &mut faults)?;
+        note_conflicts(
+            self.alloc,
+            self.program.rule(),
+            known.cells.len(),
+            &rows,
+            &mut faults,
+        )?;
+        told.note(line, faults)?;
+        Ok(Some(rows))
+    }
+}
