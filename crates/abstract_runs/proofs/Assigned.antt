@@ -2,7 +2,6 @@
 use Rattle.std.proofs.Common.{◌≡◌, ℕ, ◌++◌, ◌∷◌, [], ℤ, true, Option, Some, None, subst, sym}
 use Rattle.pram_values.specs.declared.kind.Kind.TheVariants.{OutOfRange}
 use Rattle.pram_meaning.specs.Attempt.{Attempt, Trail, and_then, write}
-use Rattle.pram_meaning.specs.Attempt as meant
 use Rattle.intervals.specs.declared.interval.Interval.{Interval}
 use Rattle.intervals.specs.Intervals.{IsIn}
 use Rattle.abstract_runs.specs.declared.effect.Effect.{Effect}

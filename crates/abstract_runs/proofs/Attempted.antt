@@ -1,5 +1,5 @@
 -- Reads, and chains of operations, from what is known.
-use Rattle.std.proofs.Common.{◌≡◌, ℕ, ◌++◌, ◌∷◌, [], ℤ, pos, true, List, Option, Some, None, sym, subst, Global, Box}
+use Rattle.std.proofs.Common.{◌≡◌, ℕ, ◌++◌, ◌∷◌, [], ℤ, pos, true, Option, Some, None, sym, subst, Global, Box}
 use Rattle.std.specs.Prelude.{slice_index_or}
 use Rattle.pram_values.specs.declared.kind.Kind.TheVariants.{OutOfRange}
 use Rattle.pram_meaning.specs.Attempt.{Trail, attempt, and_then, operation, read}

@@ -1,5 +1,5 @@
 -- The statements of a block inside pardo, in order, and choices.
-use Rattle.std.proofs.Common.{◌≡◌, ◌⊎◌, inr, ℕ, ◌+◌, ◌<◌, ◌≤◌, List, ◌∷◌, Bool, true, false, refl, ap, sym, subst, ◌∙◌, length, drop, get_or, Global, Vec}
+use Rattle.std.proofs.Common.{◌≡◌, inr, ℕ, ◌+◌, ◌<◌, ◌≤◌, List, ◌∷◌, Bool, true, false, refl, ap, sym, subst, ◌∙◌, length, drop, get_or, Global, Vec}
 use Rattle.std.proofs.lemmas.List.{drop_more, drop_all}
 use Rattle.pram_check.specs.Checked.{Checked}
 use Rattle.pram_tokens.specs.declared.token.Location.{Location}

@@ -1,7 +1,7 @@
 -- Two bounds, from what is known of each.
 use Rattle.std.proofs.Common.{◌≡◌, ℤ, [], Option, Some}
 use Rattle.pram_names.specs.declared.body.Expression.{Expression}
-use Rattle.pram_meaning.specs.Attempt.{Gives, Trail, attempt, attempt_bounds}
+use Rattle.pram_meaning.specs.Attempt.{Trail, attempt, attempt_bounds}
 use Rattle.pram_meaning.specs.Store.{View}
 use Rattle.intervals.specs.declared.interval.Interval.{Interval}
 use Rattle.intervals.specs.Intervals.{IsIn}

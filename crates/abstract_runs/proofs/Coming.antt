@@ -1,18 +1,13 @@
 -- Runs on their way: where a run comes to is told, or what is left of it comes from a state that is known.
-use Rattle.std.proofs.Common.{◌≡◌, ◌⊎◌, inl, inr, ℕ, zero, suc, ◌+◌, ◌<◌, ◌≤◌, List, ◌∷◌, [], Bool, true, false, refl, ap, sym, subst, ◌∙◌}
-use Rattle.std.proofs.Common.{length, drop, get_or, arith, if◌then◌else◌}
+use Rattle.std.proofs.Common.{◌≡◌, ◌⊎◌, inl, inr, ℕ, ◌+◌, ◌<◌, ◌≤◌, List, ◌∷◌, Bool, true, false, refl, ap, sym, subst, ◌∙◌}
+use Rattle.std.proofs.Common.{length, drop, get_or}
 use Rattle.std.proofs.lemmas.List.{drop_more, drop_all}
 use Rattle.pram_check.specs.Checked.{Checked}
-use Rattle.pram_names.specs.declared.body.Expression.{Expression}
 use Rattle.pram_names.specs.declared.body.Statement.{Statement}
-use Rattle.pram_meaning.specs.Bounded.{Behaviour, Done, Goes, Stops, Reaches, then_do, perform, perform_list, tested, turns}
+use Rattle.pram_meaning.specs.Bounded.{Behaviour, Done, Goes, Stops, Reaches, then_do, perform, perform_list}
 use Rattle.pram_meaning.specs.Store.{State}
-use Rattle.abstract_runs.specs.declared.decided.Decided.{Decided}
-use Rattle.abstract_runs.specs.declared.decided.Decided.TheVariants.{Yes, No}
 use Rattle.abstract_runs.specs.declared.standing.Standing.{Standing}
 use Rattle.abstract_runs.specs.declared.told.Told.{Told}
-use Rattle.abstract_runs.specs.Decided.{GoesWith}
-use Rattle.abstract_runs.specs.Following.{Follows}
 use Rattle.abstract_runs.specs.Leads.{Leads}
 use Rattle.abstract_runs.specs.Standing.{StandsFor}
 use Rattle.abstract_runs.specs.Told.{IsKept}

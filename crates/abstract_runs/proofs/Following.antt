@@ -1,7 +1,7 @@
 -- What is known later in a run: laws.
 use Rattle.std.proofs.Common.{refl, ◌∙◌, arith}
 use Rattle.abstract_runs.specs.declared.standing.Standing.{Standing}
-use Rattle.abstract_runs.specs.Following.{Follows, IsSameSize}
+use Rattle.abstract_runs.specs.Following.{Follows}
 
 pub follows_same : (a : Standing) → Follows a a
 follows_same a = record {

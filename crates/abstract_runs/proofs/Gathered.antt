@@ -1,9 +1,8 @@
 -- The processors of a pardo, as they are gathered.
-use Rattle.std.proofs.Common.{◌≡◌, ℕ, zero, suc, ◌+◌, ◌-◌, ◌<◌, ◌≤◌, ℤ, pos, ◌+ℤ◌, List, [], ◌∷◌, ◌++◌, replicate, map, sym, subst, ◌∙◌, arith, append_assoc, append-nil, true}
+use Rattle.std.proofs.Common.{◌≡◌, ℕ, zero, suc, ◌+◌, ◌-◌, ◌<◌, ◌≤◌, ℤ, pos, ◌+ℤ◌, List, [], ◌∷◌, ◌++◌, replicate, map, sym, subst, arith, append_assoc, append-nil, true}
 use Rattle.std.proofs.lemmas.Int.{ints}
 use Rattle.intervals.specs.declared.interval.Interval.{Interval}
 use Rattle.intervals.specs.Intervals.{IsIn}
-use Rattle.pram_meaning.specs.Store as store
 use Rattle.pram_meaning.specs.Store.{members}
 use Rattle.abstract_runs.specs.declared.active.Active.{Active}
 use Rattle.abstract_runs.specs.declared.standing.Member.{Member}

@@ -1,10 +1,9 @@
 -- Where runs come to, step by step.
-use Rattle.std.proofs.Common.{◌≡◌, ℕ, List, Ok, Err, ◌∙◌, true, false, [], Bool}
+use Rattle.std.proofs.Common.{◌≡◌, ℕ, ◌∙◌, true, []}
 use Rattle.pram_values.specs.declared.kind.Kind.{Kind}
-use Rattle.pram_check.specs.Checked.{Checked}
 use Rattle.pram_meaning.specs.Attempt.{Attempt, Gives, Fails}
-use Rattle.pram_meaning.specs.Bounded.{Behaviour, Done, Goes, Stops, Reaches, then_do, valued, counted, evaluated}
-use Rattle.pram_meaning.specs.Store.{State, View, seen}
+use Rattle.pram_meaning.specs.Bounded.{Behaviour, Goes, Stops, Reaches, then_do, valued, counted, evaluated}
+use Rattle.pram_meaning.specs.Store.{State}
 use Rattle.pram_meaning.specs.Together.{alone}
 use Rattle.abstract_runs.specs.declared.faults.Faults.{Faults}
 use Rattle.abstract_runs.specs.declared.standing.Standing.{Standing}

@@ -27,6 +27,7 @@ pub mod Places
 pub mod Ranged
 pub mod Reading
 pub mod RowLists
+pub mod RowSums
 pub mod Selected
 pub mod Sets
 pub mod Setting

@@ -1,13 +1,9 @@
 -- The processors of a pardo, one by one.
-use Rattle.std.proofs.Common.{◌≡◌, ℕ, zero, suc, List, [], ◌∷◌, ℤ, pos, refl, subst, sym, length, get_or, ◌<◌, ◌≤◌, arith}
-use Rattle.pram_check.specs.Checked.{Checked}
+use Rattle.std.proofs.Common.{◌≡◌, ℕ, zero, suc, List, [], ◌∷◌, pos, refl, subst, sym, length, get_or, ◌<◌, ◌≤◌, arith}
 use Rattle.pram_meaning.specs.Store as store
 use Rattle.pram_meaning.specs.Store.{member_of, seen_by}
-use Rattle.abstract_runs.specs.declared.outlook as outlook
 use Rattle.abstract_runs.specs.declared.standing.Member.{Member}
-use Rattle.abstract_runs.specs.declared.standing.Standing.{Standing}
-use Rattle.abstract_runs.specs.Covers.{Cover, Shows}
-use Rattle.abstract_runs.specs.Standing.{IsMemberOf, AreMembersOf, StandsWith}
+use Rattle.abstract_runs.specs.Standing.{IsMemberOf, AreMembersOf}
 
 -- one that is there
 pub member_read : (gs : List store.Member) (known : List Member) (v : ℕ) (one : Member) → v < length known → one ≡ get_or known v one →

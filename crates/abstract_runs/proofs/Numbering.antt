@@ -1,11 +1,11 @@
 -- A `for` on its way.
-use Rattle.std.proofs.Common.{◌≡◌, ◌⊎◌, inl, inr, ℕ, suc, ℤ, pos, ◌+ℤ◌, ◌≤ℤ◌, ◌<ℤ◌, List, Bool, true, false, refl, sym, subst, ap, ◌∙◌, arith}
+use Rattle.std.proofs.Common.{◌≡◌, ◌⊎◌, inl, inr, ℕ, ℤ, pos, ◌+ℤ◌, ◌≤ℤ◌, ◌<ℤ◌, List, Bool, true, false, refl, sym, subst, ap, ◌∙◌, arith}
 use Rattle.std.proofs.lemmas.Int.{ints, by_lt_z}
 use Rattle.pram_model.specs.Layout.{width}
 use Rattle.pram_check.specs.Checked.{Checked}
 use Rattle.pram_names.specs.declared.body.Statement.{Statement}
-use Rattle.pram_meaning.specs.Bounded.{Done, Goes, counted, for_turns, perform_list, then_do}
-use Rattle.pram_meaning.specs.Store.{State, no_team, with_uniform}
+use Rattle.pram_meaning.specs.Bounded.{Done, counted, for_turns, perform_list, then_do}
+use Rattle.pram_meaning.specs.Store.{State, with_uniform}
 use Rattle.pram_meaning.proofs.ForLoops.{width_more, width_none}
 use Rattle.abstract_runs.specs.declared.standing.Standing.{Standing}
 use Rattle.abstract_runs.specs.declared.told.Told.{Told}
@@ -13,7 +13,7 @@ use Rattle.abstract_runs.specs.Leads.{Leads}
 use Rattle.abstract_runs.specs.Standing.{IsKnownAs, StandsFor}
 use Rattle.abstract_runs.specs.Told.{IsKept}
 use Rattle.abstract_runs.proofs.Coming.{Comes, comes_leads, comes_on, then_comes}
-use Rattle.abstract_runs.proofs.Leading.{leads_then, leads_on, kept_same, kept_then}
+use Rattle.abstract_runs.proofs.Leading.{leads_then, kept_same, kept_then}
 
 cases_lt_z : (a z : ℤ) → (a <ℤ z) ⊎ (z ≤ℤ a)
 cases_lt_z a z = by_lt_z a z inl inr

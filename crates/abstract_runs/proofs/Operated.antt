@@ -1,5 +1,5 @@
 -- What operations give on members of intervals.
-use Rattle.std.proofs.Common.{◌≡◌, ℤ, ◌++◌, ◌∷◌, [], ◌⊎◌, Bool, true, false, None, Ok, Err, refl, inl, inr, ap, subst, sym, ◌∙◌, IsTrue}
+use Rattle.std.proofs.Common.{◌≡◌, ℤ, ◌++◌, ◌∷◌, [], ◌⊎◌, Bool, true, false, None, Ok, Err, refl, inl, inr, ap, subst, sym, ◌∙◌}
 use Rattle.std.proofs.Common.{◌+ℤ◌, ◌-ℤ◌, ◌*ℤ◌, neg_ℤ, if◌then◌else◌}
 use Rattle.pram_values.specs.declared.kind.Kind.{Kind}
 use Rattle.pram_values.specs.declared.kind.Kind.TheVariants.{Overflow, DivideByZero}
@@ -21,7 +21,7 @@ use Rattle.abstract_runs.specs.declared.faults.Faults.{Faults}
 use Rattle.abstract_runs.specs.Covers.{IsAmong}
 use Rattle.abstract_runs.specs.Faulting.{May}
 use Rattle.abstract_runs.specs.Tried.{GoesThrough, IsTried}
-use Rattle.abstract_runs.proofs.Trails.{Reaches, along_longer, longer_next, through_next}
+use Rattle.abstract_runs.proofs.Trails.{Reaches, through_next}
 
 -- no operation has another fault
 abbrev pub HasFewFaults : Value → Type 0

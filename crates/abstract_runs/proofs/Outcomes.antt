@@ -1,5 +1,5 @@
 -- A program's outcome lies in what is told.
-use Rattle.std.proofs.Common.{◌≡◌, ℕ, ◌≤◌, ◌-◌, List, ℤ, Bool, true, Some, IsSomeAnd, Option, sym, subst, ap, ◌∙◌, arith, refl}
+use Rattle.std.proofs.Common.{◌≡◌, ℕ, List, ℤ, Bool, true, Some, IsSomeAnd, sym, subst, ap, ◌∙◌, arith, refl}
 use Rattle.write_rules.specs.Verdict.{Verdict, Ended, Faulted, GoesOn}
 use Rattle.pram_check.specs.Checked.{Checked}
 use Rattle.pram_meaning.specs.Bounded.{Goes, Stops, Reaches, perform_list}

@@ -8,7 +8,6 @@ use Rattle.pram_model.specs.Layout.{SharedEntry, cell_at, cell_from, cell_of, si
 use Rattle.intervals.specs.declared.interval.Interval.{Interval}
 use Rattle.intervals.specs.Intervals.{IsIn}
 use Rattle.abstract_runs.specs.declared.placing.Place.{Place}
-use Rattle.abstract_runs.specs.declared.reach.Reach.{Reach}
 use Rattle.abstract_runs.specs.Placed.{IsPlacedBy}
 use Rattle.abstract_runs.specs.Tried.{IsReadIn}
 

@@ -1,5 +1,5 @@
 -- Cells that are joined one after the other.
-use Rattle.std.proofs.Common.{◌≡◌, ℕ, List, ℤ, pos, Bool, true, false, refl, subst, sym, ◌+◌, ◌<◌, ◌≤◌, nat_lt, arith, tests}
+use Rattle.std.proofs.Common.{◌≡◌, ℕ, List, ℤ, pos, Bool, true, false, refl, subst, ◌+◌, ◌<◌, ◌≤◌, nat_lt, arith, tests}
 use Rattle.std.specs.Prelude.{slice_index_or}
 use Rattle.intervals.specs.declared.interval.Interval.{Interval}
 use Rattle.intervals.specs.Intervals.{IsIn, IsJoin}

@@ -1,16 +1,15 @@
 -- Statements of a set of processors, from what is known.
 use Rattle.std.proofs.Common.{◌≡◌, ℕ, List, [], ◌∷◌, map, Option, Some, None, IfSome, IsSomeAnd, Vec, Global, IfErr, refl, ap, sym, subst}
-use Rattle.std.proofs.Common.{◌∙◌, true, Bool}
+use Rattle.std.proofs.Common.{true, Bool}
 use Rattle.pram_check.specs.Checked.{Checked}
 use Rattle.pram_values.specs.declared.kind.Kind.{Kind}
-use Rattle.write_rules.specs.declared.fault.Fault.{Fault}
 use Rattle.pram_meaning.specs.declared.key.Key.{Key}
 use Rattle.pram_meaning.specs.Attempt.{Attempt, Effect}
 use Rattle.pram_meaning.specs.Bounded.{Behaviour, attempted_on, counted, then_do, valued}
 use Rattle.pram_meaning.specs.Conflict.{Part, keys, least}
 use Rattle.pram_meaning.specs.Store as store
 use Rattle.pram_meaning.specs.Store.{View}
-use Rattle.pram_meaning.specs.Together.{on_key, part_of, parts, those, together}
+use Rattle.pram_meaning.specs.Together.{on_key, parts, those, together}
 use Rattle.abstract_runs.specs.declared.faults.Faults.{Faults}
 use Rattle.abstract_runs.specs.declared.row.Row.{Row}
 use Rattle.abstract_runs.specs.declared.standing.Member.{Member}

@@ -1,9 +1,9 @@
 -- Values that are set, and the intervals in which they lie.
 use Rattle.std.proofs.Common.{◌≡◌, ℕ, zero, suc, List, [], ◌∷◌, ℤ, pos, Bool, true, false, refl, ap, subst, length, ◌<◌, ◌≤◌, ◌+◌, arith}
-use Rattle.std.proofs.Common.{tests, nat_lt, nat_eq}
+use Rattle.std.proofs.Common.{tests, nat_lt}
 use Rattle.std.specs.Prelude.{slice_set, slice_index_or}
 use Rattle.intervals.specs.declared.interval.Interval.{Interval}
-use Rattle.intervals.specs.Intervals.{IsIn, IsJoin}
+use Rattle.intervals.specs.Intervals.{IsIn}
 use Rattle.abstract_runs.specs.Covers.{Cover}
 
 pub cover_set : (is : List Interval) (zs : List ℤ) (k : ℕ) (i : Interval) (v : ℤ) → Cover is zs → IsIn v i →

@@ -1,5 +1,5 @@
 -- Sets that surely have a member.
-use Rattle.std.proofs.Common.{◌≡◌, ◌≢◌, ℕ, zero, suc, List, [], ◌∷◌, Bool, true, nat_eq, get_or, length, ◌<◌, arith, refl, sym, ◌∙◌}
+use Rattle.std.proofs.Common.{◌≡◌, ◌≢◌, ℕ, zero, suc, List, [], ◌∷◌, true, nat_eq, get_or, length, ◌<◌, arith, refl, sym, ◌∙◌}
 use Rattle.std.proofs.lemmas.Bool.{eqb-true}
 use Rattle.abstract_runs.specs.declared.active.Active.{Active}
 use Rattle.abstract_runs.specs.Rows.{AreActive}

@@ -1,5 +1,5 @@
 -- Positions that an attempt has gone along.
-use Rattle.std.proofs.Common.{◌≡◌, ℕ, suc, zero, List, [], ◌∷◌, ◌++◌, length, Option, Some, None, refl, ap, sym, subst, ◌∙◌, ◌+◌, arith}
+use Rattle.std.proofs.Common.{◌≡◌, ℕ, List, [], ◌∷◌, ◌++◌, length, Option, refl, ap, sym, subst, ◌∙◌, ◌+◌, arith}
 use Rattle.std.proofs.Common.{append_assoc, append-nil}
 use Rattle.pram_meaning.specs.Attempt.{Attempt, Gives, Fails, Trail, and_then}
 use Rattle.abstract_runs.specs.declared.faults.Faults.{Faults}

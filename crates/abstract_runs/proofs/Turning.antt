@@ -1,9 +1,9 @@
 -- A loop on its way, each of whose tests came out one way.
-use Rattle.std.proofs.Common.{◌≡◌, inl, inr, ℕ, zero, suc, ◌+◌, ◌<◌, ◌≤◌, List, Bool, true, false, refl, sym, subst, ◌∙◌, arith, if◌then◌else◌}
+use Rattle.std.proofs.Common.{◌≡◌, inr, ℕ, zero, suc, ◌+◌, ◌<◌, ◌≤◌, List, Bool, true, false, refl, sym, subst, ◌∙◌, arith}
 use Rattle.pram_check.specs.Checked.{Checked}
 use Rattle.pram_names.specs.declared.body.Expression.{Expression}
 use Rattle.pram_names.specs.declared.body.Statement.{Statement}
-use Rattle.pram_meaning.specs.Bounded.{Done, Reaches, then_do, perform_list, tested, turns}
+use Rattle.pram_meaning.specs.Bounded.{Done, perform_list, tested, turns}
 use Rattle.pram_meaning.specs.Store.{State}
 use Rattle.abstract_runs.specs.declared.standing.Standing.{Standing}
 use Rattle.abstract_runs.specs.declared.told.Told.{Told}

@@ -1,10 +1,10 @@
 -- A loop of a set on its way.
-use Rattle.std.proofs.Common.{◌≡◌, ◌≢◌, inl, inr, ℕ, zero, suc, ◌+◌, ◌<◌, ◌≤◌, List, [], ◌∷◌, Bool, true, false, refl, sym, subst, ◌∙◌, arith, map}
-use Rattle.std.proofs.Common.{Option, Some, None, Vec, Global}
+use Rattle.std.proofs.Common.{◌≡◌, ◌≢◌, inr, ℕ, zero, suc, ◌+◌, ◌<◌, ◌≤◌, List, [], ◌∷◌, Bool, true, false, refl, sym, subst, ◌∙◌, arith, map}
+use Rattle.std.proofs.Common.{Option, Vec, Global}
 use Rattle.pram_check.specs.Checked.{Checked}
 use Rattle.pram_names.specs.declared.body.Expression.{Expression}
 use Rattle.pram_names.specs.declared.body.Step.{Step}
-use Rattle.pram_meaning.specs.Bounded.{Done, Goes, Reaches, then_do, perform_list_on, tested_on, turns_on, unless_none}
+use Rattle.pram_meaning.specs.Bounded.{Done, Goes, perform_list_on, tested_on, turns_on, unless_none}
 use Rattle.pram_meaning.specs.Conflict.{Part}
 use Rattle.pram_meaning.specs.Store.{State}
 use Rattle.pram_meaning.specs.Together.{those}

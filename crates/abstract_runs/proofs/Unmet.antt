@@ -1,7 +1,7 @@
 -- Reaches that have been gone over, none of which has a cell of another.
 use Rattle.std.proofs.Common.{◌≡◌, ℕ, ◌<◌, ◌≤◌, ◌+◌, List, Option, Some, None, Bool, true, false, refl, sym, subst, ◌∙◌, arith, tests}
 use Rattle.std.proofs.Common.{nat_lt, length, get_or}
-use Rattle.std.specs.Prelude.{slice_get, slice_index_or}
+use Rattle.std.specs.Prelude.{slice_index_or}
 use Rattle.std.proofs.lemmas.Option.{get_or_from_slice_get, slice_get_within}
 use Rattle.abstract_runs.specs.declared.reach.Reach.{Reach}
 use Rattle.abstract_runs.specs.Covers.{IsReached}

@@ -1,8 +1,6 @@
 -- Where subscripts lead.
 use Rattle.std.specs.Prelude.{◌≡◌, ℕ, true, Option, Some, None}
 use Rattle.abstract_runs.specs.declared.placing.Place.{Place}
-use Rattle.abstract_runs.specs.declared.reach.Reach.{Reach}
-use Rattle.abstract_runs.specs.Covers.{IsReached}
 use Rattle.abstract_runs.specs.Tried.{IsReadIn}
 
 -- a cell that is reached, or no cell where a subscript may be outside

@@ -1,5 +1,5 @@
 -- What is told of all runs together, and what a run has of it.
-use Rattle.std.specs.Prelude.{◌≡◌, ℕ, List, true}
+use Rattle.std.specs.Prelude.{◌≡◌, ℕ, true}
 use Rattle.std.specs.List.{Contains}
 use Rattle.pram_values.specs.declared.kind.Kind.{Kind}
 use Rattle.abstract_runs.specs.declared.told.LineFaults.{LineFaults}

@@ -40,7 +40,7 @@ pub fact_passed : (P : ℤ → Type 0) (x y : ℤ) → FitsSigned w64 x → P (t
 fact_passed P x y f h e = subst P (to_z-of_z w64 x f ∙ e) h
 
 -- what a comparison of numbers of 64 bits says
-le_is : (x y : ℤ) → int_le x y ≡ true → x ≤ℤ y
+pub le_is : (x y : ℤ) → int_le x y ≡ true → x ≤ℤ y
 le_is x y h = grind (arith, ints)
 
 pub le_passed : (x y : ℤ) → FitsSigned w64 x → FitsSigned w64 y → int_le (to_z w64 (of_z w64 x)) (to_z w64 (of_z w64 y)) ≡ true → x ≤ℤ y

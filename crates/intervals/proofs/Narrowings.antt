@@ -7,7 +7,10 @@ use Rattle.intervals.specs.declared.comparison.Comparison.TheVariants.{Equal, Un
 use Rattle.intervals.specs.declared.interval.Interval.{Interval}
 use Rattle.intervals.specs.Intervals.{IsIn, IsMeet}
 use Rattle.intervals.specs.Narrowing.{Remains, IsNarrowed}
+use Rattle.intervals.proofs.Ends.{le_is}
 use Rattle.intervals.proofs.Joins.{least_in, greatest_in}
+use Rattle.intervals.proofs.Rests.{one_member}
+use Rattle.intervals.proofs.Truths.{equal_same, same_equal}
 
 -- the members on one side of a bound
 abbrev pub AreAtMost : Interval → Option Interval → ℤ → Type 0
@@ -30,15 +33,6 @@ lt_is x y h = grind (arith, ints)
 
 le_if : (x y : ℤ) → x ≤ℤ y → int_le x y ≡ true
 le_if x y h = grind (arith, ints)
-
-le_is : (x y : ℤ) → int_le x y ≡ true → x ≤ℤ y
-le_is x y h = grind (arith, ints)
-
-same_equal : (x : ℤ) → is_equal x x ≡ true
-same_equal x = grind (arith, ints)
-
-equal_same : (x y : ℤ) → is_equal x y ≡ true → x ≡ y
-equal_same x y h = grind (arith, ints)
 
 differ_by : (x y : ℤ) (v : Bool) → is_equal x y ≡ v → x ≢ y → not v ≡ true
 differ_by x y true e n = absurd (n (equal_same x y e))
@@ -150,9 +144,6 @@ without_below a (Some i) v h m =
       within = (low.0, high.0);
       reached = (λ e. let l : i.least <ℤ v = low.1 in omega (arith, ints), λ e. let l : i.greatest <ℤ v = high.1 in omega (arith, ints));
     }
-
-one_member : (b : Interval) (y : ℤ) → b.least ≡ b.greatest → IsIn y b → y ≡ b.least
-one_member b y e h = omega (arith, ints)
 
 others_ends : (a b : Interval) (o : Option Interval) → IfSome o (λ i. IsIn i.least a × IsIn i.greatest a) → IfSome o (λ i. (i.least ≢ b.least) × (i.greatest ≢ b.least))
     → IfSome o (λ i. Remains Unequal a b i.least × Remains Unequal a b i.greatest)

@@ -1,4 +1,4 @@
-use Rattle.std.proofs.Common.{rules, ap, ◌+◌, subst, ◌≤◌}
+use Rattle.std.proofs.Common.{ap, ◌+◌, subst, ◌≤◌}
 use Rattle.abstract_runs.proofs.Unmet.{all_unmet, next_behind, none_more}
 use Rattle.abstract_runs.proofs.apart.ascend.Goals as goal
 

@@ -1,10 +1,7 @@
-use Rattle.std.proofs.Common.{rules, sym, subst, ap}
-use Rattle.pram_meaning.specs.Attempt.{attempt, operation}
-use Rattle.abstract_runs.specs.Covers.{IsAmong}
-use Rattle.abstract_runs.specs.Tried.{IsTried}
+use Rattle.std.proofs.Common.{rules}
 use Rattle.abstract_runs.proofs.Chains.{comes_first, comes_on, comes_last, operand_stops, operation_stops}
 use Rattle.abstract_runs.proofs.Attempted.{element_tried, prefix_tried}
-use Rattle.abstract_runs.proofs.Trails.{longer_then, tried_then}
+use Rattle.abstract_runs.proofs.Trails.{longer_then}
 use Rattle.abstract_runs.proofs.attempt.+value_of.Goals as goal
 
 pub loop-link-init : goal.loop-link-init

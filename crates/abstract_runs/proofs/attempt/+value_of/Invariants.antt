@@ -1,9 +1,6 @@
-use Rattle.std.proofs.Common.{drop, List, Option}
-use Rattle.pram_meaning.specs.Attempt.{Trail, attempt}
-use Rattle.pram_meaning.specs.Store.{View}
-use Rattle.abstract_runs.specs.Covers.{Shows}
+use Rattle.std.proofs.Common.{drop}
 use Rattle.abstract_runs.specs.Faulting.{AreKept}
-use Rattle.abstract_runs.specs.Tried.{GoesThrough, IsLonger}
+use Rattle.abstract_runs.specs.Tried.{IsLonger}
 use Rattle.abstract_runs.proofs.Chains.{IsOnWay}
 use Rattle.abstract_runs.proofs.attempt.+value_of.Given as goal
 

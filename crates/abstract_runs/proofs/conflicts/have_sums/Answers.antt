@@ -1,6 +1,6 @@
 use Rattle.std.proofs.Common.{rules, sym, ◌∙◌, ◌≡◌, to_z, of_z, w64, ◌+ℤ◌, pos}
 use Rattle.std.specs.Int.{int_min, int_max}
-use Rattle.abstract_runs.proofs.SharedWrites.{low_more, high_more}
+use Rattle.abstract_runs.proofs.RowSums.{low_more, high_more}
 use Rattle.abstract_runs.proofs.conflicts.have_sums.Goals as goal
 
 pub loop-k-preserved : goal.loop-k-preserved

@@ -2,7 +2,7 @@ use Rattle.std.proofs.Common.{subst, to_z, of_z, w64, rules, FitsSigned}
 use Rattle.std.proofs.lemmas.Int.{to_z-of_z}
 use Rattle.std.specs.List.{All}
 use Rattle.abstract_runs.specs.Columns.{WritesOnly}
-use Rattle.abstract_runs.proofs.SharedWrites.{all_more, all_end}
+use Rattle.abstract_runs.proofs.RowSums.{all_more, all_end}
 use Rattle.abstract_runs.proofs.conflicts.write_only.Goals as goal
 
 pub loop-k-preserved : goal.loop-k-preserved

@@ -1,4 +1,4 @@
-use Rattle.std.proofs.Common.{ℤ, pos, sym, subst, refl, arith, tests}
+use Rattle.std.proofs.Common.{pos, sym, subst, refl, arith, tests}
 use Rattle.intervals.specs.Intervals.{IsIn}
 use Rattle.abstract_runs.proofs.Covering.{covered_past, covered_read}
 use Rattle.abstract_runs.proofs.outlook.interval_at.Goals as goal

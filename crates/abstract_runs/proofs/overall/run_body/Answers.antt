@@ -1,4 +1,4 @@
-use Rattle.std.proofs.Common.{◌≡◌, true, false, Bool, refl}
+use Rattle.std.proofs.Common.{◌≡◌, true, false}
 use Rattle.abstract_runs.specs.Standing.{StandsFor}
 use Rattle.abstract_runs.proofs.Coming.{at_items, block_goes, block_stops}
 use Rattle.abstract_runs.proofs.overall.run_body.Goals as goal

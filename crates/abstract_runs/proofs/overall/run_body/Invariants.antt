@@ -1,4 +1,3 @@
-use Rattle.abstract_runs.specs.Told.{IsKept}
 use Rattle.abstract_runs.proofs.Coming.{InBlock}
 use Rattle.abstract_runs.proofs.overall.run_body.Given as goal
 

@@ -1,4 +1,4 @@
-use Rattle.std.proofs.Common.{rules, ◌≡◌, ℤ, ℕ, IsSomeAnd, ◌∙◌, sym, subst, to_z, of_z, w64, [], Some}
+use Rattle.std.proofs.Common.{rules, ◌≡◌, ℤ, ℕ, IsSomeAnd, ◌∙◌, sym, subst, to_z, of_z, w64}
 use Rattle.pram_model.specs.Layout.{width}
 use Rattle.pram_meaning.specs.Attempt.{ranged}
 use Rattle.abstract_runs.specs.Tried.{IsTried}

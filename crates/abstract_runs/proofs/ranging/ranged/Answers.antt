@@ -1,4 +1,4 @@
-use Rattle.std.proofs.Common.{rules, ◌≡◌, ◌≤◌, ◌<◌, ℤ, ℕ, ◌∙◌, sym, subst, to_z, of_z, w64}
+use Rattle.std.proofs.Common.{rules, ◌≡◌, ◌≤◌, ◌<◌, ◌∙◌, sym, subst, to_z, of_z, w64}
 use Rattle.pram_model.specs.Layout.{width}
 use Rattle.abstract_runs.proofs.Ranged.{counted_is, none_is, narrow_tried, wide_tried}
 use Rattle.abstract_runs.proofs.ranging.ranged.Goals as goal

@@ -1,5 +1,5 @@
 use Rattle.abstract_runs.specs.Columns.{HasWords}
-use Rattle.abstract_runs.proofs.SharedWrites.{all_more, targets_more}
+use Rattle.abstract_runs.proofs.RowSums.{all_more, targets_more}
 use Rattle.abstract_runs.proofs.row.targets.Goals as goal
 
 pub loop-k-preserved : goal.loop-k-preserved

@@ -1,4 +1,4 @@
-use Rattle.std.proofs.Common.{arith, tests, rules, sym, subst, ap, ◌∙◌, [], FitsSigned, to_z, of_z}
+use Rattle.std.proofs.Common.{arith, tests, rules, sym, subst, ap, ◌∙◌, [], FitsSigned}
 use Rattle.std.proofs.lemmas.Int.{to_z-of_z}
 use Rattle.std.specs.Int.{w64}
 use Rattle.pram_meaning.specs.Store.{member_of, Member}

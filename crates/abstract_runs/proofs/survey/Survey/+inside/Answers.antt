@@ -1,15 +1,12 @@
-use Rattle.std.proofs.Common.{arith, ◌≡◌, ◌∙◌, true, false, ℕ, List, [], Some, refl, ap, sym, subst, inr}
-use Rattle.pram_meaning.specs.Bounded.{perform_on, tested_on}
-use Rattle.pram_meaning.specs.Conflict.{Part}
-use Rattle.pram_meaning.specs.Store.{State}
+use Rattle.std.proofs.Common.{arith, ◌≡◌, ◌∙◌, true, false, [], refl, ap, sym, subst, inr}
+use Rattle.pram_meaning.specs.Bounded.{perform_on}
 use Rattle.pram_meaning.specs.Together.{those}
 use Rattle.abstract_runs.specs.Leads.{Leads}
 use Rattle.abstract_runs.specs.Likeness.{AreLike}
-use Rattle.abstract_runs.specs.Rows.{AreActive}
 use Rattle.abstract_runs.specs.Standing.{StandsWith}
 use Rattle.abstract_runs.proofs.BlocksOn.{at_items, block_goes, block_stops, if_is, stops_then, while_is}
 use Rattle.abstract_runs.proofs.Following.{follows_same, follows_then}
-use Rattle.abstract_runs.proofs.Leading.{kept_same, kept_then, leads_kept, leads_then}
+use Rattle.abstract_runs.proofs.Leading.{kept_same, kept_then, leads_then}
 use Rattle.abstract_runs.proofs.Sets.{active_as, attempted_as, found_then, goes_way, more_of, not_attempted}
 use Rattle.abstract_runs.proofs.Standings.{bound_passed, follows_copy, stands_later, stands_as, stands_copied}
 use Rattle.abstract_runs.proofs.SureMembers.{empty_is, none_active}

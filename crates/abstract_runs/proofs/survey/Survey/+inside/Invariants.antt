@@ -1,8 +1,8 @@
-use Rattle.std.proofs.Common.{◌-◌, ◌≤◌, List}
-use Rattle.pram_meaning.specs.Store.{State, Member}
+use Rattle.std.proofs.Common.{◌-◌, ◌≤◌}
+use Rattle.pram_meaning.specs.Store.{State}
 use Rattle.abstract_runs.specs.Following.{Follows}
 use Rattle.abstract_runs.specs.Likeness.{AreLike}
-use Rattle.abstract_runs.specs.Standing.{AreMembersOf, StandsWith}
+use Rattle.abstract_runs.specs.Standing.{StandsWith}
 use Rattle.abstract_runs.specs.Told.{IsKept}
 use Rattle.abstract_runs.proofs.BlocksOn.{InBlockOn}
 use Rattle.abstract_runs.proofs.TurningOn.{InTurnsOn}
