@@ -5,15 +5,15 @@ use Rattle.pram_meaning.specs.Attempt.{Attempt, Trail, and_then, write}
 use Rattle.intervals.specs.declared.interval.Interval.{Interval}
 use Rattle.intervals.specs.Intervals.{IsIn}
 use Rattle.abstract_runs.specs.declared.effect.Effect.{Effect}
-use Rattle.abstract_runs.specs.declared.faults.Faults.{Faults}
+use Rattle.all_inputs.specs.declared.faults.Faults.{Faults}
 use Rattle.abstract_runs.specs.declared.placing.Place.{Place}
 use Rattle.abstract_runs.specs.declared.reach.Reach.{Reach}
 use Rattle.abstract_runs.specs.Covers.{IsAmong}
 use Rattle.abstract_runs.specs.Effects.{IsGivenBy}
-use Rattle.abstract_runs.specs.Faulting.{May, AreKept}
+use Rattle.all_inputs.specs.Faulting.{May, AreKept}
 use Rattle.abstract_runs.specs.Placed.{IsPlacedBy}
 use Rattle.abstract_runs.specs.Tried.{IsReadIn, GoesThrough, IsTried, IsLonger}
-use Rattle.abstract_runs.proofs.Trails.{Reaches, through_next, tried_then}
+use Rattle.abstract_runs.proofs.Trails.{Reaches, along_last, through_next, tried_then}
 
 -- what a write gives where these cells are reached
 abbrev pub IsWrittenTo : Option Reach → Interval → Option Effect → Type 0
@@ -29,9 +29,9 @@ given_by (Some reach) value effect c v r w i =
 pub write_tried : (place : Place) (found : Option ℕ) (value : Interval) (effect : Option Effect) (rs more : Reaches) (faults : Faults)
     (t : Trail) (v : ℤ) → IsPlacedBy place found → (place.may_be_outside ≡ true → May OutOfRange faults) → more ≡ rs ++ None ∷ [] →
     IsWrittenTo place.reach value effect → IsIn v value → GoesThrough rs t → IsTried (IsGivenBy effect) more faults (write found t v)
-write_tried place None value effect rs more faults t v p may m w i g = ((through_next rs more t None None g tt m).along, may p)
+write_tried place None value effect rs more faults t v p may m w i g = (along_last rs more t None None g tt m, may p)
 write_tried place (Some c) value effect rs more faults t v p may m w i g =
-    (given_by place.reach value effect c v p w i, through_next rs more t None None g tt m)
+    (given_by place.reach value effect c v p w i, through_next rs more t None None g tt tt m)
 
 -- a value that is some interval's, and then what is made of it
 pub given_then : {B : Type 0} (Q : B → Type 0) (mid end : Reaches) (some all : Faults) (a : Attempt ℤ) (f : Trail → ℤ → Attempt B)

@@ -11,14 +11,14 @@ use Rattle.pram_trees.specs.declared.tree.Prefix.{Prefix}
 use Rattle.pram_meaning.specs.Store.{View}
 use Rattle.intervals.specs.declared.interval.Interval.{Interval}
 use Rattle.intervals.specs.Intervals.{IsIn}
-use Rattle.abstract_runs.specs.declared.faults.Faults.{Faults}
+use Rattle.all_inputs.specs.declared.faults.Faults.{Faults}
 use Rattle.abstract_runs.specs.declared.placing.Place.{Place}
 use Rattle.abstract_runs.specs.declared.reach.Reach.{Reach}
 use Rattle.abstract_runs.specs.Covers.{IsAmong, IsReached}
-use Rattle.abstract_runs.specs.Faulting.{May, AreKept}
+use Rattle.all_inputs.specs.Faulting.{May, AreKept}
 use Rattle.abstract_runs.specs.Placed.{IsPlacedBy}
 use Rattle.abstract_runs.specs.Tried.{IsReadIn, GoesThrough, IsTried, IsLonger}
-use Rattle.abstract_runs.proofs.Trails.{Reaches, through_next, tried_then}
+use Rattle.abstract_runs.proofs.Trails.{IsRead, Reaches, along_last, through_next, tried_then}
 
 -- what the cells that are reached give
 abbrev pub AreReadBy : Option Reach → Option Interval → View → Type 0
@@ -30,12 +30,16 @@ value_read : (reach : Option Reach) (value : Option Interval) (s : View) (c : �
 value_read None value s c i h = absurd i
 value_read (Some reach) value s c i h = h c i
 
+is_read : (r : Option Reach) (c : ℕ) → IsRead r (Some c)
+is_read None c = tt
+is_read (Some reach) c = tt
+
 pub read_tried : (s : View) (place : Place) (found : Option ℕ) (value : Option Interval) (rs more : Reaches) (faults : Faults) (t : Trail) →
     IsPlacedBy place found → (place.may_be_outside ≡ true → May OutOfRange faults) → more ≡ rs ++ place.reach ∷ [] →
     AreReadBy place.reach value s → GoesThrough rs t → IsTried (IsAmong value) more faults (read s found t)
-read_tried s place None value rs more faults t p may m h g = ((through_next rs more t place.reach None g tt m).along, may p)
+read_tried s place None value rs more faults t p may m h g = (along_last rs more t place.reach None g tt m, may p)
 read_tried s place (Some c) value rs more faults t p may m h g =
-    (value_read place.reach value s c p h, through_next rs more t place.reach (Some c) g p m)
+    (value_read place.reach value s c p h, through_next rs more t place.reach (Some c) g p (is_read place.reach c) m)
 
 -- a subscript, and then the read
 pub element_tried : (s : View) (e x : Expression) (a : ℕ) (subscript : Box Expression Global) (t : Trail) (mid end : Reaches)

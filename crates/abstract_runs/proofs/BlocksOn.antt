@@ -14,11 +14,11 @@ use Rattle.pram_meaning.proofs.SetBlocks.{block_is}
 use Rattle.abstract_runs.specs.declared.active.Active.{Active}
 use Rattle.abstract_runs.specs.declared.standing.Member.{Member}
 use Rattle.abstract_runs.specs.declared.standing.Standing.{Standing}
-use Rattle.abstract_runs.specs.declared.told.Told.{Told}
+use Rattle.all_inputs.specs.declared.told.Told.{Told}
 use Rattle.abstract_runs.specs.Leads.{Leads}
 use Rattle.abstract_runs.specs.Rows.{AreActive}
 use Rattle.abstract_runs.specs.Standing.{StandsWith}
-use Rattle.abstract_runs.specs.Told.{IsKept}
+use Rattle.all_inputs.specs.Told.{IsKept}
 use Rattle.abstract_runs.proofs.Coming.{Comes, comes_leads, comes_on, then_comes}
 use Rattle.abstract_runs.proofs.Leading.{leads_then, kept_same}
 

@@ -5,9 +5,9 @@ use Rattle.pram_meaning.specs.Attempt.{Trail, attempt, attempt_bounds}
 use Rattle.pram_meaning.specs.Store.{View}
 use Rattle.intervals.specs.declared.interval.Interval.{Interval}
 use Rattle.intervals.specs.Intervals.{IsIn}
-use Rattle.abstract_runs.specs.declared.faults.Faults.{Faults}
+use Rattle.all_inputs.specs.declared.faults.Faults.{Faults}
 use Rattle.abstract_runs.specs.Covers.{IsAmong}
-use Rattle.abstract_runs.specs.Faulting.{AreKept}
+use Rattle.all_inputs.specs.Faulting.{AreKept}
 use Rattle.abstract_runs.specs.Tried.{GoesThrough, IsTried, IsLonger}
 use Rattle.abstract_runs.proofs.Assigned.{given_then}
 use Rattle.abstract_runs.proofs.Trails.{Reaches, tried_then, longer_same}

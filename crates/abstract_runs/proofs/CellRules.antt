@@ -16,7 +16,7 @@ use Rattle.intervals.specs.declared.interval.Interval.{Interval}
 use Rattle.intervals.specs.Intervals.{IsIn}
 use Rattle.pram_meaning.specs.Conflict.{Part, write_to, writes_by, writes_to}
 use Rattle.pram_meaning.specs.Together.{overwritten, settled}
-use Rattle.abstract_runs.specs.Covers.{Cover}
+use Rattle.all_inputs.specs.Overall.{Cover}
 use Rattle.abstract_runs.specs.Writing.{MayLeave}
 use Rattle.pram_meaning.proofs.Overwrites.{length_over}
 use Rattle.abstract_runs.proofs.CellValues.{at_cell}

@@ -8,7 +8,7 @@ use Rattle.pram_meaning.specs.Attempt as meant
 use Rattle.pram_meaning.specs.Attempt.{Attempt, Gives, Fails}
 use Rattle.pram_meaning.specs.Conflict.{Part, write_to, writes_by, writes_to}
 use Rattle.abstract_runs.specs.declared.effect.Effect.{Effect}
-use Rattle.abstract_runs.specs.declared.faults.Faults.{Faults}
+use Rattle.all_inputs.specs.declared.faults.Faults.{Faults}
 use Rattle.abstract_runs.specs.declared.reach.Reach.{Reach}
 use Rattle.abstract_runs.specs.declared.row.Row.{Row}
 use Rattle.abstract_runs.specs.Apart.{AreApart, Reaches}

@@ -11,10 +11,10 @@ use Rattle.pram_meaning.specs.Store.{View}
 use Rattle.pram_meaning.proofs.Links.{attempt_items, attempt_chain}
 use Rattle.intervals.specs.declared.interval.Interval.{Interval}
 use Rattle.intervals.specs.Intervals.{IsIn}
-use Rattle.abstract_runs.specs.declared.faults.Faults.{Faults}
+use Rattle.all_inputs.specs.declared.faults.Faults.{Faults}
 use Rattle.abstract_runs.specs.declared.outlook as outlook
 use Rattle.abstract_runs.specs.Covers.{IsAmong, Shows}
-use Rattle.abstract_runs.specs.Faulting.{May, AreKept}
+use Rattle.all_inputs.specs.Faulting.{May, AreKept}
 use Rattle.abstract_runs.specs.Tried.{GoesAlong, GoesThrough, IsTried, IsLonger}
 use Rattle.abstract_runs.proofs.Trails.{Reaches, along_longer, longer_then, tried_then}
 

@@ -10,57 +10,59 @@ use Rattle.pram_meaning.specs.Bounded.{evaluated, for_turns, perform, perform_li
 use Rattle.pram_meaning.specs.Store.{State, seen}
 use Rattle.pram_meaning.proofs.Blocks.{block_is, if_is}
 use Rattle.abstract_runs.specs.declared.standing.Standing.{Standing}
-use Rattle.abstract_runs.specs.declared.told.Told.{Told}
+use Rattle.all_inputs.specs.declared.told.Told.{Told}
 use Rattle.abstract_runs.specs.Leads.{Leads}
 use Rattle.abstract_runs.specs.Standing.{StandsFor}
-use Rattle.abstract_runs.specs.Told.{IsKept}
+use Rattle.abstract_runs.specs.Tests.{ComesTo}
+use Rattle.all_inputs.specs.Told.{IsKept}
 use Rattle.abstract_runs.proofs.Leading.{leads_then, leads_on, kept_same}
 
-pub if_leads : (p : Checked) (n : ℕ) (here : Location) (s : Statement) (e : Expression) (a b : Vec Statement Global) (Out : Bool → Type 0)
+pub if_leads : (p : Checked) (n : ℕ) (here : Location) (s : Statement) (e : Expression) (a b : Vec Statement Global) (Out : Bool → State → Type 0)
     (tested_known : Standing) (mid told : Told) (Q : Unit {0} → State → Type 0) (m : State) → s ≡ If here e a b →
-    Leads (λ b s. Out b × StandsFor tested_known s) mid (tested p n here.line e m) → IsKept mid told →
-    ((z : Bool) (s : State) → Out z → StandsFor tested_known s →
+    Leads (λ b s. Out b s × StandsFor tested_known s) mid (tested p n here.line e m) → IsKept mid told →
+    ((z : Bool) (s : State) → Out z s → StandsFor tested_known s →
     Leads Q told (if z then perform_list p n a.items s else perform_list p n b.items s)) → Leads Q told (perform p n s m)
 if_leads p n here s e a b Out tested_known mid told Q m is leads k next =
     subst (Leads Q told) (sym (ap (λ s. perform p n s m) is ∙ if_is p n here e a b m))
-    (leads_then (λ b s. Out b × StandsFor tested_known s) Q mid told (tested p n here.line e m) _ leads k (λ z s g. next z s g.0 g.1))
+    (leads_then (λ b s. Out b s × StandsFor tested_known s) Q mid told (tested p n here.line e m) _ leads k (λ z s g. next z s g.0 g.1))
 
-module _ (p : Checked) (n : ℕ) (here : Location) (s : Statement) (e : Expression) (a b : Vec Statement Global) (Out : Bool → Type 0)
+module _ (p : Checked) (n : ℕ) (here : Location) (s : Statement) (e : Expression) (a b : Vec Statement Global) (Out : Bool → State → Type 0)
     (tested_known : Standing) (mid told : Told) (Q : Unit {0} → State → Type 0) (m : State) (is : s ≡ If here e a b)
-    (leads : Leads (λ b s. Out b × StandsFor tested_known s) mid (tested p n here.line e m)) (k : IsKept mid told) where
-  pub then_leads : ((z : Bool) → Out z → z ≡ true) → ((s : State) → StandsFor tested_known s → Leads Q told (perform_list p n a.items s)) →
+    (leads : Leads (λ b s. Out b s × StandsFor tested_known s) mid (tested p n here.line e m)) (k : IsKept mid told) where
+  pub then_leads : ((z : Bool) (s : State) → Out z s → z ≡ true) → ((s : State) → StandsFor tested_known s → Leads Q told (perform_list p n a.items s)) →
       Leads Q told (perform p n s m)
   then_leads come does =
       if_leads p n here s e a b Out tested_known mid told Q m is leads k
-      (λ z s out stands. subst (λ z. Leads Q told (if z then perform_list p n a.items s else perform_list p n b.items s)) (sym (come z out))
+      (λ z s out stands. subst (λ z. Leads Q told (if z then perform_list p n a.items s else perform_list p n b.items s)) (sym (come z s out))
       (does s stands))
 
-  pub else_leads : ((z : Bool) → Out z → z ≡ false) → ((s : State) → StandsFor tested_known s → Leads Q told (perform_list p n b.items s)) →
+  pub else_leads : ((z : Bool) (s : State) → Out z s → z ≡ false) → ((s : State) → StandsFor tested_known s → Leads Q told (perform_list p n b.items s)) →
       Leads Q told (perform p n s m)
   else_leads come does =
       if_leads p n here s e a b Out tested_known mid told Q m is leads k
-      (λ z s out stands. subst (λ z. Leads Q told (if z then perform_list p n a.items s else perform_list p n b.items s)) (sym (come z out))
+      (λ z s out stands. subst (λ z. Leads Q told (if z then perform_list p n a.items s else perform_list p n b.items s)) (sym (come z s out))
       (does s stands))
 
   -- both ways, and what is known where they come together
   pub both_leads : (other one_behind other_behind : Standing) (between : Told) (on off : Bool) →
-      ((m : State) → StandsFor tested_known m → StandsFor other m) →
-      ((s : State) → StandsFor tested_known s → Leads (λ u n. (on ≡ true) × StandsFor one_behind n) between (perform_list p n a.items s)) →
-      IsKept between told →
-      ((s : State) → StandsFor other s → Leads (λ u n. (off ≡ true) × StandsFor other_behind n) told (perform_list p n b.items s)) →
+      ((z : Bool) (s : State) → Out z s → ComesTo (seen p s) e z) → ((m : State) → StandsFor tested_known m → StandsFor other m) →
+      ((s : State) → StandsFor tested_known s → ComesTo (seen p s) e true →
+      Leads (λ u n. (on ≡ true) × StandsFor one_behind n) between (perform_list p n a.items s)) → IsKept between told →
+      ((s : State) → StandsFor other s → ComesTo (seen p s) e false →
+      Leads (λ u n. (off ≡ true) × StandsFor other_behind n) told (perform_list p n b.items s)) →
       (on ≡ true → (m : State) → StandsFor one_behind m → Q tt m) → (off ≡ true → (m : State) → StandsFor other_behind m → Q tt m) →
       Leads Q told (perform p n s m)
-  both_leads other one_behind other_behind between on off copy does kept other_does left right =
-      if_leads p n here s e a b Out tested_known mid told Q m is leads k (λ z s out stands. by z s stands)
+  both_leads other one_behind other_behind between on off comes copy does kept other_does left right =
+      if_leads p n here s e a b Out tested_known mid told Q m is leads k (λ z s out stands. by z s (comes z s out) stands)
     where
-      by : (z : Bool) (s : State) → StandsFor tested_known s →
+      by : (z : Bool) (s : State) → ComesTo (seen p s) e z → StandsFor tested_known s →
           Leads Q told (if z then perform_list p n a.items s else perform_list p n b.items s)
-      by true s stands =
-          leads_on (λ u n. (on ≡ true) × StandsFor one_behind n) Q between told (perform_list p n a.items s) (does s stands) kept
+      by true s come stands =
+          leads_on (λ u n. (on ≡ true) × StandsFor one_behind n) Q between told (perform_list p n a.items s) (does s stands come) kept
           (λ u m g. left g.0 m g.1)
-      by false s stands =
-          leads_on (λ u n. (off ≡ true) × StandsFor other_behind n) Q told told (perform_list p n b.items s) (other_does s (copy s stands))
-          (kept_same told) (λ u m g. right g.0 m g.1)
+      by false s come stands =
+          leads_on (λ u n. (off ≡ true) × StandsFor other_behind n) Q told told (perform_list p n b.items s)
+          (other_does s (copy s stands) come) (kept_same told) (λ u m g. right g.0 m g.1)
 
 -- a `for`, behind its bounds
 pub for_leads : (p : Checked) (n : ℕ) (here : Location) (x : ℕ) (s : Statement) (e f : Expression) (body : Vec Statement Global)

@@ -7,10 +7,10 @@ use Rattle.pram_names.specs.declared.body.Statement.{Statement}
 use Rattle.pram_meaning.specs.Bounded.{Behaviour, Done, Goes, Stops, Reaches, then_do, perform, perform_list}
 use Rattle.pram_meaning.specs.Store.{State}
 use Rattle.abstract_runs.specs.declared.standing.Standing.{Standing}
-use Rattle.abstract_runs.specs.declared.told.Told.{Told}
+use Rattle.all_inputs.specs.declared.told.Told.{Told}
 use Rattle.abstract_runs.specs.Leads.{Leads}
 use Rattle.abstract_runs.specs.Standing.{StandsFor}
-use Rattle.abstract_runs.specs.Told.{IsKept}
+use Rattle.all_inputs.specs.Told.{IsKept}
 use Rattle.abstract_runs.proofs.Leading.{leads_then, leads_on, kept_same}
 
 -- it goes on as the rest does from such a state

@@ -3,7 +3,7 @@ use Rattle.std.proofs.Common.{◌≡◌, ℕ, zero, suc, List, [], ◌∷◌, �
 use Rattle.std.specs.Prelude.{slice_index_or}
 use Rattle.intervals.specs.declared.interval.Interval.{Interval}
 use Rattle.intervals.specs.Intervals.{IsIn}
-use Rattle.abstract_runs.specs.Covers.{Cover}
+use Rattle.all_inputs.specs.Overall.{Cover}
 
 pub covered_read : (is : List Interval) (zs : List ℤ) (k : ℕ) (i : Interval) → k < length is → i ≡ get_or is k i → Cover is zs →
     IsIn (slice_index_or zs k (pos 0)) i

@@ -5,7 +5,7 @@ use Rattle.std.specs.Prelude.{slice_set}
 use Rattle.std.proofs.lemmas.List.{get_or-set_same, get_or-set_other}
 use Rattle.intervals.specs.declared.interval.Interval.{Interval}
 use Rattle.intervals.specs.Intervals.{IsWithin}
-use Rattle.abstract_runs.specs.Covers.{Cover}
+use Rattle.all_inputs.specs.Overall.{Cover}
 
 -- the members at each place below n
 abbrev pub ToEach : {A : Type 0} → (A → A → Type 0) → ℕ → List A → List A → Type 0

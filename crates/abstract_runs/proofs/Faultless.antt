@@ -8,11 +8,11 @@ use Rattle.pram_meaning.specs.Conflict.{Part, IsLeast, fault_of, keys, least, re
 use Rattle.pram_meaning.proofs.LeastKey.{least_is_least}
 use Rattle.abstract_runs.specs.Given.{AreGiven, IsGiving}
 
-none_first : (ks js : List Key) → ks ++ js ≡ [] → ks ≡ []
+pub none_first : (ks js : List Key) → ks ++ js ≡ [] → ks ≡ []
 none_first [] js e = refl
 none_first (k ∷ ks) js e = absurd (cc e)
 
-none_last : (ks js : List Key) → ks ++ js ≡ [] → js ≡ []
+pub none_last : (ks js : List Key) → ks ++ js ≡ [] → js ≡ []
 none_last [] js e = e
 none_last (k ∷ ks) js e = absurd (cc e)
 

@@ -6,7 +6,7 @@ use Rattle.intervals.specs.Intervals.{IsIn}
 use Rattle.pram_meaning.specs.Store.{members}
 use Rattle.abstract_runs.specs.declared.active.Active.{Active}
 use Rattle.abstract_runs.specs.declared.standing.Member.{Member}
-use Rattle.abstract_runs.specs.Covers.{Cover}
+use Rattle.all_inputs.specs.Overall.{Cover}
 use Rattle.abstract_runs.specs.Rows as rows
 use Rattle.abstract_runs.specs.Rows.{AreActive}
 use Rattle.abstract_runs.specs.Standing.{AreMembersOf, IsMemberOf}

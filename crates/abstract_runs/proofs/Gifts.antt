@@ -6,7 +6,7 @@ use Rattle.pram_meaning.specs.Attempt.{Attempt, Gives, Fails}
 use Rattle.pram_meaning.specs.Conflict.{Part}
 use Rattle.pram_meaning.specs.Together.{value_in}
 use Rattle.abstract_runs.specs.declared.effect.Effect.{Effect}
-use Rattle.abstract_runs.specs.declared.faults.Faults.{Faults}
+use Rattle.all_inputs.specs.declared.faults.Faults.{Faults}
 use Rattle.abstract_runs.specs.declared.row.Row.{Row}
 use Rattle.abstract_runs.specs.Effects.{IsGivenBy}
 use Rattle.abstract_runs.specs.Given.{IsGiving}

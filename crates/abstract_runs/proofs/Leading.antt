@@ -1,17 +1,20 @@
 -- Where runs come to, step by step.
-use Rattle.std.proofs.Common.{◌≡◌, ℕ, ◌∙◌, true, []}
+use Rattle.std.proofs.Common.{◌≡◌, ℕ, ℤ, ◌∙◌, true, [], refl}
+use Rattle.pram_check.specs.Checked.{Checked}
+use Rattle.pram_names.specs.declared.body.Expression.{Expression}
 use Rattle.pram_values.specs.declared.kind.Kind.{Kind}
-use Rattle.pram_meaning.specs.Attempt.{Attempt, Gives, Fails}
-use Rattle.pram_meaning.specs.Bounded.{Behaviour, Goes, Stops, Reaches, then_do, valued, counted, evaluated}
-use Rattle.pram_meaning.specs.Store.{State}
+use Rattle.pram_meaning.specs.Attempt.{Attempt, Gives, Fails, attempt}
+use Rattle.pram_meaning.specs.Bounded.{Behaviour, Goes, Stops, Reaches, then_do, valued, counted, evaluated, found}
+use Rattle.pram_meaning.specs.Store.{State, seen}
 use Rattle.pram_meaning.specs.Together.{alone}
-use Rattle.abstract_runs.specs.declared.faults.Faults.{Faults}
+use Rattle.all_inputs.specs.declared.faults.Faults.{Faults}
 use Rattle.abstract_runs.specs.declared.standing.Standing.{Standing}
-use Rattle.abstract_runs.specs.declared.told.Told.{Told}
-use Rattle.abstract_runs.specs.Faulting.{May}
+use Rattle.all_inputs.specs.declared.told.Told.{Told}
+use Rattle.all_inputs.specs.Faulting.{May}
 use Rattle.abstract_runs.specs.Leads.{Leads}
 use Rattle.abstract_runs.specs.Standing.{IsKnownAs, StandsFor}
-use Rattle.abstract_runs.specs.Told.{MayAt, IsKept}
+use Rattle.all_inputs.specs.Told.{MayAt, IsKept}
+use Rattle.abstract_runs.specs.Tests.{IsValueOf}
 use Rattle.abstract_runs.specs.Tried.{IsTried}
 use Rattle.abstract_runs.proofs.Trails as trails
 
@@ -56,6 +59,22 @@ leads_evaluated P rs faults known began all n line a m h k tried may none =
     leads_then _ (λ v s. P v × StandsFor known s) began all (counted n m) _ h k
     (λ u s g. leads_valued P (λ v s. P v × StandsFor known s) rs faults all line (a s) s (tried s g.1) may
     (λ x p. (p, record { known_as = g.1; team = g.2 ∙ none })))
+
+-- the same, with what the attempt gave
+pub leads_found : (p : Checked) (e : Expression) (P : ℤ → Type 0) (rs : trails.Reaches) (faults : Faults) (known : Standing)
+    (began all : Told) (n line : ℕ) (m : State) →
+    Leads (λ u s. (true ≡ true) × IsKnownAs known s × (s.team ≡ m.team)) began (counted n m) → IsKept began all →
+    ((s : State) → IsKnownAs known s → IsTried P rs faults (attempt (seen p s) e [])) →
+    ((kind : Kind) → May kind faults → MayAt kind line all) → m.team ≡ [] →
+    Leads (λ v s. (P v × IsValueOf (seen p s) e v) × StandsFor known s) all (found p n line e m)
+leads_found p e P rs faults known began all n line m h k tried may none =
+    leads_then _ (λ v s. (P v × IsValueOf (seen p s) e v) × StandsFor known s) began all (counted n m) _ h k
+    (λ u s g. by s (attempt (seen p s) e []) refl (tried s g.1) (record { known_as = g.1; team = g.2 ∙ none }))
+  where
+    by : (s : State) (a : Attempt ℤ) → attempt (seen p s) e [] ≡ a → IsTried P rs faults a → StandsFor known s →
+        Leads (λ v s. (P v × IsValueOf (seen p s) e v) × StandsFor known s) all (valued (alone line a) s)
+    by s (Gives t v) is tried stands = ((tried.0, record { from = []; behind = t; gives = is }), stands)
+    by s (Fails t kind) is tried stands = may kind tried.1
 
 pub leads_kept : {A : Type 0} (Q : A → State → Type 0) (told more : Told) (b : Behaviour A) → Leads Q told b → IsKept told more →
     Leads Q more b

@@ -1,3 +1,4 @@
+pub mod AnyTrail
 pub mod Assigned
 pub mod Attempted
 pub mod Bounding
@@ -9,6 +10,7 @@ pub mod Chains
 pub mod Choosing
 pub mod Coming
 pub mod Covering
+pub mod DeclaredCells
 pub mod Each
 pub mod Faultless
 pub mod Following
@@ -17,8 +19,11 @@ pub mod Gifts
 pub mod Leading
 pub mod LocalWrites
 pub mod Members
+pub mod Narrowed
 pub mod Numbering
+pub mod OneCell
 pub mod Opening
+pub mod Operands
 pub mod Operated
 pub mod Outcomes
 pub mod Pardos
@@ -34,7 +39,10 @@ pub mod Setting
 pub mod SharedFaults
 pub mod SharedReads
 pub mod SharedWrites
+pub mod Splitting
 pub mod Standings
+pub mod SureFaults
+pub mod SureReads
 pub mod TeamLists
 pub mod Testing
 pub mod Trails

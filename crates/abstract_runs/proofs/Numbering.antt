@@ -8,10 +8,10 @@ use Rattle.pram_meaning.specs.Bounded.{Done, counted, for_turns, perform_list, t
 use Rattle.pram_meaning.specs.Store.{State, with_uniform}
 use Rattle.pram_meaning.proofs.ForLoops.{width_more, width_none}
 use Rattle.abstract_runs.specs.declared.standing.Standing.{Standing}
-use Rattle.abstract_runs.specs.declared.told.Told.{Told}
+use Rattle.all_inputs.specs.declared.told.Told.{Told}
 use Rattle.abstract_runs.specs.Leads.{Leads}
 use Rattle.abstract_runs.specs.Standing.{IsKnownAs, StandsFor}
-use Rattle.abstract_runs.specs.Told.{IsKept}
+use Rattle.all_inputs.specs.Told.{IsKept}
 use Rattle.abstract_runs.proofs.Coming.{Comes, comes_leads, comes_on, then_comes}
 use Rattle.abstract_runs.proofs.Leading.{leads_then, kept_same, kept_then}
 

@@ -3,9 +3,9 @@ use Rattle.std.proofs.Common.{◌≡◌, ℕ, zero, suc, ◌-◌, List, [], ◌�
 use Rattle.std.specs.List.{AllByRecursion}
 use Rattle.intervals.specs.declared.interval.Interval.{Interval}
 use Rattle.intervals.specs.Intervals.{IsIn}
-use Rattle.abstract_runs.specs.declared.overall.Scope.{Scope}
-use Rattle.abstract_runs.specs.Covers.{Cover}
-use Rattle.abstract_runs.specs.Overall.{IsInScope}
+use Rattle.all_inputs.specs.declared.scope.Scope.{Scope}
+use Rattle.all_inputs.specs.Overall.{Cover}
+use Rattle.all_inputs.specs.Overall.{IsInScope}
 
 pub cover_each : (n : ℕ) (i : Interval) (zs : List ℤ) → length zs ≡ n → AllByRecursion (λ z. IsIn z i) zs → Cover (replicate n i) zs
 cover_each zero i [] e h = tt

@@ -17,11 +17,11 @@ use Rattle.intervals.specs.declared.interval.Interval.{Interval}
 use Rattle.intervals.specs.declared.found.Found.{Found}
 use Rattle.intervals.specs.Intervals.{IsIn}
 use Rattle.intervals.specs.Results.{Tells, Gives}
-use Rattle.abstract_runs.specs.declared.faults.Faults.{Faults}
+use Rattle.all_inputs.specs.declared.faults.Faults.{Faults}
 use Rattle.abstract_runs.specs.Covers.{IsAmong}
-use Rattle.abstract_runs.specs.Faulting.{May}
+use Rattle.all_inputs.specs.Faulting.{May}
 use Rattle.abstract_runs.specs.Tried.{GoesThrough, IsTried}
-use Rattle.abstract_runs.proofs.Trails.{Reaches, through_next}
+use Rattle.abstract_runs.proofs.Trails.{Reaches, along_last, through_next}
 
 -- no operation has another fault
 abbrev pub HasFewFaults : Value → Type 0
@@ -80,8 +80,8 @@ pub settled : (f : ℤ → ℤ → Value) (a b : Interval) (found : Found) (rs m
 settled f a b found rs more faults x y t tells few over zero m p q h = by (f x y) refl
   where
     by : (v : Value) → f x y ≡ v → IsTried (IsAmong found.value) more faults (operation v t)
-    by (Ok v) e = (tells.sound x y v p q e, through_next rs more t None None h tt m)
-    by (Err kind) e = ((through_next rs more t None None h tt m).along, either kind e (few kind e))
+    by (Ok v) e = (tells.sound x y v p q e, through_next rs more t None None h tt tt m)
+    by (Err kind) e = (along_last rs more t None None h tt m, either kind e (few kind e))
       where
         given : (kind other : Kind) → f x y ≡ Err kind → kind ≡ other → Gives f a b (Err other)
         given kind other e o = record { left = x; right = y; left_in = p; right_in = q; gives = e ∙ ap Err o }

@@ -8,10 +8,10 @@ use Rattle.pram_meaning.specs.Bounded.{evaluated, pardo, pardo_done, perform_lis
 use Rattle.pram_meaning.specs.Store.{State, members, numbers, seen, with_team, without_team}
 use Rattle.abstract_runs.specs.declared.standing.Member.{Member}
 use Rattle.abstract_runs.specs.declared.standing.Standing.{Standing}
-use Rattle.abstract_runs.specs.declared.told.Told.{Told}
+use Rattle.all_inputs.specs.declared.told.Told.{Told}
 use Rattle.abstract_runs.specs.Leads.{Leads}
 use Rattle.abstract_runs.specs.Standing.{AreMembersOf, StandsFor, StandsWith}
-use Rattle.abstract_runs.specs.Told.{IsKept}
+use Rattle.all_inputs.specs.Told.{IsKept}
 use Rattle.abstract_runs.proofs.Leading.{leads_then, kept_same}
 
 begins : (known : Standing) (team : List Member) (a : ℤ) (k locals : ℕ) (m : State) → AreMembersOf (members a k locals) team →

@@ -5,10 +5,10 @@ use Rattle.pram_values.specs.declared.kind.Kind.TheVariants.{TooWide}
 use Rattle.pram_names.specs.declared.body.Expression.{Expression}
 use Rattle.pram_meaning.specs.Attempt.{Attempt, Gives, Fails, Trail, and_then, attempt, attempt_bounds, attempt_range, ranged}
 use Rattle.pram_meaning.specs.Store.{View}
-use Rattle.abstract_runs.specs.declared.faults.Faults.{Faults}
-use Rattle.abstract_runs.specs.Faulting.{May, AreKept}
+use Rattle.all_inputs.specs.declared.faults.Faults.{Faults}
+use Rattle.all_inputs.specs.Faulting.{May, AreKept}
 use Rattle.abstract_runs.specs.Tried.{GoesThrough, IsTried, IsLonger}
-use Rattle.abstract_runs.proofs.Trails.{Reaches, along_longer, through_next}
+use Rattle.abstract_runs.proofs.Trails.{Reaches, along_last, along_longer, through_next}
 
 pub none_is : {A : Type 0} (B : ℕ → Type 0) (o : Option ℕ) → o ≡ None → MatchOption o A B → A
 none_is {A} B o e h = subst (λ o. MatchOption o A B) e h
@@ -16,12 +16,12 @@ none_is {A} B o e h = subst (λ o. MatchOption o A B) e h
 pub wide_tried : (Q : ℤ × ℕ → Type 0) (procs k : ℕ) (a : ℤ) (rs more : Reaches) (faults : Faults) (t : Trail) → procs < k →
     more ≡ rs ++ None ∷ [] → May TooWide faults → GoesThrough rs t → IsTried Q more faults (ranged procs a k t)
 wide_tried Q procs k a rs more faults t wide m may g =
-    let e : nat_lt procs k ≡ true = grind (arith, wide) in rw e ((through_next rs more t None None g tt m).along, may)
+    let e : nat_lt procs k ≡ true = grind (arith, wide) in rw e (along_last rs more t None None g tt m, may)
 
 pub narrow_tried : (Q : ℤ × ℕ → Type 0) (procs k : ℕ) (a : ℤ) (rs more : Reaches) (faults : Faults) (t : Trail) → k ≤ procs →
     more ≡ rs ++ None ∷ [] → Q (a, k) → GoesThrough rs t → IsTried Q more faults (ranged procs a k t)
 narrow_tried Q procs k a rs more faults t narrow m q g =
-    let e : nat_lt procs k ≡ false = grind (arith, narrow) in rw e (q, through_next rs more t None None g tt m)
+    let e : nat_lt procs k ≡ false = grind (arith, narrow) in rw e (q, through_next rs more t None None g tt tt m)
 
 -- both bounds, and then how many there are
 module _ (P : ℤ × ℤ → Type 0) (Q : ℤ × ℕ → Type 0) (procs : ℕ) (mid end : Reaches) (some all : Faults) (longer : IsLonger mid end)

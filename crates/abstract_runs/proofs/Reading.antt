@@ -3,7 +3,7 @@ use Rattle.std.proofs.Common.{◌≡◌, ℕ, List, ℤ, pos, Bool, true, false,
 use Rattle.std.specs.Prelude.{slice_index_or}
 use Rattle.intervals.specs.declared.interval.Interval.{Interval}
 use Rattle.intervals.specs.Intervals.{IsIn, IsJoin}
-use Rattle.abstract_runs.specs.Covers.{Cover}
+use Rattle.all_inputs.specs.Overall.{Cover}
 
 pub joined_on : (is : List Interval) (least c : ℕ) (found more joined : Interval) →
     ((zs : List ℤ) (d : ℕ) → Cover is zs → least ≤ d → d < c → IsIn (slice_index_or zs d (pos 0)) found) →

@@ -8,11 +8,11 @@ use Rattle.pram_meaning.specs.Attempt.{Attempt, Gives, Fails, attempt_step}
 use Rattle.pram_meaning.specs.Store as store
 use Rattle.pram_meaning.specs.Together.{part_of, parts}
 use Rattle.abstract_runs.specs.declared.active.Active.{Active}
-use Rattle.abstract_runs.specs.declared.faults.Faults.{Faults}
+use Rattle.all_inputs.specs.declared.faults.Faults.{Faults}
 use Rattle.abstract_runs.specs.declared.row.Row.{Row}
 use Rattle.abstract_runs.specs.declared.standing.Member.{Member}
 use Rattle.abstract_runs.specs.declared.standing.Standing.{Standing}
-use Rattle.abstract_runs.specs.Faulting.{AreKept}
+use Rattle.all_inputs.specs.Faulting.{AreKept}
 use Rattle.abstract_runs.specs.Rows.{AreActive, ArePartsBy, IsPartBy}
 use Rattle.abstract_runs.specs.Rows as rows
 use Rattle.abstract_runs.specs.Standing.{StandsWith}

@@ -5,24 +5,24 @@ use Rattle.pram_check.specs.Checked.{Checked}
 use Rattle.pram_values.specs.declared.kind.Kind.{Kind}
 use Rattle.pram_meaning.specs.declared.key.Key.{Key}
 use Rattle.pram_meaning.specs.Attempt.{Attempt, Effect}
-use Rattle.pram_meaning.specs.Bounded.{Behaviour, attempted_on, counted, then_do, valued}
+use Rattle.pram_meaning.specs.Bounded.{Behaviour, Goes, Reaches, Stops, attempted_on, counted, then_do, valued}
 use Rattle.pram_meaning.specs.Conflict.{Part, keys, least}
 use Rattle.pram_meaning.specs.Store as store
 use Rattle.pram_meaning.specs.Store.{View}
 use Rattle.pram_meaning.specs.Together.{on_key, parts, those, together}
-use Rattle.abstract_runs.specs.declared.faults.Faults.{Faults}
+use Rattle.all_inputs.specs.declared.faults.Faults.{Faults}
 use Rattle.abstract_runs.specs.declared.row.Row.{Row}
 use Rattle.abstract_runs.specs.declared.standing.Member.{Member}
 use Rattle.abstract_runs.specs.declared.standing.Standing.{Standing}
-use Rattle.abstract_runs.specs.declared.told.Told.{Told}
-use Rattle.abstract_runs.specs.Faulting.{May}
+use Rattle.all_inputs.specs.declared.told.Told.{Told}
+use Rattle.all_inputs.specs.Faulting.{May}
 use Rattle.abstract_runs.specs.Inside.{IsAttempted}
 use Rattle.abstract_runs.specs.Leads.{Leads}
 use Rattle.abstract_runs.specs.declared.active.Active.{Active}
 use Rattle.abstract_runs.specs.Given.{AreGiven}
 use Rattle.abstract_runs.specs.Rows.{AreActive, ArePartsBy}
 use Rattle.abstract_runs.specs.Standing.{IsKnownAs, AreMembersOf, StandsWith}
-use Rattle.abstract_runs.specs.Told.{MayAt, IsKept}
+use Rattle.all_inputs.specs.Told.{MayAt, IsKept}
 use Rattle.abstract_runs.proofs.Faultless.{all_given}
 use Rattle.abstract_runs.proofs.Leading.{leads_then}
 
@@ -54,6 +54,15 @@ leads_attempted p n line a vs team known begun mid told faults all rows m stands
 -- parts that are known, and that there are any
 abbrev pub IsFound : Checked → Option (Vec Row Global) → List ℕ → List Part → Type 0
 IsFound p found vs xs = IsSomeAnd found (λ rows. IsAttempted p rows.items vs xs)
+
+-- parts of this kind, where there are any
+pub leads_found : (p : Checked) (rows : List Row) (found : Option (Vec Row Global)) (vs : List ℕ) (team : List Member) (known : Standing)
+    (told : Told) (b : Behaviour (List Part)) → Leads (λ xs s. IsAttempted p rows vs xs × StandsWith known team s) told b →
+    ((xs : List Part) → IsAttempted p rows vs xs → IsFound p found vs xs) →
+    Leads (λ xs s. IsFound p found vs xs × StandsWith known team s) told b
+leads_found p rows found vs team known told (Goes xs s) h g = (g xs h.0, h.1)
+leads_found p rows found vs team known told (Stops fault output) h g = h
+leads_found p rows found vs team known told (Reaches output) h g = h
 
 pub attempted_as : (p : Checked) (found : Option (Vec Row Global)) (rows : Vec Row Global) (vs : List ℕ) (xs : List Part) →
     found ≡ Some rows →

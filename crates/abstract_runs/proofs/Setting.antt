@@ -4,7 +4,7 @@ use Rattle.std.proofs.Common.{tests, nat_lt}
 use Rattle.std.specs.Prelude.{slice_set, slice_index_or}
 use Rattle.intervals.specs.declared.interval.Interval.{Interval}
 use Rattle.intervals.specs.Intervals.{IsIn}
-use Rattle.abstract_runs.specs.Covers.{Cover}
+use Rattle.all_inputs.specs.Overall.{Cover}
 
 pub cover_set : (is : List Interval) (zs : List ℤ) (k : ℕ) (i : Interval) (v : ℤ) → Cover is zs → IsIn v i →
     Cover (slice_set is k i) (slice_set zs k v)

@@ -10,10 +10,10 @@ use Rattle.pram_meaning.specs.Conflict.{Part, IsLeast, fault_of, read_conflicts,
 use Rattle.pram_meaning.specs.Together.{on_key, together}
 use Rattle.pram_meaning.specs.declared.key.Key.{Key}
 use Rattle.pram_meaning.proofs.LeastKey.{least_is_least}
-use Rattle.abstract_runs.specs.declared.faults.Faults.{Faults}
+use Rattle.all_inputs.specs.declared.faults.Faults.{Faults}
 use Rattle.abstract_runs.specs.declared.reach.Reach.{Reach}
 use Rattle.abstract_runs.specs.declared.row.Row.{Row}
-use Rattle.abstract_runs.specs.Faulting.{May, AreKept}
+use Rattle.all_inputs.specs.Faulting.{May, AreKept}
 use Rattle.abstract_runs.specs.Rows.{ArePartsBy}
 use Rattle.abstract_runs.specs.Tried.{IsTried}
 use Rattle.abstract_runs.proofs.SharedReads.{first_or_rest, none_there, comes_from, row_of}

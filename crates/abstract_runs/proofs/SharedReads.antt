@@ -13,7 +13,7 @@ use Rattle.pram_meaning.specs.Attempt.{Attempt, Gives, Fails, Trail}
 use Rattle.pram_meaning.specs.Conflict.{Part, reads_on, reads_of, trail_of, is_conflict, conflict_of, read_conflicts, read_key}
 use Rattle.pram_meaning.specs.declared.key.Key.{Key}
 use Rattle.pram_meaning.specs.declared.read.Read.{Read}
-use Rattle.abstract_runs.specs.declared.faults.Faults.{Faults}
+use Rattle.all_inputs.specs.declared.faults.Faults.{Faults}
 use Rattle.abstract_runs.specs.declared.reach.Reach.{Reach}
 use Rattle.abstract_runs.specs.declared.row.Row.{Row}
 use Rattle.abstract_runs.specs.Apart.{Reaches, AreApart}

@@ -1,11 +1,11 @@
 -- Positions that an attempt has gone along.
-use Rattle.std.proofs.Common.{◌≡◌, ℕ, List, [], ◌∷◌, ◌++◌, length, Option, refl, ap, sym, subst, ◌∙◌, ◌+◌, arith}
+use Rattle.std.proofs.Common.{◌≡◌, ℕ, List, [], ◌∷◌, ◌++◌, length, Option, Some, None, refl, ap, sym, subst, ◌∙◌, ◌+◌, arith}
 use Rattle.std.proofs.Common.{append_assoc, append-nil}
 use Rattle.pram_meaning.specs.Attempt.{Attempt, Gives, Fails, Trail, and_then}
-use Rattle.abstract_runs.specs.declared.faults.Faults.{Faults}
+use Rattle.all_inputs.specs.declared.faults.Faults.{Faults}
 use Rattle.abstract_runs.specs.declared.reach.Reach.{Reach}
-use Rattle.abstract_runs.specs.Faulting.{AreKept}
-use Rattle.abstract_runs.specs.Tried.{IsReadIn, GoesAlong, GoesThrough, IsTried, IsLonger}
+use Rattle.all_inputs.specs.Faulting.{AreKept}
+use Rattle.abstract_runs.specs.Tried.{AreRead, IsReadIn, GoesAlong, GoesThrough, IsTried, IsLonger}
 
 abbrev pub Reaches : Type 0
 Reaches = List (Option Reach)
@@ -31,15 +31,40 @@ length_next (y ∷ xs) x = let h = length_next xs x in omega (arith, h)
 
 -- no position yet
 pub nothing_yet : (rs : Reaches) → rs ≡ [] → GoesThrough rs []
-nothing_yet rs e = record { along = tt; all = sym (ap length e) }
+nothing_yet rs e = record { along = tt; all = sym (ap length e); reads = subst (λ rs. AreRead rs []) (sym e) tt }
+
+-- one position on, where the attempt may have failed
+pub along_last : (rs more : Reaches) (t : Trail) (r : Option Reach) (c : Option ℕ) → GoesThrough rs t → IsReadIn r c →
+    more ≡ rs ++ r ∷ [] → GoesAlong more (t ++ c ∷ [])
+along_last rs more t r c h i e = subst (λ m. GoesAlong m (t ++ c ∷ [])) (sym e) (along_next rs t r c h.along h.all i)
+
+-- a read, where a cell is reached
+abbrev pub IsRead : Option Reach → Option ℕ → Type 0
+IsRead (Some reach) None = ⊥
+IsRead r c = Unit {0}
+
+read_last : (r : Option Reach) (c : Option ℕ) → IsRead r c → AreRead (r ∷ []) (c ∷ [])
+read_last None c i = tt
+read_last (Some reach) None i = i
+read_last (Some reach) (Some c) i = tt
+
+read_next : (rs : Reaches) (t : Trail) (r : Option Reach) (c : Option ℕ) → AreRead rs t → length t ≡ length rs → IsRead r c →
+    AreRead (rs ++ r ∷ []) (t ++ c ∷ [])
+read_next [] [] r c h e i = read_last r c i
+read_next (q ∷ rs) [] r c h e i = absurd (omega (arith, e))
+read_next [] (d ∷ t) r c h e i = absurd (omega (arith, e))
+read_next (None ∷ rs) (d ∷ t) r c h e i = read_next rs t r c h (omega (arith, e)) i
+read_next (Some reach ∷ rs) (None ∷ t) r c h e i = absurd h
+read_next (Some reach ∷ rs) (Some d ∷ t) r c h e i = read_next rs t r c h (omega (arith, e)) i
 
 -- one position on
-pub through_next : (rs more : Reaches) (t : Trail) (r : Option Reach) (c : Option ℕ) → GoesThrough rs t → IsReadIn r c →
+pub through_next : (rs more : Reaches) (t : Trail) (r : Option Reach) (c : Option ℕ) → GoesThrough rs t → IsReadIn r c → IsRead r c →
     more ≡ rs ++ r ∷ [] →
     GoesThrough more (t ++ c ∷ [])
-through_next rs more t r c h i e = subst (λ m. GoesThrough m (t ++ c ∷ [])) (sym e) (record {
+through_next rs more t r c h i read e = subst (λ m. GoesThrough m (t ++ c ∷ [])) (sym e) (record {
   along = along_next rs t r c h.along h.all i;
   all = length_next t c ∙ ap (λ n. n + 1) h.all ∙ sym (length_next rs r);
+  reads = read_next rs t r c h.reads h.all read;
 })
 
 pub longer_next : (rs more : Reaches) (r : Option Reach) → more ≡ rs ++ r ∷ [] → IsLonger rs more

@@ -12,12 +12,12 @@ use Rattle.abstract_runs.specs.declared.active.Active.{Active}
 use Rattle.abstract_runs.specs.declared.row.Row.{Row}
 use Rattle.abstract_runs.specs.declared.standing.Member.{Member}
 use Rattle.abstract_runs.specs.declared.standing.Standing.{Standing}
-use Rattle.abstract_runs.specs.declared.told.Told.{Told}
+use Rattle.all_inputs.specs.declared.told.Told.{Told}
 use Rattle.abstract_runs.specs.Leads.{Leads}
 use Rattle.abstract_runs.specs.Open.{StayActive, after_test_on}
 use Rattle.abstract_runs.specs.Rows.{AreActive}
 use Rattle.abstract_runs.specs.Standing.{StandsWith}
-use Rattle.abstract_runs.specs.Told.{IsKept}
+use Rattle.all_inputs.specs.Told.{IsKept}
 use Rattle.abstract_runs.proofs.ComingOn.{ComesWith, with_leads, with_on, then_with}
 use Rattle.abstract_runs.proofs.Leading.{leads_then, kept_same, kept_then}
 use Rattle.abstract_runs.proofs.Sets.{IsFound}

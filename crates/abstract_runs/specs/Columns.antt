@@ -10,7 +10,7 @@ use Rattle.write_rules.specs.Rule.{written}
 use Rattle.pram_meaning.specs.Conflict.{Part, writes_to}
 use Rattle.intervals.specs.declared.interval.Interval.{Interval}
 use Rattle.abstract_runs.specs.declared.effect.Effect.{Effect}
-use Rattle.abstract_runs.specs.declared.faults.Faults.{Faults}
+use Rattle.all_inputs.specs.declared.faults.Faults.{Faults}
 use Rattle.abstract_runs.specs.declared.reach.Reach.{Reach}
 use Rattle.abstract_runs.specs.declared.row.Row.{Row}
 use Rattle.abstract_runs.specs.Rows.{ArePartsBy}

@@ -1,16 +1,11 @@
 -- Values that lie in intervals: what a state that stands for others says of one of them.
-use Rattle.std.specs.Prelude.{◌≡◌, ℕ, ◌≤◌, List, [], ◌∷◌, Option, IsSomeAnd, ℤ}
+use Rattle.std.specs.Prelude.{◌≡◌, ℕ, ◌≤◌, Option, IsSomeAnd, ℤ}
 use Rattle.intervals.specs.declared.interval.Interval.{Interval}
 use Rattle.intervals.specs.Intervals.{IsIn}
 use Rattle.pram_meaning.specs.Store.{View}
+use Rattle.all_inputs.specs.Overall.{Cover}
 use Rattle.abstract_runs.specs.declared.outlook as outlook
 use Rattle.abstract_runs.specs.declared.reach.Reach.{Reach}
-
--- one interval for each value, and each value in its own
-abbrev pub Cover : List Interval → List ℤ → Type 0
-Cover [] [] = Unit {0}
-Cover (i ∷ is) (z ∷ zs) = IsIn z i × Cover is zs
-Cover is zs = ⊥
 
 -- there is an interval, and the value lies in it
 abbrev pub IsAmong : Option Interval → ℤ → Type 0

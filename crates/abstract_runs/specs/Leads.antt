@@ -2,8 +2,8 @@
 use Rattle.std.specs.Prelude.{◌≡◌, true}
 use Rattle.pram_meaning.specs.Bounded.{Behaviour, Goes, Stops, Reaches}
 use Rattle.pram_meaning.specs.Store.{State}
-use Rattle.abstract_runs.specs.declared.told.Told.{Told}
-use Rattle.abstract_runs.specs.Told.{MayAt}
+use Rattle.all_inputs.specs.declared.told.Told.{Told}
+use Rattle.all_inputs.specs.Told.{MayAt}
 
 -- a run goes on in such a state, stops by a fault that is told, or comes to the bound where that is told
 abbrev pub Leads : {A : Type 0} → (A → State → Type 0) → Told → Behaviour A → Type 0

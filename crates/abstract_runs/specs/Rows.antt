@@ -2,7 +2,7 @@
 use Rattle.std.specs.Prelude.{◌≡◌, ℕ, List, [], ◌∷◌, false}
 use Rattle.pram_meaning.specs.Conflict.{Part}
 use Rattle.abstract_runs.specs.declared.active.Active.{Active}
-use Rattle.abstract_runs.specs.declared.faults.Faults.{Faults}
+use Rattle.all_inputs.specs.declared.faults.Faults.{Faults}
 use Rattle.abstract_runs.specs.declared.row.Row.{Row}
 use Rattle.abstract_runs.specs.Effects.{IsGivenBy}
 use Rattle.abstract_runs.specs.Tried.{IsTried}

@@ -4,7 +4,7 @@ use Rattle.pram_meaning.specs.Store as store
 use Rattle.pram_meaning.specs.Store.{no_team}
 use Rattle.abstract_runs.specs.declared.standing.Member.{Member}
 use Rattle.abstract_runs.specs.declared.standing.Standing.{Standing}
-use Rattle.abstract_runs.specs.Covers.{Cover}
+use Rattle.all_inputs.specs.Overall.{Cover}
 
 -- the same processor, whose locals lie in what is known of them
 pub record IsMemberOf (g : store.Member) (known : Member) : Type 0 where

@@ -1,10 +1,10 @@
 -- An attempt of which it is known where it reads, what it may give and how it may fail.
 use Rattle.std.specs.Prelude.{◌≡◌, ℕ, List, [], ◌∷◌, ◌++◌, length, Option, Some, None}
 use Rattle.pram_meaning.specs.Attempt.{Attempt, Gives, Fails, Trail}
-use Rattle.abstract_runs.specs.declared.faults.Faults.{Faults}
+use Rattle.all_inputs.specs.declared.faults.Faults.{Faults}
 use Rattle.abstract_runs.specs.declared.reach.Reach.{Reach}
 use Rattle.abstract_runs.specs.Covers.{IsReached}
-use Rattle.abstract_runs.specs.Faulting.{May}
+use Rattle.all_inputs.specs.Faulting.{May}
 
 -- a cell that is read at a position lies in what is reached there
 abbrev pub IsReadIn : Option Reach → Option ℕ → Type 0
@@ -18,10 +18,17 @@ GoesAlong reaches [] = Unit {0}
 GoesAlong [] (c ∷ t) = ⊥
 GoesAlong (r ∷ reaches) (c ∷ t) = IsReadIn r c × GoesAlong reaches t
 
--- a trail goes along all of them
+-- where cells are reached one is read
+abbrev pub AreRead : List (Option Reach) → Trail → Type 0
+AreRead (Some reach ∷ reaches) (None ∷ t) = ⊥
+AreRead (r ∷ reaches) (c ∷ t) = AreRead reaches t
+AreRead reaches t = Unit {0}
+
+-- a trail goes along all of them, and has a read at each where cells are reached
 pub record GoesThrough (reaches : List (Option Reach)) (t : Trail) : Type 0 where
   pub along : GoesAlong reaches t
   pub all : length t ≡ length reaches
+  pub reads : AreRead reaches t
 
 -- an attempt along these positions: it gives such a value behind the last one, or fails at one of them by a fault that may come
 abbrev pub IsTried : {A : Type 0} → (A → Type 0) → List (Option Reach) → Faults → Attempt A → Type 0

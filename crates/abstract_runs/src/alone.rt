@@ -9,18 +9,18 @@ ghost use Rattle.abstract_runs.specs.Effects.{IsGivenBy};
 ghost use Rattle.abstract_runs.specs.Following.{Follows};
 ghost use Rattle.abstract_runs.specs.Leads.{Leads};
 ghost use Rattle.abstract_runs.specs.Standing.{IsKnownAs, StandsFor};
-ghost use Rattle.abstract_runs.specs.Told.{IsKept};
+ghost use Rattle.abstract_runs.specs.Tests.{IsValueOf};
+ghost use Rattle.all_inputs.specs.Told.{IsKept};
 
 use crate::assigning::assignment;
 use crate::attempt::value_of;
 use crate::bounds::bounds;
 use crate::effect::Effect;
-use crate::faults::Faults;
 use crate::halt::Halt;
 use crate::outlook::Outlook;
 use crate::standing::Standing;
 use crate::survey::Survey;
-use crate::told::Told;
+use all_inputs::{Faults, Told};
 use intervals::Interval;
 use pram_check::{Expression, Program, Target};
 use std::alloc::AllocError;
@@ -52,9 +52,10 @@ impl<'a> Survey<'a> {
         line: u32,
         e: &Expression,
     ) -> Result<Option<Interval>, AllocError>
-        // Each run goes on with a value of the interval, or comes to what is told.
-        ensures leads { IfOk result (λ value. (m : State) → StandsFor known.old m → Leads (λ v n. IsAmong value v × StandsFor known.new n)
-            told.new (found self.now.program.now self.now.bound line e.now m)) }
+        // Each run goes on with a value of the interval, which the expression gives there, or comes to what is told.
+        ensures leads { IfOk result (λ value. (m : State) → StandsFor known.old m →
+            Leads (λ v n. (IsAmong value v × IsValueOf (seen self.now.program.now n) e.now v) × StandsFor known.new n) told.new
+            (found self.now.program.now self.now.bound line e.now m)) }
         // Where a run may stand at the bound, that is told.
         ensures bound { OnOk result (self.now.bound ≤ known.old.most → told.new.may_go_on ≡ true) }
         // Where it has one, one statement more has run, and no more than the bound allows.

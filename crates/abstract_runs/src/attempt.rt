@@ -6,15 +6,14 @@ ghost use Rattle.pram_model.specs.Layout.{cell_of};
 ghost use Rattle.pram_meaning.specs.Store.{View};
 ghost use Rattle.pram_meaning.specs.Attempt.{Trail, attempt, read};
 ghost use Rattle.abstract_runs.specs.Covers.{IsAmong, Shows};
-ghost use Rattle.abstract_runs.specs.Faulting.{AreKept};
+ghost use Rattle.all_inputs.specs.Faulting.{AreKept};
 ghost use Rattle.abstract_runs.specs.Tried.{GoesThrough, IsTried, IsLonger};
 
-use crate::faults::Faults;
 use crate::operating::{note_if, operate, operate_before};
 use crate::outlook::{Outlook, interval_at};
 use crate::placing::cells_at;
 use crate::reach::{Reach, read_cells};
-use crate::reason::Reason;
+use all_inputs::{Faults, Reason};
 use intervals::Interval;
 use pram_check::Expression;
 use pram_values::Kind;

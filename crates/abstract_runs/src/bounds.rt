@@ -5,14 +5,14 @@ ghost use Rattle.pram_meaning.specs.Store.{View};
 ghost use Rattle.pram_meaning.specs.Attempt.{attempt_bounds};
 ghost use Rattle.intervals.specs.Intervals.{IsIn};
 ghost use Rattle.abstract_runs.specs.Covers.{Shows};
-ghost use Rattle.abstract_runs.specs.Faulting.{AreKept};
+ghost use Rattle.all_inputs.specs.Faulting.{AreKept};
 ghost use Rattle.abstract_runs.specs.Tried.{IsTried};
 
 use crate::attempt::value_of;
-use crate::faults::Faults;
 use crate::halt::Halt;
 use crate::outlook::Outlook;
 use crate::reach::Reach;
+use all_inputs::{Faults, Undecided};
 use intervals::Interval;
 use pram_check::Expression;
 
@@ -23,7 +23,7 @@ fn number_in(value: Interval, line: u32) -> Result<i64, Halt>
     if value.is_point() {
         Ok(value.least())
     } else {
-        Err(Halt::OpenBounds { line })
+        Err(Halt::Undecided(Undecided::OpenBounds { line }))
     }
 }
 

@@ -8,17 +8,16 @@ ghost use Rattle.pram_check.specs.Checked.{Checked};
 ghost use Rattle.pram_meaning.specs.Conflict.{Part, read_conflicts, reads_of, write_conflict};
 ghost use Rattle.pram_meaning.specs.Together.{together};
 ghost use Rattle.pram_meaning.specs.declared.key.Key.{Key};
-ghost use Rattle.abstract_runs.specs.declared.faults.Faults as spec;
+ghost use Rattle.all_inputs.specs.declared.faults.Faults as spec;
 ghost use Rattle.abstract_runs.specs.Apart.{AreApart};
 ghost use Rattle.abstract_runs.specs.Columns.{column as column_of, value_in, low_sum, high_sum, WritesOnly, NeverClash, kind_under};
-ghost use Rattle.abstract_runs.specs.Faulting.{May, AreKept};
+ghost use Rattle.all_inputs.specs.Faulting.{May, AreKept};
 ghost use Rattle.abstract_runs.specs.Rows.{ArePartsBy};
 
 use crate::apart::are_apart;
-use crate::faults::Faults;
 use crate::reach::Reach;
-use crate::reason::Reason;
 use crate::row::{Row, targets};
+use all_inputs::{Faults, Reason};
 use intervals::Interval;
 use pram_model::Rule;
 use pram_values::Kind;
@@ -34,7 +33,7 @@ fn shares_reads(rule: Rule) -> bool
 }
 
 // What a row reads at a position.
-fn reach_at(row: &Row, k: usize) -> Option<Reach>
+pub(crate) fn reach_at(row: &Row, k: usize) -> Option<Reach>
     ensures { result ≡ slice_index_or row.now.trail.items k None }
 {
     if k >= row.trail.len() {
@@ -55,7 +54,7 @@ fn column(alloc: Global, rows: &[Row], k: usize) -> Result<Vec<Option<Reach>>, A
 }
 
 // A number of positions that no row's trail passes.
-fn longest(rows: &[Row]) -> usize
+pub(crate) fn longest(rows: &[Row]) -> usize
     ensures { All (λ row. length row.trail.items ≤ result) rows.now }
 {
     let mut most: usize = 0;

@@ -1,7 +1,7 @@
 //! Lists of intervals: copies, joins, and whether each lies in another.
 
 ghost use Rattle.std.specs.Prelude.{◌≡◌, List, ℤ, length, true};
-ghost use Rattle.abstract_runs.specs.Covers.{Cover};
+ghost use Rattle.all_inputs.specs.Overall.{Cover};
 
 use crate::growth::Growth;
 use intervals::Interval;

@@ -3,6 +3,7 @@
 ghost use Rattle.std.specs.Prelude.{◌≡◌};
 ghost use Rattle.abstract_runs.specs.declared.halt.Halt.TheVariants.{OutOfMemory};
 
+use all_inputs::Undecided;
 use std::alloc::AllocError;
 
 /// Why one run for all inputs comes to no end.
@@ -10,10 +11,8 @@ use std::alloc::AllocError;
 pub enum Halt {
     /// Memory was refused.
     OutOfMemory,
-    /// The bounds of the `for` or the pardo at that line aren't known as numbers.
-    OpenBounds { line: u32 },
-    /// What is known of the loop at that line came to no rest.
-    Restless { line: u32 },
+    /// Too little is known at a statement to go on.
+    Undecided(Undecided),
 }
 
 impl From<AllocError> for Halt {

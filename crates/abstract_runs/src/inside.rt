@@ -12,7 +12,7 @@ ghost use Rattle.abstract_runs.specs.Likeness.{AreLike};
 ghost use Rattle.abstract_runs.specs.Open.{StayActive, after_test_on};
 ghost use Rattle.abstract_runs.specs.Rows.{AreActive};
 ghost use Rattle.abstract_runs.specs.Standing.{StandsWith};
-ghost use Rattle.abstract_runs.specs.Told.{IsKept};
+ghost use Rattle.all_inputs.specs.Told.{IsKept};
 
 use crate::active::Active;
 use crate::halt::Halt;
@@ -23,8 +23,8 @@ use crate::standing::{Member, Standing};
 use crate::sureness::has_sure;
 use crate::survey::Survey;
 use crate::teams::copied_team;
-use crate::told::Told;
 use crate::writing::{write_cells, write_locals};
+use all_inputs::{Told, Undecided};
 use pram_check::{Expression, Step, StepTarget};
 use std::alloc::AllocError;
 
@@ -266,6 +266,6 @@ impl<'a> Survey<'a> {
             widen_at(known, &inside, self.marks, self.bound, round);
             widen_team_at(team, &members, self.marks, round);
         }
-        Err(Halt::Restless { line })
+        Err(Halt::Undecided(Undecided::Restless { line }))
     }
 }

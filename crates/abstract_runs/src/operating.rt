@@ -6,12 +6,11 @@ ghost use Rattle.pram_values.specs.declared.kind.Kind.TheVariants.{Overflow, Div
 ghost use Rattle.pram_meaning.specs.Attempt.{Trail, operation};
 ghost use Rattle.pram_meaning.specs.Operation as spec;
 ghost use Rattle.abstract_runs.specs.Covers.{IsAmong};
-ghost use Rattle.abstract_runs.specs.Faulting.{May, AreKept};
+ghost use Rattle.all_inputs.specs.Faulting.{May, AreKept};
 ghost use Rattle.abstract_runs.specs.Tried.{GoesThrough, IsTried, IsLonger};
 
-use crate::faults::Faults;
 use crate::reach::Reach;
-use crate::reason::Reason;
+use all_inputs::{Faults, Reason};
 use intervals::{Found, Interval};
 use pram_trees::{Binary, Prefix};
 use pram_values::Kind;

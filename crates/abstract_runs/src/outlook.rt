@@ -2,7 +2,7 @@
 
 ghost use Rattle.std.specs.Prelude.{List, ℤ, pos, slice_index_or};
 ghost use Rattle.intervals.specs.Intervals.{IsIn};
-ghost use Rattle.abstract_runs.specs.Covers.{Cover};
+ghost use Rattle.all_inputs.specs.Overall.{Cover};
 
 use intervals::Interval;
 use pram_trees::Layout;

@@ -1,25 +1,26 @@
 //! Statements outside pardo.
 
-ghost use Rattle.std.specs.Prelude.{◌≡◌, ℕ, Bool, ◌≤◌, ◌<◌, ◌+◌, true, IfOk, IfSome, IsSomeAnd, OnOk};
+ghost use Rattle.std.specs.Prelude.{◌≡◌, ℕ, Bool, ◌≤◌, ◌<◌, ◌+◌, true, false, IfOk, IfSome, OnOk};
 ghost use Rattle.pram_model.specs.Layout.{width};
 ghost use Rattle.pram_meaning.specs.Bounded as spec;
 ghost use Rattle.pram_meaning.specs.Bounded.{for_turns, perform, perform_list, tested, turns};
-ghost use Rattle.pram_meaning.specs.Store.{State};
-ghost use Rattle.abstract_runs.specs.Decided.{GoesWith};
+ghost use Rattle.pram_meaning.specs.Store.{State, seen};
 ghost use Rattle.abstract_runs.specs.Following.{Follows};
 ghost use Rattle.abstract_runs.specs.Leads.{Leads};
 ghost use Rattle.abstract_runs.specs.Open.{after_test};
 ghost use Rattle.abstract_runs.specs.Standing.{StandsFor};
-ghost use Rattle.abstract_runs.specs.Told.{IsKept};
+ghost use Rattle.abstract_runs.specs.Tests.{ComesTo, IsTested};
+ghost use Rattle.all_inputs.specs.Told.{IsKept};
 
 use crate::decided::{Decided, decide};
 use crate::halt::Halt;
 use crate::joining_ways::join_ways;
+use crate::narrowing_tests::narrow;
 use crate::resting::{MOST_ROUNDS, widen_at};
 use crate::standing::Standing;
 use crate::storing::{set_variable, store};
 use crate::survey::Survey;
-use crate::told::Told;
+use all_inputs::{Told, Undecided};
 use pram_check::{Expression, Statement, Target};
 use pram_meaning::numbers::Numbers;
 
@@ -74,8 +75,9 @@ impl<'a> Survey<'a> {
         line: u32,
         e: &Expression,
     ) -> Result<Option<Decided>, Halt>
-        ensures leads { IfOk result (λ out. (m : State) → StandsFor known.old m → Leads (λ b n. IsSomeAnd out (λ d. GoesWith d b) × StandsFor known.new n)
-            told.new (tested self.now.program.now self.now.bound line e.now m)) }
+        ensures leads { IfOk result (λ out. (m : State) → StandsFor known.old m →
+            Leads (λ b n. IsTested out (seen self.now.program.now n) e.now b × StandsFor known.new n) told.new
+            (tested self.now.program.now self.now.bound line e.now m)) }
         ensures bound { OnOk result (self.now.bound ≤ known.old.most → told.new.may_go_on ≡ true) }
         ensures more { IfOk result (λ out. IfSome out (λ d. (known.old.least < known.new.least) × (known.old.least < self.now.bound))) }
         ensures follows { OnOk result (Follows known.old known.new) }
@@ -85,6 +87,16 @@ impl<'a> Survey<'a> {
             Some(value) => Ok(Some(decide(value))),
             None => Ok(None),
         }
+    }
+
+    /// What is left behind a loop whose test came out false; `false` where nothing is.
+    fn leave(&self, known: &mut Standing, e: &Expression) -> Result<bool, Halt>
+        ensures kept { IfOk result (λ on. (m : State) → StandsFor known.old m → ComesTo (seen self.now.program.now m) e.now false →
+            (on ≡ true) × StandsFor known.new m) }
+        ensures follows { OnOk result (Follows known.old known.new) }
+    {
+        let on = narrow(self.alloc, self.program, known, e, false)?;
+        Ok(on)
     }
 
     /// The statements of a block, in order; `false` where no run goes on.
@@ -160,8 +172,8 @@ impl<'a> Survey<'a> {
                 }
                 Some(Decided::Open) => {
                     let mut other = known.copied(self.alloc)?;
-                    let on = self.run_block(known, told, then_part)?;
-                    let off = self.run_block(&mut other, told, else_part)?;
+                    let on = self.run_branch(known, told, then_part, test, true)?;
+                    let off = self.run_branch(&mut other, told, else_part, test, false)?;
                     Ok(join_ways(known, on, other, off))
                 }
             },
@@ -190,6 +202,29 @@ impl<'a> Survey<'a> {
                 Ok(on)
             }
         }
+    }
+
+    /// A branch that is run where a test came out true or false; `false` where no run goes on.
+    #[cycle(outside)]
+    fn run_branch(
+        &self,
+        known: &mut Standing,
+        told: &mut Told,
+        body: &Vec<Statement>,
+        e: &Expression,
+        way: bool,
+    ) -> Result<bool, Halt>
+        ensures leads { IfOk result (λ on. (m : State) → StandsFor known.old m → ComesTo (seen self.now.program.now m) e.now way →
+            Leads (λ u n. (on ≡ true) × StandsFor known.new n) told.new
+            (perform_list self.now.program.now self.now.bound body.now.items m)) }
+        ensures follows { OnOk result (Follows known.old known.new) }
+        ensures kept { IsKept told.old told.new }
+    {
+        if !narrow(self.alloc, self.program, known, e, way)? {
+            return Ok(false);
+        }
+        let on = self.run_block(known, told, body)?;
+        Ok(on)
     }
 
     #[cycle(outside)]
@@ -235,27 +270,30 @@ impl<'a> Survey<'a> {
         e: &Expression,
     ) -> Result<bool, Halt>
         ensures leads { IfOk result (λ on. (k : ℕ) (b : Bool) (m : State) → StandsFor known.old m →
-            Leads (λ u n. (on ≡ true) × StandsFor known.new n) told.new (after_test self.now.program.now self.now.bound line e.now
-            body.now.items k b m)) }
+            ComesTo (seen self.now.program.now m) e.now b → Leads (λ u n. (on ≡ true) × StandsFor known.new n) told.new
+            (after_test self.now.program.now self.now.bound line e.now body.now.items k b m)) }
         ensures follows { OnOk result (Follows known.old known.new) }
         ensures kept { IsKept told.old told.new }
     {
         known.most = known.most.max(self.bound);
         for round in 0..MOST_ROUNDS {
             let mut inside = known.copied(self.alloc)?;
-            let on = self.run_block(&mut inside, told, body)?;
+            let on = self.run_branch(&mut inside, told, body, e, true)?;
             if !on {
-                return Ok(true);
+                let left = self.leave(known, e)?;
+                return Ok(left);
             }
             let Some(_) = self.test(&mut inside, told, line, e)? else {
-                return Ok(true);
+                let left = self.leave(known, e)?;
+                return Ok(left);
             };
             if inside.is_within(known) {
-                return Ok(true);
+                let left = self.leave(known, e)?;
+                return Ok(left);
             }
             widen_at(known, &inside, self.marks, self.bound, round);
         }
-        Err(Halt::Restless { line })
+        Err(Halt::Undecided(Undecided::Restless { line }))
     }
 
     /// The turns of a `for`, one for each number; `false` where no run goes on.

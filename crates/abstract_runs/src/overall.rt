@@ -1,39 +1,25 @@
 //! One run for all inputs of a scope.
 
-ghost use Rattle.std.specs.Prelude.{◌≡◌, ◌++◌, ◌-◌, ℤ, pos, List, length, replicate, true, Some, IfOk, OnOk};
+ghost use Rattle.std.specs.Prelude.{◌≡◌, ◌≤◌, ◌++◌, ◌-◌, ℤ, pos, List, length, replicate, true, IfOk, OnOk};
 ghost use Rattle.write_rules.specs.Verdict.{Verdict};
 ghost use Rattle.pram_meaning.specs.Bounded.{perform_list};
 ghost use Rattle.pram_meaning.specs.Store.{State};
 ghost use Rattle.pram_meaning.specs.Outcome as meant;
-ghost use Rattle.pram_meaning.specs.Outcome.{IsOutcome};
-ghost use Rattle.abstract_runs.specs.Covers.{Cover};
+ghost use Rattle.pram_meaning.specs.Outcome.{Body, IsOutcome};
+ghost use Rattle.pram_meaning.specs.Meaning.{Ends};
+ghost use Rattle.all_inputs.specs.Overall.{Cover, Hold, IsInScope, IsToldOf, MayEndBehind};
 ghost use Rattle.abstract_runs.specs.Leads.{Leads};
-ghost use Rattle.abstract_runs.specs.Overall.{IsInScope, IsToldOf};
 ghost use Rattle.abstract_runs.specs.Standing.{StandsFor};
 
 use crate::halt::Halt;
+use crate::hulls::hulls;
 use crate::marks::marks_of;
 use crate::standing::Standing;
 use crate::survey::Survey;
-use crate::told::Told;
+use all_inputs::{Ending, Overall, Scope, Told};
 use intervals::Interval;
 use pram_check::Program;
 use std::alloc::{AllocError, Global};
-
-/// The inputs of so many values, each of an interval.
-#[derive(Clone, Copy, Debug, PartialEq, Eq)]
-pub struct Scope {
-    pub values: u32,
-    pub of: Interval,
-}
-
-/// What is told of a program's runs on all inputs of a scope: the faults that may come, whether a run may go on behind the bound, and what
-/// is known of those that end, if any may.
-#[derive(Drop)]
-pub struct Overall {
-    pub told: Told,
-    pub end: Option<Standing>,
-}
 
 // More of the same interval, behind the others.
 fn add_more(items: &mut Vec<Interval>, more: u32, value: Interval) -> Result<(), AllocError>
@@ -82,6 +68,21 @@ fn run_body(survey: &Survey, known: &mut Standing, told: &mut Told) -> Result<bo
     Ok(true)
 }
 
+// What is told of the runs that end in such a state.
+fn ending(alloc: Global, program: &Program, known: Standing) -> Result<Ending, AllocError>
+    ensures cells { IfOk result (λ end. (m : State) → StandsFor known m → Cover end.cells.items m.cells) }
+    ensures declared { IfOk result (λ end. (m : State) → StandsFor known m → Hold program.now.layout end.declared.items m.cells) }
+    ensures counts { IfOk result (λ end. (m : State) → StandsFor known m → (end.least ≤ m.count) × (m.count ≤ end.most)) }
+{
+    let declared = hulls(alloc, program.layout(), &known.cells)?;
+    Ok(Ending {
+        least: known.least,
+        most: known.most,
+        cells: known.cells,
+        declared,
+    })
+}
+
 /// Runs a program once for all inputs of a scope, within a bound on its statements.
 pub fn run_for_all(
     alloc: Global,
@@ -92,7 +93,10 @@ pub fn run_for_all(
     // The outcome of the program on each input of the scope is told: its fault by kind and line, that it goes on, or in what
     // intervals its memory ends.
     ensures told { IfOk result (λ overall. (input : List ℤ) (verdict : Verdict) → IsInScope scope input →
-        IsOutcome program.now input bound verdict → IsToldOf overall verdict) }
+        IsOutcome program.now input bound verdict → IsToldOf program.now.layout overall verdict) }
+    // A run that ends has as many statements as is told.
+    ensures time { IfOk result (λ overall. (input : List ℤ) (m : State) → IsInScope scope input →
+        Body program.now input (Ends tt m) → m.count ≤ bound → MayEndBehind overall m.count) }
 {
     let marks = marks_of(alloc, program, scope.of)?;
     let mut known = opening(alloc, program, scope)?;
@@ -103,21 +107,12 @@ pub fn run_for_all(
         bound,
         marks: marks.as_slice(),
     };
-    let on = run_body(&survey, &mut known, &mut told)?;
-    Ok(overall_of(told, known, on))
-}
-
-// What is told, and what is known of the runs that end, if any may.
-fn overall_of(told: Told, known: Standing, on: bool) -> Overall
-    ensures told { result.told ≡ told }
-    ensures end { on ≡ true → result.end ≡ Some known }
-{
-    if on {
-        Overall {
-            told,
-            end: Some(known),
-        }
-    } else {
-        Overall { told, end: None }
+    if !run_body(&survey, &mut known, &mut told)? {
+        return Ok(Overall { told, end: None });
     }
+    let end = ending(alloc, program, known)?;
+    Ok(Overall {
+        told,
+        end: Some(end),
+    })
 }

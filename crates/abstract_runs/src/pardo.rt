@@ -9,16 +9,15 @@ ghost use Rattle.pram_meaning.specs.Store.{State, seen};
 ghost use Rattle.abstract_runs.specs.Following.{Follows};
 ghost use Rattle.abstract_runs.specs.Leads.{Leads};
 ghost use Rattle.abstract_runs.specs.Standing.{StandsFor};
-ghost use Rattle.abstract_runs.specs.Told.{IsKept};
+ghost use Rattle.all_inputs.specs.Told.{IsKept};
 
 use crate::alone::outlook_of;
-use crate::faults::Faults;
 use crate::gathering::{all_active, gather};
 use crate::halt::Halt;
 use crate::ranging::range;
 use crate::standing::Standing;
 use crate::survey::Survey;
-use crate::told::Told;
+use all_inputs::{Faults, Told};
 use intervals::Interval;
 use pram_check::{Expression, Step};
 

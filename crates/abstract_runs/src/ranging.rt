@@ -7,16 +7,15 @@ ghost use Rattle.pram_meaning.specs.Attempt as spec;
 ghost use Rattle.pram_meaning.specs.Attempt.{Trail, attempt_range};
 ghost use Rattle.pram_model.specs.Layout.{width};
 ghost use Rattle.abstract_runs.specs.Covers.{Shows};
-ghost use Rattle.abstract_runs.specs.Faulting.{AreKept};
+ghost use Rattle.all_inputs.specs.Faulting.{AreKept};
 ghost use Rattle.abstract_runs.specs.Tried.{GoesThrough, IsTried, IsLonger};
 
 use crate::bounds::bounds;
-use crate::faults::Faults;
 use crate::gathering::count_of;
 use crate::halt::Halt;
 use crate::outlook::Outlook;
 use crate::reach::Reach;
-use crate::reason::Reason;
+use all_inputs::{Faults, Reason};
 use pram_check::Expression;
 use pram_values::Kind;
 use std::alloc::AllocError;

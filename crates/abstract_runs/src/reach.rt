@@ -2,7 +2,8 @@
 
 ghost use Rattle.std.specs.Prelude.{ℕ, List, ℤ, pos, slice_index_or};
 ghost use Rattle.intervals.specs.Intervals.{IsIn};
-ghost use Rattle.abstract_runs.specs.Covers.{Cover, IsReached};
+ghost use Rattle.all_inputs.specs.Overall.{Cover};
+ghost use Rattle.abstract_runs.specs.Covers.{IsReached};
 
 use crate::outlook::interval_at;
 use intervals::Interval;

@@ -4,7 +4,7 @@ ghost use Rattle.std.specs.Prelude.{◌≡◌, ℕ, List, [], ◌∷◌, ℤ, tr
 ghost use Rattle.pram_meaning.specs.Conflict.{Part};
 ghost use Rattle.pram_meaning.specs.Together.{those, those_of};
 ghost use Rattle.pram_values.specs.Truth.{is_nonzero};
-ghost use Rattle.abstract_runs.specs.declared.faults.Faults.{Faults};
+ghost use Rattle.all_inputs.specs.declared.faults.Faults.{Faults};
 ghost use Rattle.abstract_runs.specs.Decided.{ComesOut};
 ghost use Rattle.abstract_runs.specs.Given.{AreGiven, IsGiving};
 ghost use Rattle.abstract_runs.specs.Rows.{AreActive, ArePartsBy, IsPartBy};

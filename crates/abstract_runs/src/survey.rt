@@ -6,10 +6,10 @@ ghost use Rattle.pram_meaning.specs.Store.{State};
 ghost use Rattle.abstract_runs.specs.Following.{Follows};
 ghost use Rattle.abstract_runs.specs.Leads.{Leads};
 ghost use Rattle.abstract_runs.specs.Standing.{IsKnownAs};
-ghost use Rattle.abstract_runs.specs.Told.{IsKept};
+ghost use Rattle.all_inputs.specs.Told.{IsKept};
 
 use crate::standing::Standing;
-use crate::told::Told;
+use all_inputs::Told;
 use pram_check::Program;
 use std::alloc::Global;
 

@@ -3,25 +3,44 @@
 ghost use Rattle.std.specs.Prelude.{◌≡◌, ◌≤◌, ◌<◌, ℕ, List, true, IfOk, IfSome, IsSomeAnd, OnOk};
 ghost use Rattle.pram_meaning.specs.Attempt.{attempt_step};
 ghost use Rattle.pram_meaning.specs.Bounded.{attempted_on};
+ghost use Rattle.pram_meaning.specs.Conflict.{Part};
 ghost use Rattle.pram_meaning.specs.Store.{State};
 ghost use Rattle.abstract_runs.specs.Following.{Follows};
 ghost use Rattle.abstract_runs.specs.Inside.{IsAttempted};
 ghost use Rattle.abstract_runs.specs.Leads.{Leads};
 ghost use Rattle.abstract_runs.specs.Rows.{AreActive};
 ghost use Rattle.abstract_runs.specs.Standing.{StandsWith};
-ghost use Rattle.abstract_runs.specs.Told.{IsKept};
+ghost use Rattle.all_inputs.specs.Told.{IsKept};
 
 use crate::active::Active;
 use crate::conflicts::note_conflicts;
-use crate::faults::Faults;
 use crate::row::Row;
 use crate::standing::{Member, Standing};
+use crate::sure_faults::surely_faults;
 use crate::survey::Survey;
-use crate::told::Told;
+use all_inputs::{Faults, Told};
 use pram_check::{Expression, StepTarget};
 use std::alloc::AllocError;
 
 impl<'a> Survey<'a> {
+    // The parts, unless each run has a fault in them.
+    fn faultless(
+        &self,
+        known: &Standing,
+        rows: Vec<Row>,
+        faults: &Faults,
+    ) -> Result<Option<Vec<Row>>, AllocError>
+        ensures { IfOk result (λ found. (vs : List ℕ) (xs : List Part) → IsAttempted self.now.program.now rows.items vs xs →
+            IsSomeAnd found (λ rows. IsAttempted self.now.program.now rows.items vs xs)) }
+    {
+        let rule = self.program.rule();
+        let sure = surely_faults(self.alloc, rule, known.cells.len(), &rows, faults)?;
+        if sure {
+            return Ok(None);
+        }
+        Ok(Some(rows))
+    }
+
     /// The parts of a set in a statement, where runs go on: it counts, and it may fault.
     pub fn attempt_on(
         &self,
@@ -57,6 +76,7 @@ impl<'a> Survey<'a> {
             &mut faults,
         )?;
         told.note(line, faults)?;
-        Ok(Some(rows))
+        let found = self.faultless(known, rows, &faults)?;
+        Ok(found)
     }
 }

@@ -3,13 +3,13 @@
 #![tactic(auto)]
 
 #[cfg(test)]
-mod all_inputs;
-#[cfg(test)]
 mod drawings;
 #[cfg(test)]
 mod flows;
 #[cfg(test)]
 mod growth;
+#[cfg(test)]
+mod inputs_together;
 #[cfg(test)]
 mod memories;
 #[cfg(test)]

@@ -1,6 +1,6 @@
 use Rattle.std.proofs.Common.{Some, None, sym, subst}
 use Rattle.pram_model.specs.Layout.{cell_of}
-use Rattle.abstract_runs.specs.Covers.{Cover}
+use Rattle.all_inputs.specs.Overall.{Cover}
 use Rattle.abstract_runs.specs.Placed.{IsPlacedBy}
 use Rattle.abstract_runs.proofs.Attempted.{AreReadBy, read_tried}
 use Rattle.abstract_runs.proofs.attempt.read_at.Goals as goal

@@ -1,6 +1,6 @@
 use Rattle.std.proofs.Common.{sym, subst}
 use Rattle.pram_meaning.specs.Conflict.{reads_of}
-use Rattle.abstract_runs.specs.Faulting.{May}
+use Rattle.all_inputs.specs.Faulting.{May}
 use Rattle.abstract_runs.proofs.SharedReads.{none_conflict, read_kind}
 use Rattle.abstract_runs.proofs.conflicts.note_read_conflicts.Goals as goal
 

@@ -1,5 +1,5 @@
 use Rattle.std.proofs.Common.{sym, subst, ◌∙◌}
-use Rattle.abstract_runs.specs.Faulting.{May}
+use Rattle.all_inputs.specs.Faulting.{May}
 use Rattle.abstract_runs.proofs.SharedWrites.{clash_kind, never_key}
 use Rattle.abstract_runs.proofs.conflicts.note_write_conflicts.Goals as goal
 

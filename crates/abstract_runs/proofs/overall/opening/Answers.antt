@@ -1,6 +1,6 @@
 use Rattle.std.proofs.Common.{pos, refl, sym, subst, ap, ◌∙◌, ◌-◌, ◌++◌, length, replicate, arith}
 use Rattle.pram_model.specs.Layout.{total_size}
-use Rattle.abstract_runs.specs.Covers.{Cover}
+use Rattle.all_inputs.specs.Overall.{Cover}
 use Rattle.abstract_runs.proofs.Opening.{cover_same}
 use Rattle.abstract_runs.proofs.overall.opening.Goals as goal
 

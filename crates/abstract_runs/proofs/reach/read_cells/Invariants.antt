@@ -1,6 +1,6 @@
 use Rattle.std.proofs.Common.{ℕ, List, ℤ, pos, slice_index_or, ◌<◌, ◌≤◌}
 use Rattle.intervals.specs.Intervals.{IsIn}
-use Rattle.abstract_runs.specs.Covers.{Cover}
+use Rattle.all_inputs.specs.Overall.{Cover}
 use Rattle.abstract_runs.proofs.reach.read_cells.Given as goal
 
 -- the cells that were joined

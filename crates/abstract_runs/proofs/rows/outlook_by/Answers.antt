@@ -2,7 +2,7 @@ use Rattle.std.proofs.Common.{arith, tests, rules, sym, subst, ap, ◌∙◌, []
 use Rattle.std.proofs.lemmas.Int.{to_z-of_z}
 use Rattle.std.specs.Int.{w64}
 use Rattle.pram_meaning.specs.Store.{member_of, Member}
-use Rattle.abstract_runs.specs.Covers.{Cover}
+use Rattle.all_inputs.specs.Overall.{Cover}
 use Rattle.abstract_runs.proofs.Members.{member_read, member_past}
 use Rattle.abstract_runs.proofs.rows.outlook_by.Goals as goal
 

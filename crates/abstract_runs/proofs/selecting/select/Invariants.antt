@@ -1,7 +1,7 @@
 use Rattle.std.proofs.Common.{List, take}
 use Rattle.pram_meaning.specs.Conflict.{Part}
 use Rattle.pram_meaning.specs.Together.{those}
-use Rattle.abstract_runs.specs.declared.faults.Faults.{Faults}
+use Rattle.all_inputs.specs.declared.faults.Faults.{Faults}
 use Rattle.abstract_runs.specs.Given.{AreGiven}
 use Rattle.abstract_runs.specs.Rows.{AreActive, ArePartsBy}
 use Rattle.abstract_runs.proofs.selecting.select.Given as goal

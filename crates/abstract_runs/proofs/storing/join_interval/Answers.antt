@@ -1,6 +1,6 @@
 use Rattle.std.proofs.Common.{pos, sym, subst}
 use Rattle.std.specs.Prelude.{slice_index_or}
-use Rattle.abstract_runs.specs.Covers.{Cover}
+use Rattle.all_inputs.specs.Overall.{Cover}
 use Rattle.abstract_runs.proofs.Setting.{cover_stays}
 use Rattle.abstract_runs.proofs.storing.join_interval.Goals as goal
 

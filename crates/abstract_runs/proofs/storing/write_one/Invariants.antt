@@ -1,7 +1,7 @@
 use Rattle.std.proofs.Common.{◌≡◌, ℕ, ◌≤◌, ◌<◌, List, ℤ, length}
 use Rattle.std.specs.Prelude.{slice_set}
 use Rattle.intervals.specs.Intervals.{IsIn}
-use Rattle.abstract_runs.specs.Covers.{Cover}
+use Rattle.all_inputs.specs.Overall.{Cover}
 use Rattle.abstract_runs.proofs.storing.write_one.Given as goal
 
 -- the cells gone over may have been set

@@ -2,7 +2,7 @@ use Rattle.std.proofs.Common.{ℕ, List, take}
 use Rattle.write_rules.specs.Rule.{sum_of}
 use Rattle.intervals.specs.Intervals.{IsIn}
 use Rattle.pram_meaning.specs.Conflict.{Part, writes_to}
-use Rattle.abstract_runs.specs.declared.faults.Faults.{Faults}
+use Rattle.all_inputs.specs.declared.faults.Faults.{Faults}
 use Rattle.abstract_runs.specs.Given.{AreGiven}
 use Rattle.abstract_runs.specs.Rows.{ArePartsBy}
 use Rattle.abstract_runs.proofs.writing.sums_of.Given as goal

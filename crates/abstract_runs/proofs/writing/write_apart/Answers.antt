@@ -1,6 +1,6 @@
 use Rattle.std.proofs.Common.{sym, subst, ap, ◌∙◌, refl}
 use Rattle.pram_meaning.specs.Together.{overwritten}
-use Rattle.abstract_runs.specs.Covers.{Cover}
+use Rattle.all_inputs.specs.Overall.{Cover}
 use Rattle.abstract_runs.specs.Given.{AreGiven}
 use Rattle.abstract_runs.specs.Columns.{reach_in}
 use Rattle.abstract_runs.proofs.CellValues.{over_none, over_nothing, over_one}

@@ -2,8 +2,8 @@ use Rattle.std.proofs.Common.{◌≡◌, List, ℤ, length, take}
 use Rattle.pram_model.specs.declared.rule.Rule.{Rule}
 use Rattle.pram_meaning.specs.Conflict.{Part}
 use Rattle.pram_meaning.specs.Together.{overwritten}
-use Rattle.abstract_runs.specs.declared.faults.Faults.{Faults}
-use Rattle.abstract_runs.specs.Covers.{Cover}
+use Rattle.all_inputs.specs.declared.faults.Faults.{Faults}
+use Rattle.all_inputs.specs.Overall.{Cover}
 use Rattle.abstract_runs.specs.Given.{AreGiven}
 use Rattle.abstract_runs.specs.Rows.{ArePartsBy}
 use Rattle.abstract_runs.proofs.writing.write_apart.Given as goal

@@ -2,7 +2,8 @@ use Rattle.std.proofs.Common.{◌∙◌, ap, inl, inr, subst, slice_set}
 use Rattle.std.specs.List.{Contains}
 use Rattle.intervals.specs.Intervals.{IsIn}
 use Rattle.pram_meaning.specs.Conflict.{writes_to}
-use Rattle.abstract_runs.specs.Covers.{Cover, IsReached}
+use Rattle.all_inputs.specs.Overall.{Cover}
+use Rattle.abstract_runs.specs.Covers.{IsReached}
 use Rattle.abstract_runs.specs.Given.{AreGiven}
 use Rattle.abstract_runs.specs.Columns.{reach_in}
 use Rattle.abstract_runs.proofs.CellRules.{cover_left, write_before, write_before_or_of, write_is}

@@ -3,8 +3,8 @@ use Rattle.std.specs.Prelude.{slice_set}
 use Rattle.std.specs.List.{Contains}
 use Rattle.write_rules.specs.declared.write.Write.{Write}
 use Rattle.pram_meaning.specs.Conflict.{Part, writes_to}
-use Rattle.abstract_runs.specs.declared.faults.Faults.{Faults}
-use Rattle.abstract_runs.specs.Covers.{Cover}
+use Rattle.all_inputs.specs.declared.faults.Faults.{Faults}
+use Rattle.all_inputs.specs.Overall.{Cover}
 use Rattle.abstract_runs.specs.Given.{AreGiven}
 use Rattle.abstract_runs.specs.Rows.{ArePartsBy}
 use Rattle.abstract_runs.specs.Writing.{MayLeave}

@@ -2,7 +2,7 @@ use Rattle.std.proofs.Common.{List, take}
 use Rattle.pram_meaning.specs.Conflict.{Part}
 use Rattle.pram_meaning.specs.Store as store
 use Rattle.pram_meaning.specs.Together.{with_locals}
-use Rattle.abstract_runs.specs.declared.faults.Faults.{Faults}
+use Rattle.all_inputs.specs.declared.faults.Faults.{Faults}
 use Rattle.abstract_runs.specs.Given.{AreGiven}
 use Rattle.abstract_runs.specs.Likeness.{AreLike}
 use Rattle.abstract_runs.specs.Rows.{ArePartsBy}

@@ -3,7 +3,7 @@ use Rattle.pram_meaning.specs.Store.{State}
 use Rattle.abstract_runs.specs.Following.{Follows}
 use Rattle.abstract_runs.specs.Likeness.{AreLike}
 use Rattle.abstract_runs.specs.Standing.{StandsWith}
-use Rattle.abstract_runs.specs.Told.{IsKept}
+use Rattle.all_inputs.specs.Told.{IsKept}
 use Rattle.abstract_runs.proofs.BlocksOn.{InBlockOn}
 use Rattle.abstract_runs.proofs.TurningOn.{InTurnsOn}
 use Rattle.abstract_runs.proofs.survey.Survey.+inside.Given as goal

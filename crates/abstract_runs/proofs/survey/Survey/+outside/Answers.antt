@@ -44,28 +44,28 @@ run_while-turns-init t c = (
 pub run_while-returns-in-None-clause-leads : goal.run_while-returns-in-None-clause-leads
 run_while-returns-in-None-clause-leads t c =
     test_leads c.args.self.now.program.now c.args.self.now.bound c.args.line c.args.e.now c.args.body.now.items c.args.known.now c.turns.known c.test.new.known
-    c.turns.told c.test.new.told (Out c.in_ok-test.field-0) (λ u s. (false ≡ true) × StandsFor c.test.new.known s) c.turns.invariant.0
+    c.turns.told c.test.new.told (Out c.args.self.now.program.now c.args.e.now c.in_ok-test.field-0) (λ u s. (false ≡ true) × StandsFor c.test.new.known s) c.turns.invariant.0
     c.in_ok-test.ensures.kept c.in_ok-test.ensures.bound c.in_ok-test.ensures.leads
-    (λ k b m out here. absurd (out_none c.in_ok-test.field-0 b c.in-None.is out))
+    (λ k b m out here. absurd (out_none c.args.self.now.program.now c.args.e.now c.in_ok-test.field-0 b m c.in-None.is out))
 
 pub run_while-returns-in-Some-No-clause-leads : goal.run_while-returns-in-Some-No-clause-leads
 run_while-returns-in-Some-No-clause-leads t c =
     test_leads c.args.self.now.program.now c.args.self.now.bound c.args.line c.args.e.now c.args.body.now.items c.args.known.now c.turns.known c.test.new.known
-    c.turns.told c.test.new.told (Out c.in_ok-test.field-0) (λ u s. (true ≡ true) × StandsFor c.test.new.known s) c.turns.invariant.0
+    c.turns.told c.test.new.told (Out c.args.self.now.program.now c.args.e.now c.in_ok-test.field-0) (λ u s. (true ≡ true) × StandsFor c.test.new.known s) c.turns.invariant.0
     c.in_ok-test.ensures.kept c.in_ok-test.ensures.bound c.in_ok-test.ensures.leads
     (λ k b m out here. turns_end c.args.self.now.program.now c.args.self.now.bound c.args.line c.args.e.now c.args.body.now.items _ c.test.new.told k b m
-    (out_as c.in_ok-test.field-0 No b (c.in-Some-No.is ∙ ap Some c.in-Some-No.field-0-is) out) (refl, here))
+    (out_as c.args.self.now.program.now c.args.e.now c.in_ok-test.field-0 No b m (c.in-Some-No.is ∙ ap Some c.in-Some-No.field-0-is) out) (refl, here))
 
 pub run_while-returns-then-not-on-clause-leads : goal.run_while-returns-then-not-on-clause-leads
 run_while-returns-then-not-on-clause-leads t c =
     test_leads c.args.self.now.program.now c.args.self.now.bound c.args.line c.args.e.now c.args.body.now.items c.args.known.now c.turns.known c.test.new.known
-    c.turns.told c.run_block.new.told (Out c.in_ok-test.field-0) (λ u s. (false ≡ true) × StandsFor c.run_block.new.known s) c.turns.invariant.0
+    c.turns.told c.run_block.new.told (Out c.args.self.now.program.now c.args.e.now c.in_ok-test.field-0) (λ u s. (false ≡ true) × StandsFor c.run_block.new.known s) c.turns.invariant.0
     (kept_then c.turns.told c.test.new.told c.run_block.new.told c.in_ok-test.ensures.kept c.in_ok-on.ensures.kept)
     (λ at. c.in_ok-on.ensures.kept.goes_on (c.in_ok-test.ensures.bound at))
-    (λ m h. leads_kept {A = Bool} (λ b s. Out c.in_ok-test.field-0 b × StandsFor c.test.new.known s) c.test.new.told c.run_block.new.told
+    (λ m h. leads_kept {A = Bool} (λ b s. Out c.args.self.now.program.now c.args.e.now c.in_ok-test.field-0 b s × StandsFor c.test.new.known s) c.test.new.told c.run_block.new.told
     (tested c.args.self.now.program.now c.args.self.now.bound c.args.line c.args.e.now m) (c.in_ok-test.ensures.leads m h) c.in_ok-on.ensures.kept)
     (λ k b m out here. turns_stop c.args.self.now.program.now c.args.self.now.bound c.args.line c.args.e.now c.args.body.now.items _ c.run_block.new.known
-    c.run_block.new.told c.in_ok-on.on k b m (out_as c.in_ok-test.field-0 Yes b (c.in-Some-Yes.is ∙ ap Some c.in-Some-Yes.field-0-is) out)
+    c.run_block.new.told c.in_ok-on.on k b m (out_as c.args.self.now.program.now c.args.e.now c.in_ok-test.field-0 Yes b m (c.in-Some-Yes.is ∙ ap Some c.in-Some-Yes.field-0-is) out)
     (c.in_ok-on.ensures.leads m here) c.if-not-on.true)
 
 pub run_while-turns-preserved : goal.run_while-turns-preserved
@@ -73,9 +73,9 @@ run_while-turns-preserved t c =
     let some = c.in-Some-Yes.is ∙ ap Some c.in-Some-Yes.field-0-is in
     let more = more_of c.in_ok-test.field-0 Yes _ some c.in_ok-test.ensures.more in (
       turn_goes c.args.self.now.program.now c.args.self.now.bound c.args.line c.args.e.now c.args.body.now.items c.args.known.now c.turns.known c.test.new.known
-          c.run_block.new.known c.turns.told c.test.new.told c.run_block.new.told (Out c.in_ok-test.field-0) c.in_ok-on.on c.turns.invariant.0
+          c.run_block.new.known c.turns.told c.test.new.told c.run_block.new.told (Out c.args.self.now.program.now c.args.e.now c.in_ok-test.field-0) c.in_ok-on.on c.turns.invariant.0
           more.0 c.in_ok-on.ensures.follows.least more.1 c.in_ok-test.ensures.kept c.in_ok-on.ensures.kept c.in_ok-test.ensures.leads
-          (λ b out. out_as c.in_ok-test.field-0 Yes b some out) c.in_ok-on.ensures.leads,
+          (λ b m out. out_as c.args.self.now.program.now c.args.e.now c.in_ok-test.field-0 Yes b m some out) c.in_ok-on.ensures.leads,
       follows_then _ _ _ c.turns.invariant.1 (follows_then _ _ _ c.in_ok-test.ensures.follows c.in_ok-on.ensures.follows),
       kept_then _ _ _ c.turns.invariant.2 (kept_then _ _ _ c.in_ok-test.ensures.kept c.in_ok-on.ensures.kept),
     )
@@ -89,53 +89,68 @@ run_statement-returns-in_ok-on-in-While-clause-leads t c = λ m h.
 pub run_statement-returns-in_ok-on-in-Some-Yes-clause-leads : goal.run_statement-returns-in_ok-on-in-Some-Yes-clause-leads
 run_statement-returns-in_ok-on-in-Some-Yes-clause-leads t c = λ m h.
     then_leads c.args.self.now.program.now c.args.self.now.bound c.in-If.location c.args.s.now c.in-If.test c.in-If.then_part c.in-If.else_part
-    (Out c.in_ok-test-in-If.field-0) c.test.new.known c.test.new.told c.run_block.new.told _ m c.in-If.is (c.in_ok-test-in-If.ensures.leads m h)
+    (Out c.args.self.now.program.now c.in-If.test c.in_ok-test-in-If.field-0) c.test.new.known c.test.new.told c.run_block.new.told _ m c.in-If.is (c.in_ok-test-in-If.ensures.leads m h)
     c.in_ok-on-in-Some-Yes.ensures.kept
-    (λ z out. out_as c.in_ok-test-in-If.field-0 Yes z (c.in-Some-Yes.is ∙ ap Some c.in-Some-Yes.field-0-is) out)
+    (λ z s out. out_as c.args.self.now.program.now c.in-If.test c.in_ok-test-in-If.field-0 Yes z s (c.in-Some-Yes.is ∙ ap Some c.in-Some-Yes.field-0-is) out)
     c.in_ok-on-in-Some-Yes.ensures.leads
 
 pub run_statement-returns-in_ok-on-in-Some-No-clause-leads : goal.run_statement-returns-in_ok-on-in-Some-No-clause-leads
 run_statement-returns-in_ok-on-in-Some-No-clause-leads t c = λ m h.
     else_leads c.args.self.now.program.now c.args.self.now.bound c.in-If.location c.args.s.now c.in-If.test c.in-If.then_part c.in-If.else_part
-    (Out c.in_ok-test-in-If.field-0) c.test.new.known c.test.new.told c.run_block-in-Some-No.new.told _ m c.in-If.is
+    (Out c.args.self.now.program.now c.in-If.test c.in_ok-test-in-If.field-0) c.test.new.known c.test.new.told c.run_block-in-Some-No.new.told _ m c.in-If.is
     (c.in_ok-test-in-If.ensures.leads m h) c.in_ok-on-in-Some-No.ensures.kept
-    (λ z out. out_as c.in_ok-test-in-If.field-0 No z (c.in-Some-No.is ∙ ap Some c.in-Some-No.field-0-is) out)
+    (λ z s out. out_as c.args.self.now.program.now c.in-If.test c.in_ok-test-in-If.field-0 No z s (c.in-Some-No.is ∙ ap Some c.in-Some-No.field-0-is) out)
     c.in_ok-on-in-Some-No.ensures.leads
 
 pub run_open-returns-in_err-on-clause-kept : goal.run_open-returns-in_err-on-clause-kept
-run_open-returns-in_err-on-clause-kept t c = kept_then _ _ _ c.loop-round.invariant.3 c.run_block.ensures.kept
-
-pub run_open-returns-then-not-on-clause-kept : goal.run_open-returns-then-not-on-clause-kept
-run_open-returns-then-not-on-clause-kept t c = kept_then _ _ _ c.loop-round.invariant.3 c.run_block.ensures.kept
+run_open-returns-in_err-on-clause-kept t c = kept_then _ _ _ c.loop-round.invariant.3 c.run_branch.ensures.kept
 
 pub run_open-returns-in_err-test-clause-kept : goal.run_open-returns-in_err-test-clause-kept
-run_open-returns-in_err-test-clause-kept t c = kept_then _ _ _ (kept_then _ _ _ c.loop-round.invariant.3 c.run_block.ensures.kept) c.test.ensures.kept
+run_open-returns-in_err-test-clause-kept t c = kept_then _ _ _ (kept_then _ _ _ c.loop-round.invariant.3 c.run_branch.ensures.kept) c.test.ensures.kept
+
+pub run_open-returns-in_err-left-clause-kept : goal.run_open-returns-in_err-left-clause-kept
+run_open-returns-in_err-left-clause-kept t c = kept_then _ _ _ c.loop-round.invariant.3 c.run_branch.ensures.kept
+
+pub run_open-returns-then-not-on-clause-kept : goal.run_open-returns-then-not-on-clause-kept
+run_open-returns-then-not-on-clause-kept t c = kept_then _ _ _ c.loop-round.invariant.3 c.run_branch.ensures.kept
+
+pub run_open-returns-in_err-left-2-clause-kept : goal.run_open-returns-in_err-left-2-clause-kept
+run_open-returns-in_err-left-2-clause-kept t c = kept_then _ _ _ (kept_then _ _ _ c.loop-round.invariant.3 c.run_branch.ensures.kept) c.test.ensures.kept
 
 pub run_open-returns-in_default-clause-kept : goal.run_open-returns-in_default-clause-kept
-run_open-returns-in_default-clause-kept t c = kept_then _ _ _ (kept_then _ _ _ c.loop-round.invariant.3 c.run_block.ensures.kept) c.test.ensures.kept
+run_open-returns-in_default-clause-kept t c = kept_then _ _ _ (kept_then _ _ _ c.loop-round.invariant.3 c.run_branch.ensures.kept) c.test.ensures.kept
 
-pub run_open-returns-in_default-clause-leads : goal.run_open-returns-in_default-clause-leads
-run_open-returns-in_default-clause-leads t c = λ k b m h.
-    rest_leads c.args.self.now.program.now c.args.self.now.bound c.args.line c.args.e.now c.args.body.now.items c.loop-round.known c.run_block.new.known c.test.new.known c.run_block.new.told c.test.new.told (Out c.in_ok-test.field-0) c.in_ok-on.on
-    (λ m h. c.in_ok-on.ensures.leads m (stands_on c.loop-round.known c.in_ok-inside.inside (λ m. (c.in_ok-inside.ensures.known m).0) m h))
-    c.in_ok-test.ensures.leads
-    (λ b m out back. absurd (out_none c.in_ok-test.field-0 b c.in_default.is out))
-    (c.in_ok-test.ensures.bound (bound_passed c.args.self.now.bound c.loop-round.known c.in_ok-inside.inside c.run_block.new.known
-    c.loop-round.invariant.1 c.in_ok-inside.ensures.same c.in_ok-on.ensures.follows))
-    c.in_ok-test.ensures.kept k b m (c.loop-round.invariant.0 m h)
-
-pub run_open-returns-then-is_within-clause-leads : goal.run_open-returns-then-is_within-clause-leads
-run_open-returns-then-is_within-clause-leads t c = λ k b m h.
-    rest_leads c.args.self.now.program.now c.args.self.now.bound c.args.line c.args.e.now c.args.body.now.items c.loop-round.known c.run_block.new.known c.test.new.known c.run_block.new.told c.test.new.told (Out c.in_ok-test.field-0) c.in_ok-on.on
-    (λ m h. c.in_ok-on.ensures.leads m (stands_on c.loop-round.known c.in_ok-inside.inside (λ m. (c.in_ok-inside.ensures.known m).0) m h))
-    c.in_ok-test.ensures.leads
-    (λ b m out back. stands_on c.test.new.known c.loop-round.known (c.is_within.ensures c.if-is_within.true) m back)
-    (c.in_ok-test.ensures.bound (bound_passed c.args.self.now.bound c.loop-round.known c.in_ok-inside.inside c.run_block.new.known
-    c.loop-round.invariant.1 c.in_ok-inside.ensures.same c.in_ok-on.ensures.follows))
-    c.in_ok-test.ensures.kept k b m (c.loop-round.invariant.0 m h)
+pub run_open-returns-in_err-left-3-clause-kept : goal.run_open-returns-in_err-left-3-clause-kept
+run_open-returns-in_err-left-3-clause-kept t c = kept_then _ _ _ (kept_then _ _ _ c.loop-round.invariant.3 c.run_branch.ensures.kept) c.test.ensures.kept
 
 pub run_open-returns-then-is_within-clause-kept : goal.run_open-returns-then-is_within-clause-kept
-run_open-returns-then-is_within-clause-kept t c = kept_then _ _ _ (kept_then _ _ _ c.loop-round.invariant.3 c.run_block.ensures.kept) c.test.ensures.kept
+run_open-returns-then-is_within-clause-kept t c = kept_then _ _ _ (kept_then _ _ _ c.loop-round.invariant.3 c.run_branch.ensures.kept) c.test.ensures.kept
+
+pub run_open-returns-in_default-clause-leads : goal.run_open-returns-in_default-clause-leads
+run_open-returns-in_default-clause-leads t c = λ k b m h come.
+    rest_leads c.args.self.now.program.now c.args.self.now.bound c.args.line c.args.e.now c.args.body.now.items c.loop-round.known c.run_branch.new.known
+    c.test.new.known _ c.run_branch.new.told c.test.new.told (Out c.args.self.now.program.now c.args.e.now c.in_ok-test.field-0) c.in_ok-on.on
+    c.in_ok-left-2.left
+    (λ m h. c.in_ok-on.ensures.leads m (stands_on c.loop-round.known c.in_ok-inside.inside (λ m. (c.in_ok-inside.ensures.known m).0) m h))
+    c.in_ok-test.ensures.leads (λ b m out. out.comes)
+    (λ b m out back. absurd (out_none c.args.self.now.program.now c.args.e.now c.in_ok-test.field-0 b m c.in_default.is out))
+    c.in_ok-left-2.ensures.kept
+    (c.in_ok-test.ensures.bound (bound_passed c.args.self.now.bound c.loop-round.known c.in_ok-inside.inside c.run_branch.new.known
+    c.loop-round.invariant.1 c.in_ok-inside.ensures.same c.in_ok-on.ensures.follows))
+    c.in_ok-test.ensures.kept k b m (c.loop-round.invariant.0 m h) come
+
+pub run_open-returns-then-is_within-clause-leads : goal.run_open-returns-then-is_within-clause-leads
+run_open-returns-then-is_within-clause-leads t c = λ k b m h come.
+    rest_leads c.args.self.now.program.now c.args.self.now.bound c.args.line c.args.e.now c.args.body.now.items c.loop-round.known c.run_branch.new.known
+    c.test.new.known _ c.run_branch.new.told c.test.new.told (Out c.args.self.now.program.now c.args.e.now c.in_ok-test.field-0) c.in_ok-on.on
+    c.in_ok-left-3.left
+    (λ m h. c.in_ok-on.ensures.leads m (stands_on c.loop-round.known c.in_ok-inside.inside (λ m. (c.in_ok-inside.ensures.known m).0) m h))
+    c.in_ok-test.ensures.leads (λ b m out. out.comes)
+    (λ b m out back. stands_on c.test.new.known c.loop-round.known (c.is_within.ensures c.if-is_within.true) m back)
+    c.in_ok-left-3.ensures.kept
+    (c.in_ok-test.ensures.bound (bound_passed c.args.self.now.bound c.loop-round.known c.in_ok-inside.inside c.run_branch.new.known
+    c.loop-round.invariant.1 c.in_ok-inside.ensures.same c.in_ok-on.ensures.follows))
+    c.in_ok-test.ensures.kept k b m (c.loop-round.invariant.0 m h) come
 
 pub run_open-loop-round-preserved : goal.run_open-loop-round-preserved
 run_open-loop-round-preserved t c =
@@ -146,31 +161,32 @@ run_open-loop-round-preserved t c =
       (λ s h. stands_on c.loop-round.known c.widen_at.new.known c.widen_at.ensures.left s (c.loop-round.invariant.0 s h)),
       omega (arith, m, n),
       c.widen_at.ensures.follows c.args.known.now c.loop-round.invariant.2 (follows_then _ _ _ c.loop-round.invariant.2 turned),
-      kept_then _ _ _ (kept_then _ _ _ c.loop-round.invariant.3 c.run_block.ensures.kept) c.test.ensures.kept,
+      kept_then _ _ _ (kept_then _ _ _ c.loop-round.invariant.3 c.run_branch.ensures.kept) c.test.ensures.kept,
     )
 
 pub run_statement-returns-in_ok-off-in-Some-Open-clause-leads : goal.run_statement-returns-in_ok-off-in-Some-Open-clause-leads
 run_statement-returns-in_ok-off-in-Some-Open-clause-leads t c = λ m h.
     both_leads c.args.self.now.program.now c.args.self.now.bound c.in-If.location c.args.s.now c.in-If.test c.in-If.then_part c.in-If.else_part
-    (Out c.in_ok-test-in-If.field-0) c.test.new.known c.test.new.told c.run_block-in-Some-Open-2.new.told _ m c.in-If.is
-    (c.in_ok-test-in-If.ensures.leads m h)
-    (kept_then _ _ _ c.run_block-in-Some-Open.ensures.kept c.run_block-in-Some-Open-2.ensures.kept)
-    c.in_ok-other-in-Some-Open.other c.run_block-in-Some-Open.new.known c.run_block-in-Some-Open-2.new.known c.run_block-in-Some-Open.new.told _ _
-    (λ m h. stands_on c.test.new.known c.in_ok-other-in-Some-Open.other (λ m. (c.in_ok-other-in-Some-Open.ensures.known m).0) m h)
-    c.in_ok-on-in-Some-Open.ensures.leads c.run_block-in-Some-Open-2.ensures.kept c.in_ok-off-in-Some-Open.ensures.leads
+    (Out c.args.self.now.program.now c.in-If.test c.in_ok-test-in-If.field-0) c.test.new.known c.test.new.told
+    c.run_branch-in-Some-Open.new.told _ m c.in-If.is (c.in_ok-test-in-If.ensures.leads m h)
+    (kept_then _ _ _ c.run_branch.ensures.kept c.run_branch-in-Some-Open.ensures.kept)
+    c.in_ok-other-in-Some-Open.other c.run_branch.new.known c.run_branch-in-Some-Open.new.known c.run_branch.new.told _ _
+    (λ z s out. out.comes) (λ m h. stands_on c.test.new.known c.in_ok-other-in-Some-Open.other
+    (λ m. (c.in_ok-other-in-Some-Open.ensures.known m).0) m h)
+    c.in_ok-on-in-Some-Open.ensures.leads c.run_branch-in-Some-Open.ensures.kept c.in_ok-off-in-Some-Open.ensures.leads
     c.join_ways.ensures.left c.join_ways.ensures.right
 
 pub run_while-returns-in-Some-Open-clause-leads : goal.run_while-returns-in-Some-Open-clause-leads
 run_while-returns-in-Some-Open-clause-leads t c =
     test_leads c.args.self.now.program.now c.args.self.now.bound c.args.line c.args.e.now c.args.body.now.items c.args.known.now c.turns.known c.test.new.known
-    c.turns.told c.run_open.new.told (Out c.in_ok-test.field-0) (λ u s. (c.in_ok-on-in-Some-Open.on ≡ true) × StandsFor c.run_open.new.known s)
+    c.turns.told c.run_open.new.told (Out c.args.self.now.program.now c.args.e.now c.in_ok-test.field-0) (λ u s. (c.in_ok-on-in-Some-Open.on ≡ true) × StandsFor c.run_open.new.known s)
     c.turns.invariant.0
     (kept_then c.turns.told c.test.new.told c.run_open.new.told c.in_ok-test.ensures.kept c.in_ok-on-in-Some-Open.ensures.kept)
     (λ at. c.in_ok-on-in-Some-Open.ensures.kept.goes_on (c.in_ok-test.ensures.bound at))
-    (λ m h. leads_kept {A = Bool} (λ b s. Out c.in_ok-test.field-0 b × StandsFor c.test.new.known s) c.test.new.told c.run_open.new.told
+    (λ m h. leads_kept {A = Bool} (λ b s. Out c.args.self.now.program.now c.args.e.now c.in_ok-test.field-0 b s × StandsFor c.test.new.known s) c.test.new.told c.run_open.new.told
     (tested c.args.self.now.program.now c.args.self.now.bound c.args.line c.args.e.now m) (c.in_ok-test.ensures.leads m h)
     c.in_ok-on-in-Some-Open.ensures.kept)
-    (λ k b m out here. c.in_ok-on-in-Some-Open.ensures.leads k b m here)
+    (λ k b m out here. c.in_ok-on-in-Some-Open.ensures.leads k b m here out.comes)
 
 pub run_for-returns-then-not-begin-clause-leads : goal.run_for-returns-then-not-begin-clause-leads
 run_for-returns-then-not-begin-clause-leads t c =

@@ -2,7 +2,7 @@ use Rattle.std.proofs.Common.{◌-◌, ◌≤◌}
 use Rattle.pram_meaning.specs.Store.{State}
 use Rattle.abstract_runs.specs.Standing.{StandsFor}
 use Rattle.abstract_runs.specs.Following.{Follows}
-use Rattle.abstract_runs.specs.Told.{IsKept}
+use Rattle.all_inputs.specs.Told.{IsKept}
 use Rattle.abstract_runs.proofs.Coming.{InBlock}
 use Rattle.abstract_runs.proofs.Numbering.{InFor}
 use Rattle.abstract_runs.proofs.Turning.{InTurns}

@@ -1,0 +1,14 @@
+use Rattle.std.proofs.Common.{arith, get_or, subst}
+use Rattle.abstract_runs.specs.Sure.{Meeting}
+use Rattle.abstract_runs.proofs.SureReads.{meeting_faults}
+use Rattle.abstract_runs.proofs.sure_meetings.some_meet_at.Goals as goal
+
+pub returns-then-meet : goal.returns-then-meet
+returns-then-meet c = λ e faults xs parts none.
+    let before = c.if-j-k.true in
+    let below = c.loop-k-test.true in
+    let one = c.index-rows-j.result in
+    let two = c.index-rows-k-then-j-k.result in
+    meeting_faults c.args.p faults c.args.rows.now c.index-j.result.now c.loop-k.k one two xs (omega (arith, before, below)) below
+    (subst (Meeting c.args.p (get_or c.args.rows.now c.index-j.result.now one)) c.index-rows-k-then-j-k.is
+    (subst (λ row. Meeting c.args.p row two) c.index-rows-j.is (c.meet.ensures c.if-meet.true))) parts none

@@ -1,0 +1,51 @@
+-- What attempts of a set surely do.
+use Rattle.std.specs.Prelude.{◌≡◌, ◌≢◌, ◌⊎◌, ℕ, ◌<ℤ◌, Some, None, true, slice_index_or}
+use Rattle.pram_model.specs.declared.rule.Rule.{Rule}
+use Rattle.pram_model.specs.declared.rule.Rule.TheVariants.{Erew, Crew, Common, Priority, Sum}
+use Rattle.intervals.specs.declared.interval.Interval.{Interval}
+use Rattle.abstract_runs.specs.declared.effect.Effect.{Effect}
+use Rattle.abstract_runs.specs.declared.reach.Reach.{Reach}
+use Rattle.abstract_runs.specs.declared.row.Row.{Row}
+
+-- it takes place, and unless it faults it writes to that cell, a value of the interval
+pub record WritesSurely (c : ℕ) (i : Interval) (row : Row) : Type 0 where
+  pub sure : row.is_sure ≡ true
+  pub effect : Effect
+  pub is : row.effect ≡ Some effect
+  pub value : effect.value ≡ i
+  pub reach : Reach
+  pub goes : effect.reach ≡ Some reach
+  pub least : reach.least ≡ c
+  pub most : reach.most ≡ c
+
+-- it takes place, and unless it faults it reads that cell at the position behind p others
+pub record ReadsSurely (p c : ℕ) (row : Row) : Type 0 where
+  pub sure : row.is_sure ≡ true
+  pub reach : Reach
+  pub is : slice_index_or row.trail.items p None ≡ Some reach
+  pub least : reach.least ≡ c
+  pub most : reach.most ≡ c
+
+-- two processors read one cell at one position
+pub record Meeting (p : ℕ) (one two : Row) : Type 0 where
+  pub cell : ℕ
+  pub one_reads : ReadsSurely p cell one
+  pub two_reads : ReadsSurely p cell two
+  pub apart : one.processor ≢ two.processor
+
+-- the rule is against two writers of one cell, whatever values of these they write
+abbrev pub IsAgainst : Rule → Interval → Interval → Type 0
+IsAgainst Erew i k = Unit {0}
+IsAgainst Crew i k = Unit {0}
+IsAgainst Common i k = (i.greatest <ℤ k.least) ⊎ (k.greatest <ℤ i.least)
+IsAgainst Priority i k = ⊥
+IsAgainst Sum i k = ⊥
+
+-- both write to one cell, and the rule is against that
+pub record Clash (rule : Rule) (one two : Row) : Type 0 where
+  pub cell : ℕ
+  pub first : Interval
+  pub second : Interval
+  pub one_writes : WritesSurely cell first one
+  pub two_writes : WritesSurely cell second two
+  pub against : IsAgainst rule first second

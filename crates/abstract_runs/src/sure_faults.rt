@@ -1,0 +1,127 @@
+//! Whether each run of a set of processors faults.
+
+ghost use Rattle.std.specs.Prelude.{◌≡◌, ℕ, List, true, None, IfOk, IfSome};
+ghost use Rattle.pram_meaning.specs.Conflict.{Part, keys, least};
+ghost use Rattle.all_inputs.specs.declared.faults.Faults as spec;
+ghost use Rattle.abstract_runs.specs.Given.{AreGiven};
+ghost use Rattle.abstract_runs.specs.Rows.{ArePartsBy};
+ghost use Rattle.abstract_runs.specs.Sure.{Clash, IsAgainst, WritesSurely};
+
+use crate::row::Row;
+use crate::sure_meetings::surely_meet;
+use all_inputs::Faults;
+use intervals::Interval;
+use pram_model::Rule;
+use pram_values::Kind;
+use std::alloc::{AllocError, Global};
+
+// Whether an attempt surely takes place and always faults.
+fn always_faults(row: &Row) -> bool
+    ensures { result ≡ true → (row.now.is_sure ≡ true) × (row.now.effect ≡ None) }
+{
+    row.is_sure && row.effect.is_none()
+}
+
+// Whether one of the attempts does: `true` says so.
+fn one_faults(rows: &[Row]) -> bool
+    ensures { result ≡ true → (faults : spec.Faults) (xs : List Part) → ArePartsBy faults rows.now xs → AreGiven xs → ⊥ }
+{
+    for k in 0..rows.len() {
+        if always_faults(&rows[k]) {
+            return true;
+        }
+    }
+    false
+}
+
+// The one cell to which a row surely writes, and what it writes there.
+fn sure_write(row: &Row) -> Option<(u32, Interval)>
+    ensures { IfSome result (λ w. WritesSurely w.0 w.1 row.now) }
+{
+    let Some(effect) = row.effect else {
+        return None;
+    };
+    let Some(reach) = effect.reach else {
+        return None;
+    };
+    if !row.is_sure || reach.least != reach.most {
+        return None;
+    }
+    Some((reach.least, effect.value))
+}
+
+// Whether the rule is against two writers of one cell, whatever values of these they write.
+fn is_against(rule: Rule, one: Interval, two: Interval) -> bool
+    ensures { result ≡ true → IsAgainst rule one two }
+{
+    match rule {
+        Rule::Erew | Rule::Crew => true,
+        Rule::Common => one.greatest() < two.least() || two.greatest() < one.least(),
+        Rule::Priority | Rule::Sum => false,
+    }
+}
+
+// Whether two rows surely write to one cell, and the rule is against it.
+fn clash(rule: Rule, one: &Row, two: &Row) -> bool
+    ensures { result ≡ true → Clash rule one.now two.now }
+{
+    let Some((c, first)) = sure_write(one) else {
+        return false;
+    };
+    let Some((d, second)) = sure_write(two) else {
+        return false;
+    };
+    c == d && is_against(rule, first, second)
+}
+
+// Whether a row clashes with the first one that surely writes to the same cell: `true` says that some two clash.
+fn some_clash(alloc: Global, rule: Rule, cells: usize, rows: &[Row]) -> Result<bool, AllocError>
+    ensures { IfOk result (λ sure. sure ≡ true → (faults : spec.Faults) (xs : List Part) → ArePartsBy faults rows.now xs →
+        least (keys rule xs) ≡ None → ⊥) }
+{
+    let none = rows.len();
+    let mut first = vec![in alloc; none; cells]?;
+    for k in 0..rows.len() {
+        let Some((c, _)) = sure_write(&rows[k]) else {
+            continue;
+        };
+        if c as usize >= first.len() {
+            continue;
+        }
+        let j = first[c as usize];
+        if j < k && clash(rule, &rows[j], &rows[k]) {
+            return Ok(true);
+        }
+        if j == none {
+            first[c as usize] = k;
+        }
+    }
+    Ok(false)
+}
+
+/// Whether each run has a fault in a statement on parts of this kind, of which these faults may come: `true` says so.
+pub(crate) fn surely_faults(
+    alloc: Global,
+    rule: Rule,
+    cells: usize,
+    rows: &[Row],
+    faults: &Faults,
+) -> Result<bool, AllocError>
+    // Where it says so, no parts of this kind are without a fault.
+    ensures { IfOk result (λ sure. sure ≡ true → (faults : spec.Faults) (xs : List Part) → ArePartsBy faults rows.now xs →
+        least (keys rule xs) ≡ None → ⊥) }
+{
+    if one_faults(rows) {
+        return Ok(true);
+    }
+    if faults.reason(Kind::ReadConflict).is_some() {
+        let meets = surely_meet(alloc, rule, cells, rows)?;
+        if meets {
+            return Ok(true);
+        }
+    }
+    if faults.reason(Kind::WriteConflict).is_none() {
+        return Ok(false);
+    }
+    some_clash(alloc, rule, cells, rows)
+}

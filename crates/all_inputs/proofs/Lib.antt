@@ -1,0 +1,4 @@
+mod LineLists
+mod Parts
+mod Single
+mod TextLines
