@@ -3,11 +3,14 @@ pub mod Small
 pub mod CauseLemmas
 pub mod DeclarationFacts
 pub mod HeldLocals
+pub mod InTurn
+pub mod IntervalFacts
 pub mod ExchangeFacts
 pub mod Readable
 pub mod WayReadable
 pub mod SweepReadable
 pub mod ExplorationReadable
+pub mod OverallReadable
 pub mod PairReadable
 pub mod MessageReadable
 pub mod Lines

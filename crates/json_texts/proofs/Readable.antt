@@ -45,7 +45,7 @@ use Rattle.json_texts.specs.StepFacts.{change_facts, held_from, local_facts, own
 
 -- ---- outcomes
 
-small_bounds : (n : ℕ) (bounds : Option (ℤ × ℤ)) → HasSmall n (bounds_fields bounds)
+pub small_bounds : (n : ℕ) (bounds : Option (ℤ × ℤ)) → HasSmall n (bounds_fields bounds)
 small_bounds n None = tt
 small_bounds n (Some (low, high)) = (small_value n low, (small_value n high, tt))
 
@@ -219,7 +219,7 @@ small_held tree at i number (v ∷ vs) = (
   small_held tree at i (number + 1) vs,
 )
 
-small_both : (n : ℕ) (ds es : List Data) → AreSmall n ds → AreSmall n es → AreSmall n (ds ++ es)
+pub small_both : (n : ℕ) (ds es : List Data) → AreSmall n ds → AreSmall n es → AreSmall n (ds ++ es)
 small_both n [] es h g = g
 small_both n (d ∷ ds) es h g = (h.0, small_both n ds es h.1 g)
 

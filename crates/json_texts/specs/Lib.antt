@@ -15,6 +15,7 @@ pub mod StepFacts
 pub mod TraceFacts
 pub mod SweepFacts
 pub mod ExplorationFacts
+pub mod OverallFacts
 pub mod PairFacts
 pub mod Streams
 pub mod StreamLaws

@@ -12,8 +12,8 @@ use memory_texts::{Choice, is_chosen};
 use pram_trees::Layout;
 use std::alloc::{AllocError, Global};
 
-// The bounds of an array.
-fn put_bounds(object: &mut Object, bounds: &Option<(i64, i64)>) -> Result<(), AllocError>
+/// Puts the bounds of an array.
+pub(crate) fn put_bounds(object: &mut Object, bounds: &Option<(i64, i64)>) -> Result<(), AllocError>
     ensures { OnOk result (shown object.new ≡ with_fields (spec.bounds_fields bounds.now) (shown object.old)) }
 {
     match bounds {
