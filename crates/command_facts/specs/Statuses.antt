@@ -1,5 +1,5 @@
 -- The exit statuses of what calls find.
-use Rattle.std.specs.Prelude.{ℕ, nat_lt, Bool, true, false, if◌then◌else◌, List, [], ◌∷◌}
+use Rattle.std.specs.Prelude.{ℕ, nat_lt, Bool, true, false, if◌then◌else◌, List, [], ◌∷◌, Result, Ok, Err}
 use Rattle.std.specs.List.{list_any}
 use Rattle.program_texts.specs.Status.{status_of}
 use Rattle.program_texts.specs.declared.status.Status.{Status}
@@ -8,6 +8,9 @@ use Rattle.sweeps.specs.declared.size_row.Ending.{Ending}
 use Rattle.sweeps.specs.declared.size_row.Ending.TheVariants as ending
 use Rattle.sweeps.specs.declared.size_row.SizeRow.{SizeRow}
 use Rattle.comparing.specs.Found as comparisons
+use Rattle.all_inputs.specs.declared.overall.Overall.{Overall}
+use Rattle.all_inputs.specs.declared.line_faults.LineFaults.{LineFaults}
+use Rattle.all_inputs.specs.declared.undecided.Undecided.{Undecided}
 use Rattle.command_facts.specs.declared.found.Settled.{Settled}
 use Rattle.command_facts.specs.declared.found.Settled.TheVariants as settled
 
@@ -35,6 +38,15 @@ status_of_rows rows =
 abbrev pub status_of_findings : (faulted go_on : ℕ) → Status
 status_of_findings faulted go_on = if nat_lt 0 faulted then status.Faulted else (if nat_lt 0 go_on then status.GoesOn else status.Done)
 
+-- That of one run for all inputs: some line may fault; or none may, and a run may go on; or all end. Where too little is known some may fault.
+abbrev pub status_of_lines : List LineFaults → (may_go_on : Bool) → Status
+status_of_lines [] may_go_on = if may_go_on then status.GoesOn else status.Done
+status_of_lines (l ∷ lines) may_go_on = status.Faulted
+
+abbrev pub status_of_overall : Result Overall Undecided → Status
+status_of_overall (Ok overall) = status_of_lines overall.told.lines.items overall.told.may_go_on
+status_of_overall (Err why) = status.Faulted
+
 -- That of two programs on the same inputs: as of a fault, where they differ on one.
 abbrev pub status_of_differing : List comparisons.Differing → Status
 status_of_differing [] = status.Done
@@ -51,5 +63,6 @@ status_of_found (settled.Traced r told exchanges) = status_of r.outcome
 status_of_found (settled.Executed c) = status_of c.outcome
 status_of_found (settled.Swept s) = status_of_rows s.rows.items
 status_of_found (settled.Explored f) = status_of_findings f.findings.faulted f.findings.go_on
+status_of_found (settled.Surveyed f) = status_of_overall f.told
 status_of_found (settled.Paired f) = status_of_pair (comparisons.found_is f.comparison)
 status_of_found _ = status.Done

@@ -4,6 +4,7 @@ ghost use Rattle.std.specs.Prelude.{◌≤◌, length};
 ghost use Rattle.pram_model.specs.Layout.{total_size};
 
 use crate::loaded::Loaded;
+use all_inputs::{Overall, Scope, Undecided};
 use bsp_verify::Verified;
 use command_requests::{CostWords, StepWords, SweepForm, TraceWords};
 use comparing::{Comparison, UnderRules};
@@ -82,6 +83,15 @@ pub struct FoundScope {
     pub findings: Findings,
 }
 
+/// The run of a program for all inputs of a scope together: the program as it was run, the scope, and what is told of them, or where too
+/// little was known for that.
+#[derive(Drop)]
+pub struct FoundOverall {
+    pub program: Program,
+    pub scope: Scope,
+    pub told: Result<Overall, Undecided>,
+}
+
 /// Two programs, how many cells are drawn of each input, where inputs are, and what is found of their runs on the same inputs.
 #[derive(Drop)]
 pub struct FoundPair {
@@ -118,6 +128,8 @@ pub enum Settled<'a> {
     Swept(FoundSweep),
     /// A program was run on every input of a scope.
     Explored(FoundScope),
+    /// A program was run once for all inputs of a scope.
+    Surveyed(FoundOverall),
     /// Two programs were run on the same inputs.
     Paired(FoundPair),
     /// A listing was run.

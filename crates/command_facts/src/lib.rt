@@ -16,8 +16,8 @@ mod voice;
 pub use editors::write_for_editors;
 pub use ends::{text_of_end, text_of_fault};
 pub use found::{
-    Found, FoundCode, FoundPair, FoundRun, FoundScope, FoundSteps, FoundSweep, FoundTrace, Limit,
-    Settled,
+    Found, FoundCode, FoundOverall, FoundPair, FoundRun, FoundScope, FoundSteps, FoundSweep,
+    FoundTrace, Limit, Settled,
 };
 pub use halted::halted_run;
 pub use loaded::Loaded;

@@ -6,6 +6,7 @@ ghost use Rattle.comparing.specs.Found.{differing_is, found_is};
 ghost use Rattle.command_facts.specs.Statuses as spec;
 
 use crate::found::Settled;
+use all_inputs::{LineFaults, Overall, Told, Undecided};
 use comparing::{Comparison, FoundDifference};
 use program_texts::Status;
 use scopes::Findings;
@@ -85,6 +86,39 @@ fn status_of_findings(findings: &Findings) -> Status
     }
 }
 
+// The exit status of one run for all inputs, by the lines that may fault.
+fn status_of_lines(lines: &[LineFaults], may_go_on: bool) -> Status
+    ensures { result ≡ spec.status_of_lines lines.now may_go_on }
+{
+    match lines {
+        [] => {
+            if may_go_on {
+                Status::GoesOn
+            } else {
+                Status::Done
+            }
+        }
+        [_line, ..] => Status::Faulted,
+    }
+}
+
+// By what is told of it.
+fn status_of_told(told: &Told) -> Status
+    ensures { result ≡ spec.status_of_lines told.now.lines.items told.now.may_go_on }
+{
+    status_of_lines(told.lines(), told.may_go_on())
+}
+
+// The exit status of one run for all inputs.
+fn status_of_overall(told: &Result<Overall, Undecided>) -> Status
+    ensures { result ≡ spec.status_of_overall told.now }
+{
+    match told {
+        Ok(overall) => status_of_told(&overall.told),
+        Err(_) => Status::Faulted,
+    }
+}
+
 // The exit status of two programs, where they differ on these inputs.
 fn status_of_differing(told: &[FoundDifference]) -> Status
     ensures { result ≡ spec.status_of_differing (map differing_is told.now) }
@@ -119,6 +153,7 @@ pub fn status_of(found: &Settled<'_>) -> Status
         Settled::Planned(_) => Status::Done,
         Settled::Exported(_) => Status::Done,
         Settled::Explored(found) => status_of_findings(&found.findings),
+        Settled::Surveyed(found) => status_of_overall(&found.told),
         Settled::Paired(pair) => status_of_pair(&pair.comparison),
         Settled::Compared(_) => Status::Done,
     }

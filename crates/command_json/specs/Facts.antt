@@ -1,5 +1,6 @@
 -- The facts by which what was found is told as JSON.
 use Rattle.std.specs.Prelude.{◌≡◌, ◌⊎◌, ℕ, List, [], ◌∷◌, Option, Some, None, Result, Ok, Err, codes}
+use Rattle.pram_model.specs.Layout.{SharedEntry}
 use Rattle.superstep_machine.specs.Trace.{Exchange}
 use Rattle.tracer.specs.Cost.{bsp_cost, in_128_bits}
 use Rattle.serde_json.specs.Data.{Data}
@@ -14,12 +15,16 @@ use Rattle.command_facts.specs.Statuses.{status_of_found}
 use Rattle.command_facts.specs.declared.found.FoundCode.{FoundCode}
 use Rattle.command_facts.specs.declared.found.Settled.{Settled}
 use Rattle.command_facts.specs.declared.found.Settled.TheVariants as settled
+use Rattle.all_inputs.specs.declared.overall.Overall.{Overall}
+use Rattle.all_inputs.specs.declared.scope.Scope.{Scope}
+use Rattle.all_inputs.specs.declared.undecided.Undecided.{Undecided}
 use Rattle.json_texts.specs.AcceptedFacts.{accepted_facts}
 use Rattle.json_texts.specs.CostFacts.{cost_facts}
 use Rattle.comparing.specs.Found as pairs
 use Rattle.scopes.specs.Found.{found_is}
 use Rattle.json_texts.specs.ExplorationFacts.{exploration_facts}
 use Rattle.json_texts.specs.OutcomeFacts.{chosen_facts}
+use Rattle.json_texts.specs.OverallFacts.{overall_facts, undecided_facts}
 use Rattle.json_texts.specs.PairFacts.{pair_facts}
 use Rattle.json_texts.specs.RuleFacts.{comparison_facts}
 use Rattle.json_texts.specs.SweepFacts.{sweep_facts}
@@ -34,6 +39,11 @@ cost_asked (Some rates) es = in_128_bits (bsp_cost rates.0 rates.1 es)
 abbrev pub code_facts : FoundCode → Data
 code_facts c = chosen_facts c.shown c.code.layout (verdict_of c.outcome)
 
+-- what is told of all inputs of a scope together, or where too little was known for that
+abbrev pub survey_facts : List SharedEntry → Scope → Result Overall Undecided → Data
+survey_facts layout scope (Ok overall) = overall_facts layout scope overall
+survey_facts layout scope (Err why) = undecided_facts scope why
+
 -- The facts of what was found. Texts, code, explanations and the version are not told as JSON.
 abbrev pub AreFactsOf : Settled → List Data → Type 0
 AreFactsOf (settled.Accepted l) told = told ≡ accepted_facts l.program ∷ []
@@ -43,6 +53,7 @@ AreFactsOf (settled.Costed r w c) told = told ≡ cost_facts r.loaded.program.la
 AreFactsOf (settled.Traced r w t) told =
     told ≡ trace_facts t.lines.items w.outcome r.loaded.program.layout (cost_asked w.rates t.counts) t.counts (verdict_of r.outcome)
 AreFactsOf (settled.Explored f) told = told ≡ exploration_facts f.program.layout (found_is f.findings) ∷ []
+AreFactsOf (settled.Surveyed f) told = told ≡ survey_facts f.program.layout f.scope f.told ∷ []
 AreFactsOf (settled.Paired p) told = told ≡ pair_facts p.first.layout p.second.layout p.drawn (pairs.found_is p.comparison)
 AreFactsOf (settled.Swept s) told = told ≡ sweep_facts s.sweep.name s.rows.items s.growths
 AreFactsOf (settled.Executed c) told = told ≡ code_facts c ∷ []

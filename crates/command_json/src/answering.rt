@@ -85,7 +85,7 @@ fn tell<O: Out, E: Out>(
 
 /// What a call finds, said as JSON.
 ///
-/// `check`, `meaning`, `cost`, `rules`, `explore`, `run` and `exec` write one object; `compare` one for each input that is told and one for
+/// `check`, `meaning`, `cost`, `rules`, `explore`, `always`, `run` and `exec` write one object; `compare` one for each input that is told and one for
 /// all; `steps` and `trace` an object a line, and on the last line how the run came out. What is refused is one object on standard error,
 /// with what there is to say of it. `expand`, `plan`, `export`, `explain` and the version are not told as JSON (P1).
 #[derive(Clone, Copy, Debug)]

@@ -16,14 +16,15 @@ ghost use Rattle.command_json.specs.Facts as spec;
 
 use crate::writing::write_json;
 use command_facts::{
-    FoundCode, FoundPair, FoundRun, FoundScope, FoundSweep, FoundTrace, Settled, status_of,
+    FoundCode, FoundOverall, FoundPair, FoundRun, FoundScope, FoundSweep, FoundTrace, Settled,
+    status_of,
 };
 use command_requests::{CostWords, TraceWords};
 use costs::Cost;
 use exchange_counts::Counts;
 use json_texts::{
-    json_accepted, json_comparison, json_cost, json_exploration, json_outcome, json_pair,
-    json_sweep, json_trace,
+    json_accepted, json_comparison, json_cost, json_exploration, json_outcome, json_overall,
+    json_pair, json_sweep, json_trace, json_undecided,
 };
 use memory_texts::Choice;
 use program_texts::{Status, Stop};
@@ -126,6 +127,17 @@ fn scope_text(alloc: Global, found: &FoundScope) -> Result<String, AllocError>
     json_exploration(alloc, found.program.layout(), &found.findings)
 }
 
+// What is told of all inputs of a scope together.
+fn survey_text(alloc: Global, found: &FoundOverall) -> Result<String, AllocError>
+    ensures told { IfOk result (λ text. IsJson (spec.survey_facts found.now.program.layout found.now.scope found.now.told ∷ [])
+        (string_bytes text)) }
+{
+    match &found.told {
+        Ok(overall) => json_overall(alloc, found.program.layout(), found.scope, overall),
+        Err(why) => json_undecided(alloc, found.scope, *why),
+    }
+}
+
 // What is found of two programs on the same inputs.
 fn pair_text(alloc: Global, pair: &FoundPair) -> Result<String, AllocError>
     ensures told { IfOk result (λ text. IsJson
@@ -148,6 +160,7 @@ fn text_of<'a>(alloc: Global, found: &Settled<'_>) -> Result<String, Stop<'a>>
         Settled::Traced(run, words, exchanges) => { Ok(trace_text(alloc, run, *words, exchanges)?) }
         Settled::Swept(swept) => Ok(sweep_text(alloc, swept)?),
         Settled::Explored(found) => Ok(scope_text(alloc, found)?),
+        Settled::Surveyed(found) => Ok(survey_text(alloc, found)?),
         Settled::Paired(pair) => Ok(pair_text(alloc, pair)?),
         Settled::Executed(run) => Ok(code_text(alloc, run)?),
         Settled::Version => Err(Stop::Number(JSON)),

@@ -21,7 +21,7 @@ wanted given.Random = codes "LO..HI, as -5..5, two numbers of 64 bits of which L
 wanted given.Seed = codes "a number from 0 to 4294967295"
 wanted given.Cells = codes "a number from 0 to 1048576"
 wanted given.Values =
-    codes "LO..HI, as 0..4, two numbers of 64 bits of which LO is at most HI, for at most 100000000 inputs"
+    codes "LO..HI, as 0..4, two numbers of 64 bits of which LO is at most HI; explore and compare try at most 100000000 inputs"
 wanted given.Permutations = codes "a number from 1 to 10"
 wanted given.Under = codes "erew, crew, common, priority or sum"
 wanted given.Count = codes "a number from 1 to 1000000"

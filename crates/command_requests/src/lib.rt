@@ -1,6 +1,7 @@
 //! What the words of a command line can ask for, which of them are wrong, and the sizes that they give to a text.
 #![tactic(auto)]
 
+mod always_words;
 mod cost_words;
 mod expanding;
 mod explain_word;
@@ -28,6 +29,7 @@ mod version;
 mod word;
 mod wrong;
 
+pub use always_words::AlwaysWords;
 pub use cost_words::CostWords;
 pub use expanding::expanded;
 pub use explain_word::asks_to_explain;

@@ -1,5 +1,6 @@
 //! What a call of the program asks for.
 
+use crate::always_words::AlwaysWords;
 use crate::cost_words::CostWords;
 use crate::opening::Opening;
 use crate::pair_words::PairWords;
@@ -88,6 +89,12 @@ pub enum Request<'a> {
     Exploration {
         file: ProgramFile<'a>,
         scope: ScopeWords,
+        bound: u32,
+    },
+    /// A program is run once for all inputs of a scope, for at most so many statements.
+    Always {
+        file: ProgramFile<'a>,
+        words: AlwaysWords,
         bound: u32,
     },
     /// Two programs are run by their definitions on the same inputs.

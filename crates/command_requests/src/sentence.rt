@@ -27,7 +27,7 @@ fn wanted(given: Given) -> &'static [u8]
         Given::Seed => b"a number from 0 to 4294967295",
         Given::Cells => b"a number from 0 to 1048576",
         Given::Values => {
-            b"LO..HI, as 0..4, two numbers of 64 bits of which LO is at most HI, for at most 100000000 inputs"
+            b"LO..HI, as 0..4, two numbers of 64 bits of which LO is at most HI; explore and compare try at most 100000000 inputs"
         }
         Given::Permutations => b"a number from 1 to 10",
         Given::Under => b"erew, crew, common, priority or sum",

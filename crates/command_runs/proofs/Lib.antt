@@ -5,3 +5,4 @@ pub mod Costs
 pub mod Rules
 pub mod Steps
 pub mod WordsTold
+pub mod Overalls

@@ -2,4 +2,5 @@ pub mod Timed
 pub mod Runs
 pub mod Refused
 pub mod Scopes
+pub mod Overalls
 pub mod CostLaws

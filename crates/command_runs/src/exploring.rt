@@ -20,7 +20,7 @@ use system_files::Sources;
 const MOST_WORKERS: u32 = 32;
 
 // The program under the rule that is asked for, or its own.
-fn under(program: Program, rule: Option<Rule>) -> Program
+pub(crate) fn under(program: Program, rule: Option<Rule>) -> Program
     ensures { result ≡ spec.under_rule rule program }
 {
     match rule {

@@ -10,6 +10,7 @@ mod finding_run;
 mod finding_steps;
 mod given;
 mod running;
+mod surveying;
 mod timed;
 mod tracing;
 
@@ -19,3 +20,4 @@ pub use finding_meaning::{find_cost, find_meaning};
 pub use finding_rules::find_rules;
 pub use finding_run::{find_code_run, find_run, find_trace};
 pub use finding_steps::find_steps;
+pub use surveying::find_overall;

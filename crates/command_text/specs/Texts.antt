@@ -1,6 +1,6 @@
 -- The text by which what was found is told.
-use Rattle.std.specs.Prelude.{◌≡◌, ℕ, List, ◌++◌, codes, decimal}
-use Rattle.pram_model.specs.Layout.{total_size}
+use Rattle.std.specs.Prelude.{◌≡◌, ℕ, List, ◌++◌, codes, decimal, Result, Ok, Err}
+use Rattle.pram_model.specs.Layout.{SharedEntry, total_size}
 use Rattle.pram_model.specs.Rules.{rule_word}
 use Rattle.pram_check.specs.Checked.{Checked}
 use Rattle.superstep_listing.specs.Listing.{spelling}
@@ -17,6 +17,10 @@ use Rattle.write_rules.specs.Verdict.{verdict_of}
 use Rattle.program_texts.specs.Shown.{line}
 use Rattle.diagnoses.specs.Sources.{text_in}
 use Rattle.help.specs.Explained.{explanation}
+use Rattle.all_inputs.specs.OverallText.{overall_text, undecided_text}
+use Rattle.all_inputs.specs.declared.overall.Overall.{Overall}
+use Rattle.all_inputs.specs.declared.scope.Scope.{Scope}
+use Rattle.all_inputs.specs.declared.undecided.Undecided.{Undecided}
 use Rattle.comparing.specs.RulesText.{comparison_text}
 use Rattle.comparing.specs.Found as pairs
 use Rattle.comparing.specs.ComparisonText as pair_texts
@@ -42,7 +46,7 @@ use Rattle.command_text.specs.Steps.{IsTelling, told_text}
 use Rattle.command_text.specs.Traces.{counts_text, outcome_text}
 
 abbrev pub version_text : List ℕ
-version_text = line (codes "pramc 1.4.0")
+version_text = line (codes "pramc 1.5.0")
 
 -- `accepted cells 16 procs 8 rule erew`
 abbrev pub accepted_line : Checked → List ℕ
@@ -87,6 +91,11 @@ AreStepsText form.Picture on w r entries text = text ≡ picture_text w r entrie
 AreStepsText form.Flow on w r entries text = text ≡ flow_text w r entries
 AreStepsText form.Page on w r entries text = IsPageOf w r entries text
 
+-- what is told of all inputs of a scope together, or where too little was known for that
+abbrev pub told_of_all : List SharedEntry → Scope → Result Overall Undecided → List ℕ
+told_of_all layout scope (Ok overall) = overall_text layout scope overall
+told_of_all layout scope (Err why) = undecided_text scope why
+
 -- The text of what was found.
 abbrev pub IsTextOf : Settled → List ℕ → Type 0
 IsTextOf settled.Version text = text ≡ version_text
@@ -97,6 +106,7 @@ IsTextOf (settled.Planned code) text = text ≡ spelling code
 IsTextOf (settled.Exported code) text = text ≡ c_text code
 IsTextOf (settled.Compared c) text = text ≡ comparison_text c
 IsTextOf (settled.Explored f) text = text ≡ findings_text f.program.layout (found_is f.findings)
+IsTextOf (settled.Surveyed f) text = text ≡ told_of_all f.program.layout f.scope f.told
 IsTextOf (settled.Paired p) text = text ≡ pair_texts.comparison_text p.first.layout p.second.layout p.drawn (pairs.found_is p.comparison)
 IsTextOf (settled.Run r told) text = text ≡ shown_by told r.loaded.program.layout (verdict_of r.outcome)
 IsTextOf (settled.Costed r told c) text = text ≡ costs_text (verdict_of r.outcome) c told.schedule told.lines ++ outcome_text r

@@ -374,6 +374,7 @@ pub(crate) fn explain<V: Watch, E: Out>(
         Settled::Planned(_) => {}
         Settled::Exported(_) => {}
         Settled::Explored(_) => {}
+        Settled::Surveyed(_) => {}
         Settled::Paired(_) => {}
         Settled::Compared(_) => {}
         Settled::Swept(_) => {}

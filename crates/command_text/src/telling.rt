@@ -7,7 +7,7 @@ use crate::sweeping::write_swept;
 use crate::tracing::write_found_trace;
 use crate::writing::{
     write_accepted, write_costs, write_exploration, write_export, write_outcome, write_pair,
-    write_plan, write_rules, write_subject, write_text, write_version,
+    write_plan, write_rules, write_subject, write_survey, write_text, write_version,
 };
 use command_facts::{Settled, status_of};
 use program_texts::{Status, Stop};
@@ -38,6 +38,7 @@ pub(crate) fn write_found<'a, O: Out>(found: &Settled<'_>, out: &mut O) -> Resul
             let (layout, status) = (explored.program.layout(), status_of(found));
             write_exploration(out, layout, &explored.findings, status)
         }
+        Settled::Surveyed(survey) => write_survey(out, survey, status_of(found)),
         Settled::Paired(pair) => write_pair(out, pair, status_of(found)),
         Settled::Executed(run) => {
             write_outcome(out, run.code.code().layout(), &run.outcome, run.shown)

@@ -17,9 +17,10 @@ ghost use Rattle.comparing.specs.RulesText.{comparison_text};
 ghost use Rattle.superstep_listing.specs.Listing.{spelling};
 ghost use Rattle.command_text.specs.Costs.{costs_text};
 ghost use Rattle.command_facts.specs.Written.{Wrote};
-ghost use Rattle.command_text.specs.Texts.{accepted_line, version_text};
+ghost use Rattle.command_text.specs.Texts.{accepted_line, told_of_all, version_text};
 
-use command_facts::FoundPair;
+use all_inputs::{Overall, Scope, Undecided, write_overall, write_undecided};
+use command_facts::{FoundOverall, FoundPair};
 use command_requests::{CostWords, VERSION};
 use comparing::{UnderRules, show_comparison, write_comparison};
 use costs::{Cost, write_cost, write_lines};
@@ -148,6 +149,33 @@ pub(crate) fn write_exploration<'a, O: Out>(
         (O.Out.state out.old) (O.Out.state out.new) result }
 {
     write_findings(out, layout, findings)?;
+    finish(out, status)
+}
+
+fn write_told<O: Out>(
+    out: &mut O,
+    layout: &Layout,
+    scope: Scope,
+    told: &Result<Overall, Undecided>,
+) -> Result<(), WriteFault>
+    ensures written { Writes (O.Out.state out.old) (O.Out.state out.new) (told_of_all layout.now scope told.now) result }
+{
+    match told {
+        Ok(overall) => write_overall(out, layout, scope, overall),
+        Err(why) => write_undecided(out, scope, *why),
+    }
+}
+
+/// Writes what is told of all inputs of a scope together, and ends with that status.
+pub(crate) fn write_survey<'a, O: Out>(
+    out: &mut O,
+    found: &FoundOverall,
+    status: Status,
+) -> Result<Status, Stop<'a>>
+    ensures written { Wrote status (told_of_all found.now.program.layout found.now.scope found.now.told)
+        (O.Out.state out.old) (O.Out.state out.new) result }
+{
+    write_told(out, found.program.layout(), found.scope, &found.told)?;
     finish(out, status)
 }
 

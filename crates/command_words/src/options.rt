@@ -50,6 +50,8 @@ pub(crate) enum Group {
     Traced,
     // a scope of inputs
     Scoped,
+    // all orders of some numbers in its place
+    Ordered,
     // under which rule it is tried
     Ruled,
     // by how many workers inputs are tried
@@ -323,19 +325,20 @@ const SCOPED: &[CommandOption] = &[
     CommandOption {
         name: CELLS,
         follows: Follows::Word("K"),
-        help: "Tries all inputs of K values, K up to 1048576; with --random draws K",
+        help: "Inputs of K values, K up to 1048576; with --random draws K",
     },
     CommandOption {
         name: VALUES,
         follows: Follows::Signed("LO..HI"),
-        help: "The values are those of this interval, for at most 100000000 inputs",
-    },
-    CommandOption {
-        name: PERMUTATIONS,
-        follows: Follows::Word("K"),
-        help: "Tries all orders of the numbers 1 to K in their place, K up to 10",
+        help: "Of values of this interval; at most 100000000 inputs are tried",
     },
 ];
+
+const ORDERED: &[CommandOption] = &[CommandOption {
+    name: PERMUTATIONS,
+    follows: Follows::Word("K"),
+    help: "All orders of the numbers 1 to K in their place, K up to 10",
+}];
 
 const SHARED: &[CommandOption] = &[CommandOption {
     name: WORKERS,
@@ -412,6 +415,7 @@ pub(crate) fn options_of(group: Group) -> &'static [CommandOption] {
         Group::Worked => WORKED,
         Group::Traced => TRACED,
         Group::Scoped => SCOPED,
+        Group::Ordered => ORDERED,
         Group::Ruled => RULED,
         Group::Shared => SHARED,
         Group::Listed => LISTED,

@@ -14,7 +14,7 @@ use crate::run_reading::{
     choice_of, cost_words, meaning_words, number_of, opening_of, run_words, step_words,
     sweep_words, trace_words,
 };
-use crate::scope_reading::scope_words;
+use crate::scope_reading::{always_words, scope_words};
 use clap::ArgMatches;
 use clap::error::ErrorKind;
 use command_requests::{ProgramFile, Request, SizeWord, asks_for_version};
@@ -249,6 +249,16 @@ fn asked_exploration<'a>(alloc: Global, matches: &ArgMatches<'a>) -> Result<Requ
     Ok(Request::Exploration { file, scope, bound })
 }
 
+fn asked_always<'a>(alloc: Global, matches: &ArgMatches<'a>) -> Result<Request<'a>, Stop<'a>>
+    ensures { IfErr result IsOfWords }
+{
+    check_format(matches, Over::Run)?;
+    let words = always_words(matches)?;
+    let bound = number_of(matches, BOUND)?;
+    let file = file_of(alloc, matches)?;
+    Ok(Request::Always { file, words, bound })
+}
+
 // Two programs, with the same sizes.
 fn asked_pair<'a>(alloc: Global, matches: &ArgMatches<'a>) -> Result<Request<'a>, Stop<'a>>
     ensures { IfErr result IsOfWords }
@@ -419,6 +429,7 @@ pub(crate) fn read_words<'a>(alloc: Global, words: &'a [String]) -> Result<Reque
         Some(("run", inner)) => asked_run(alloc, inner),
         Some(("trace", inner)) => asked_trace(alloc, inner),
         Some(("explore", inner)) => asked_exploration(alloc, inner),
+        Some(("always", inner)) => asked_always(alloc, inner),
         Some(("compare", inner)) => asked_pair(alloc, inner),
         Some(("expand", inner)) => asked_expansion(alloc, inner),
         Some(("export", inner)) => asked_export(alloc, inner),

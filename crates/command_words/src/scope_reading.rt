@@ -6,7 +6,8 @@ ghost use Rattle.command_requests.specs.Words.{IsOfWords};
 use crate::options::{CELLS, PERMUTATIONS, UNDER, VALUES, WORKERS};
 use crate::run_reading::number_of;
 use clap::ArgMatches;
-use command_requests::{FewInputs, MOST_CELLS, MOST_INPUTS, MOST_ORDERED, ScopeWords};
+use command_requests::{AlwaysWords, FewInputs, MOST_CELLS, MOST_INPUTS, MOST_ORDERED, ScopeWords};
+use intervals::Interval;
 use pram_model::Rule;
 use program_texts::Stop;
 use run_options::read_number;
@@ -118,4 +119,47 @@ pub(crate) fn scope_words<'a>(words: &ArgMatches<'a>) -> Result<ScopeWords, Stop
         rule,
         workers,
     })
+}
+
+// The interval of a word, if there is one.
+fn interval_of<'a>(word: &'a str) -> Result<Interval, Stop<'a>>
+    ensures { IfErr result IsOfWords }
+{
+    match read_interval(word) {
+        None => Err(Stop::Number(word)),
+        Some((low, high)) => match Interval::of(low, high) {
+            None => Err(Stop::Number(word)),
+            Some(interval) => Ok(interval),
+        },
+    }
+}
+
+// The interval of the values, and all numbers where the command line has none.
+fn values_of<'a>(words: &ArgMatches<'a>) -> Result<Interval, Stop<'a>>
+    ensures { IfErr result IsOfWords }
+{
+    match words.get_str(VALUES) {
+        None => Ok(Interval::all()),
+        Some(word) => interval_of(word),
+    }
+}
+
+// How many values an input has, if the command line says it.
+fn cells_of<'a>(words: &ArgMatches<'a>) -> Result<Option<u32>, Stop<'a>>
+    ensures { IfErr result IsOfWords }
+{
+    match words.get_str(CELLS) {
+        None => Ok(None),
+        Some(word) => Ok(Some(count_of(word, 0, MOST_CELLS)?)),
+    }
+}
+
+/// The inputs for which a program is run together, and under which rule.
+pub(crate) fn always_words<'a>(words: &ArgMatches<'a>) -> Result<AlwaysWords, Stop<'a>>
+    ensures { IfErr result IsOfWords }
+{
+    let rule = rule_of(words)?;
+    let cells = cells_of(words)?;
+    let of = values_of(words)?;
+    Ok(AlwaysWords { cells, of, rule })
 }

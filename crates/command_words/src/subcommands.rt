@@ -171,6 +171,7 @@ pub(crate) const SUBCOMMANDS: &[Subcommand] = &[
         groups: &[
             Group::Explain,
             Group::Scoped,
+            Group::Ordered,
             Group::Bounded,
             Group::Ruled,
             Group::Shared,
@@ -180,12 +181,27 @@ pub(crate) const SUBCOMMANDS: &[Subcommand] = &[
         example: "Example: pramc explore examples/tree_sum.pram --size n=2 --cells 2 --values 0..3\nMore: pramc explain explore",
     },
     Subcommand {
+        name: "always",
+        about: "Tells what holds of the program on every input of a scope, by one run for all",
+        places: OVER_PROGRAM,
+        groups: &[
+            Group::Explain,
+            Group::Scoped,
+            Group::Bounded,
+            Group::Ruled,
+            Group::Sizes,
+            Group::Formats,
+        ],
+        example: "Example: pramc always examples/tree_sum.pram --cells 8 --values -9..9\nMore: pramc explain always",
+    },
+    Subcommand {
         name: "compare",
         about: "Runs two programs by their definition on the same inputs",
         places: OVER_PROGRAMS,
         groups: &[
             Group::Explain,
             Group::Scoped,
+            Group::Ordered,
             Group::Bounded,
             Group::Tried,
             Group::Compared,

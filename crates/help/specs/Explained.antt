@@ -16,7 +16,7 @@ use Rattle.help.specs.declared.explained.runs.TheConstants.{OUT_OF_MEMORY, WRITE
 use Rattle.help.specs.declared.explained.faults.TheConstants.{OVERFLOW, DIVIDE_BY_ZERO, OUT_OF_RANGE, TOO_WIDE}
 use Rattle.help.specs.declared.explained.faults.TheConstants.{READ_CONFLICT, WRITE_CONFLICT}
 use Rattle.help.specs.declared.explained.commands.TheConstants.{CHECK, PLAN, MEANING, COST, STEPS, RULES, EXPAND, EXPLAIN}
-use Rattle.help.specs.declared.explained.scopes.TheConstants.{COMPARE, EXPLORE, EXPORT}
+use Rattle.help.specs.declared.explained.scopes.TheConstants.{ALWAYS, COMPARE, EXPLORE, EXPORT}
 use Rattle.help.specs.declared.explained.workers.TheConstants.{RUN, TRACE, EXEC}
 use Rattle.help.specs.declared.explained.options.TheConstants.{OPTIONS}
 use Rattle.help.specs.declared.explained.overviews.TheConstants.{LANGUAGE, EVERYTHING}
@@ -32,6 +32,7 @@ subject_word subject.Cost = codes "cost"
 subject_word subject.Steps = codes "steps"
 subject_word subject.Rules = codes "rules"
 subject_word subject.Explore = codes "explore"
+subject_word subject.Always = codes "always"
 subject_word subject.Compare = codes "compare"
 subject_word subject.Run = codes "run"
 subject_word subject.Trace = codes "trace"
@@ -94,6 +95,7 @@ explanation subject.Cost = COST
 explanation subject.Steps = STEPS
 explanation subject.Rules = RULES
 explanation subject.Explore = EXPLORE
+explanation subject.Always = ALWAYS
 explanation subject.Compare = COMPARE
 explanation subject.Run = RUN
 explanation subject.Trace = TRACE

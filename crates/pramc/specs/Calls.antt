@@ -15,6 +15,7 @@ use Rattle.command_pairs.specs.Pairs.{IsPaired, StopsAtPair}
 use Rattle.command_runs.specs.Refused.{NamesForeign, NamesNone, NamesUnknown, RefusesCode, RefusesCodeRun, RefusesMeaning, RefusesWorkers}
 use Rattle.command_runs.specs.Runs.{IsCodeFound, IsCodeOfFile, IsComparisonFound, IsCostFound, IsMeaningFound, IsRunFound, IsStepsFound}
 use Rattle.command_runs.specs.Runs.{IsTraceFound}
+use Rattle.command_runs.specs.Overalls.{IsSurveyed, StopsAtSurvey}
 use Rattle.command_runs.specs.Scopes.{IsExplored, StopsAtExploration}
 use Rattle.command_sweeps.specs.Sweeps.{IsSwept, StopsAtSweep}
 
@@ -37,6 +38,7 @@ Finds holds (request.Trace file words trace) (found.Settled (settled.Traced r to
     IsTraceFound holds file words trace r t × (told ≡ trace)
 Finds holds (request.Sweep file words) (found.Settled (settled.Swept s)) = IsSwept holds file words s
 Finds holds (request.Exploration file scope bound) (found.Settled (settled.Explored f)) = IsExplored holds file scope bound f
+Finds holds (request.Always file words bound) (found.Settled (settled.Surveyed f)) = IsSurveyed holds file words bound f
 Finds holds (request.Pair words) (found.Settled (settled.Paired f)) = IsPaired holds words f
 Finds holds (request.Listing file words shown) (found.Settled (settled.Executed c)) = IsCodeFound holds file.now words shown c
 Finds holds (request.ListingInC file) (found.Settled (settled.Exported code)) = IsListingIn (holds file.now) code × IsWellFormed code
@@ -58,6 +60,7 @@ Refuses holds (request.Run file words shown) h = RefusesWorkers holds file words
 Refuses holds (request.Trace file words trace) h = RefusesWorkers holds file words NamesNone h
 Refuses holds (request.Sweep file words) h = StopsAtSweep holds file words h
 Refuses holds (request.Exploration file scope bound) h = StopsAtExploration holds file scope h
+Refuses holds (request.Always file words bound) h = StopsAtSurvey holds file words h
 Refuses holds (request.Pair words) h = StopsAtPair holds words h
 Refuses holds (request.Listing file words shown) h = RefusesCodeRun holds file.now words shown h
 Refuses holds (request.ListingInC file) h = StopsAtListing (holds file.now) file.now h

@@ -6,12 +6,12 @@ ghost use Rattle.pramc.specs.Calls.{Finds, Refuses};
 use command_facts::{Found, Settled, load_listing, load_program, load_text};
 use command_pairs::find_pair;
 use command_requests::{
-    CostWords, MeaningWords, Opening, PairWords, ProgramFile, Request, RunWords, ScopeWords,
-    StepWords, SweepWords, TraceWords,
+    AlwaysWords, CostWords, MeaningWords, Opening, PairWords, ProgramFile, Request, RunWords,
+    ScopeWords, StepWords, SweepWords, TraceWords,
 };
 use command_runs::{
-    find_code, find_code_run, find_cost, find_meaning, find_rules, find_run, find_scope,
-    find_steps, find_trace,
+    find_code, find_code_run, find_cost, find_meaning, find_overall, find_rules, find_run,
+    find_scope, find_steps, find_trace,
 };
 use command_sweeps::find_sweep;
 use diagnoses::Halted;
@@ -191,6 +191,20 @@ fn explored<'a, R: Threads + Sync, S: Sources, V: Watch>(
     Ok(Found::Settled(Settled::Explored(found)))
 }
 
+fn surveyed<'a, S: Sources>(
+    alloc: Global,
+    file: &ProgramFile<'a>,
+    words: AlwaysWords,
+    bound: u32,
+    sources: &mut S,
+) -> Result<Found<'a>, Halted<'a>>
+    ensures found { IfOk result (Finds (S.Sources.holds sources.old) (Request.Always file.now words bound)) }
+    ensures refused { IfErr result (Refuses (S.Sources.holds sources.old) (Request.Always file.now words bound)) }
+{
+    let found = find_overall(alloc, file, words, bound, sources)?;
+    Ok(Found::Settled(Settled::Surveyed(found)))
+}
+
 fn paired<'a, S: Sources>(
     alloc: Global,
     words: &PairWords<'a>,
@@ -280,6 +294,7 @@ pub(crate) fn find<'a, R: Threads + Wait + Sync, S: Sources, V: Watch + Gate + S
         Request::Exploration { file, scope, bound } => {
             explored(rt, alloc, &file, scope, bound, sources, watch)
         }
+        Request::Always { file, words, bound } => surveyed(alloc, &file, words, bound, sources),
         Request::Pair(words) => paired(alloc, &words, sources),
         Request::Listing { file, words, shown } => {
             executed(rt, alloc, file, words, shown, sources, watch)

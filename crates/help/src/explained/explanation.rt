@@ -18,7 +18,7 @@ use crate::explained::runs::{
     BAD_LISTING, BAD_MAP, BAD_WORKERS, COMMAND_LINE, INPUT_TOO_LONG, NOT_VERIFIED, OUT_OF_MEMORY,
     OUT_OF_RESERVE, UNREADABLE_FILE, WRITE_FAILED,
 };
-use crate::explained::scopes::{COMPARE, EXPLORE, EXPORT};
+use crate::explained::scopes::{ALWAYS, COMPARE, EXPLORE, EXPORT};
 use crate::explained::subject::Subject;
 use crate::explained::texts::{BAD_SIZE, BAD_TOKEN, NOT_ASCII, SYNTAX, TEXT_TOO_LONG, TOO_DEEP};
 use crate::explained::workers::{EXEC, RUN, TRACE};
@@ -80,6 +80,7 @@ fn explanation_of(subject: Subject) -> &'static [u8]
         Subject::Steps => &STEPS,
         Subject::Rules => &RULES,
         Subject::Explore => &EXPLORE,
+        Subject::Always => &ALWAYS,
         Subject::Compare => &COMPARE,
         Subject::Run => &RUN,
         Subject::Trace => &TRACE,

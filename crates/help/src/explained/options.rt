@@ -1,6 +1,6 @@
 //! What is said of all options. Made of the table of options by `gate/editors.py --write`.
 
-pub(crate) const OPTIONS: [u8; 4047] = *b"The options, and which commands take them.
+pub(crate) const OPTIONS: [u8; 4087] = *b"The options, and which commands take them.
 
 Of all:
 --help            says what there is to type
@@ -11,11 +11,12 @@ All but explain:
 All but exec and explain:
 --size NAME=VALUE a number for a size of the text, in place of its default
 
-Of check, meaning, cost, steps, rules, run, trace, explore, compare and exec:
+Of check, meaning, cost, steps, rules, run, trace, explore, always, compare and
+exec:
 --format FORMAT   how it is told: text, or json for programs that read; of check
     also gnu, for editors, else text
 
-Of meaning, cost, steps, rules, run, trace, explore, compare and exec:
+Of meaning, cost, steps, rules, run, trace, explore, always, compare and exec:
 --bound N         the most statements that are run, else 1000000
 
 Of meaning, cost, steps, rules, run, trace and exec:
@@ -40,13 +41,15 @@ Of run, trace and exec:
 --reserve ITEMS,EXCHANGES takes all memory first, for so many printed numbers
     and exchanges
 
+Of explore, always and compare:
+--cells K         inputs of K values, K up to 1048576; with --random draws K
+--values LO..HI   of values of this interval; at most 100000000 inputs are tried
+
 Of explore and compare:
---cells K         tries all inputs of K values, K up to 1048576; with --random
-    draws K
---values LO..HI   the values are those of this interval, for at most 100000000
-    inputs
---permutations K  tries all orders of the numbers 1 to K in their place, K up to
-    10
+--permutations K  all orders of the numbers 1 to K in their place, K up to 10
+
+Of explore and always:
+--under RULE      tries them under this rule in place of that of the text
 
 Of compare:
 --input FILE      tries the values of this file, and of each more that is given
@@ -71,7 +74,6 @@ Of cost:
 
 Of explore:
 --workers P       how many workers share the inputs, 1 to 32, else 1
---under RULE      tries them under this rule in place of that of the text
 
 Of trace:
 --lines           tells of each the line of the statement that it serves

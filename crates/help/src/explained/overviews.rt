@@ -51,7 +51,7 @@ Limits: numbers of 64 bits, 16384 processors, 1048576 cells, 16384 tokens,
 8 shared reads in a statement, 64 levels of blocks and of expressions.
 ";
 
-pub(crate) const EVERYTHING: [u8; 1354] =
+pub(crate) const EVERYTHING: [u8; 1395] =
     *b"What there is to explain. Type a word of these, as: pramc explain E6
 
 Refusals, of a text, a run or the command line:
@@ -77,8 +77,8 @@ Commands:
   steps    tells it statement by statement  exec    runs superstep code
   rules    runs it under each rule          export  writes that as C over MPI
   explore  runs it on every small input     expand  fills in its sizes
+  always   what holds on every input        explain says what a word is
   compare  runs two on the same inputs
-  explain  says what a word is
 
 And besides:
 

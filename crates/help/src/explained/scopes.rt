@@ -28,6 +28,32 @@ Exit status: 0 all end, 1 one faults, 2 it was refused, 3 none faults and one
 met the bound.
 ";
 
+pub(crate) const ALWAYS: [u8; 1049] =
+    *b"pramc always FILE: what holds of the program on every input of a scope.
+
+It runs the program once for all inputs, each cell with an interval of values.
+It says which faults may come, at which line and why, and in what time and which
+values runs end. What it doesn't tell never happens; what it tells need not.
+
+Type this:
+
+$ pramc always examples/tree_sum.pram --cells 8 --values -9..9 | head -n 3
+every input of 8 values from -9 to 9
+no fault
+time 17
+
+--cells K           the inputs have K values, else one for each shared cell
+--values LO..HI     of this interval, else any numbers of 64 bits
+--under RULE        under this rule of access, in place of the text's own
+--bound N           the most statements that are run, else 1000000
+--size NAME=VALUE   another number for a size of the text, as n=16
+--format json       tells it to programs, as JSON
+--explain           says more of a refusal
+
+Exit status: 0 no fault, 1 one may come, or `undecided`: too little is known of
+a loop; 2 it was refused, 3 no fault, and a run may go on at the bound.
+";
+
 pub(crate) const COMPARE: [u8; 1613] =
     *b"pramc compare FILE FILE2: runs two programs on the same inputs.
 

@@ -27,6 +27,8 @@ pub enum Subject {
     Rules,
     /// `explore`.
     Explore,
+    /// `always`.
+    Always,
     /// `compare`.
     Compare,
     /// `run`.
@@ -49,7 +51,7 @@ pub enum Subject {
     Everything,
 }
 
-const SUBJECTS: [Subject; 44] = [
+const SUBJECTS: [Subject; 45] = [
     Subject::Refusal(Number::NotAscii),
     Subject::Refusal(Number::TextTooLong),
     Subject::Refusal(Number::BadToken),
@@ -84,6 +86,7 @@ const SUBJECTS: [Subject; 44] = [
     Subject::Steps,
     Subject::Rules,
     Subject::Explore,
+    Subject::Always,
     Subject::Compare,
     Subject::Run,
     Subject::Trace,
@@ -110,6 +113,7 @@ fn word_of(subject: Subject) -> &'static str
         Subject::Steps => "steps",
         Subject::Rules => "rules",
         Subject::Explore => "explore",
+        Subject::Always => "always",
         Subject::Compare => "compare",
         Subject::Run => "run",
         Subject::Trace => "trace",
