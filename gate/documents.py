@@ -18,7 +18,7 @@ from jobs import JOBS
 TOP = Path(__file__).resolve().parent.parent
 NAMES = ("runs", "programs", "checks", "limits", "exchanges", "commands", "tellings", "pictures", "mistakes", "json")
 ROWS = [f"gate/rows/{it}.md" for it in NAMES]
-PAGES = ["README.md", "docs/TUTORIAL.md", "docs/LANGUAGE.md", *ROWS]
+PAGES = ["README.md", "docs/TUTORIAL.md", "docs/EVERY_INPUT.md", "docs/LANGUAGE.md", *ROWS]
 BLOCK = re.compile(r"^```(?P<kind>\S+)(?: (?P<name>\S+))?\n(?P<text>.*?)^```$", re.M | re.S)
 COMMAND = re.compile(r"^\$ (?P<words>.*)\n(?P<output>(?:(?!\$ ).*\n)*)", re.M)
 

@@ -59,6 +59,7 @@ PARTS = [
     Part("examples", "each example by its definition, by workers, under each rule, and from its listing", ("examples.py",)),
     Part("corpus", "the examples, as a folder of somebody's programs, beside that interpreter",
          ("oracle/compare.py", "--from", str(GATE.parent / "examples"), "--bound", "2000")),
+    Part("always", "what one run for all inputs tells of 500 drawn programs, beside runs on each input", ("always.py",)),
     Part("drawn", "what the commands say of 60 drawn programs agrees", ("drawn_outputs.py",)),
     hostile("crowds", "all workers on one core, and 32 runs at once", "taskset"),
     Part("texts", "texts and inputs are read, or refused at their byte", ("syntax.py",)),
