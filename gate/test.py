@@ -45,7 +45,7 @@ PARTS = [
     hostile("memory", "each allocation and each start of a thread is refused in turn", "cc"),
     Part("memory", "no command takes more memory than it may", ("memory_table.py",), ("/usr/bin/time",), True),
     hostile("long", "long runs by 4 and by 32 workers"),
-    Part("documents", "the commands of README, TUTORIAL, LANGUAGE and gate/rows", ("documents.py",)),
+    Part("documents", "the commands of README, the tutorials, LANGUAGE and gate/rows", ("documents.py",)),
     Part("pages", "the pages of thirteen runs, stepped through in a browser", ("page_test.py",), ("chromium",)),
     hostile("texts", "texts are cut and changed"),
     hostile("guards", "nothing behind a block of memory is touched", "cc"),
