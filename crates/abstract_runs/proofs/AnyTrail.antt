@@ -37,7 +37,7 @@ read_like s None t u = tt
 
 module _ (s : View) where
   mutual
-    attempt_like : (e : Expression) (t u : Trail) → IsLike (attempt s e t) (attempt s e u)
+    pub attempt_like : (e : Expression) (t u : Trail) → IsLike (attempt s e t) (attempt s e u)
     attempt_like (Number n) t u = refl
     attempt_like (Uniform x) t u = refl
     attempt_like Index t u = refl

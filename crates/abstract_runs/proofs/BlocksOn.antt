@@ -21,52 +21,65 @@ use Rattle.abstract_runs.specs.Standing.{StandsWith}
 use Rattle.all_inputs.specs.Told.{IsKept}
 use Rattle.abstract_runs.proofs.Coming.{Comes, comes_leads, comes_on, then_comes}
 use Rattle.abstract_runs.proofs.Leading.{leads_then, kept_same}
+use Rattle.abstract_runs.proofs.Onward.{Onward, leads_onward}
 
-module _ (p : Checked) (n : ℕ) (items : List Step) (active : List Active) (before : Standing) (first : List Member) where
-  abbrev pub InBlockOn : ℕ → Standing → List Member → Told → Type 0
-  InBlockOn i known team told =
-      (m : State) (vs : List ℕ) → StandsWith before first m → AreActive active vs →
-      Comes (StandsWith known team) told (perform_list_on p n (drop i items) vs) (perform_list_on p n items vs m)
+-- what is known of a set, beside what is known of all
+abbrev pub Inner : Type 1
+Inner = List ℕ → State → Type 0
+
+module _ (p : Checked) (n : ℕ) (items : List Step) (active : List Active) (before : Standing) (first : List Member) (Begin : Inner) where
+  abbrev pub Stands : Standing → List Member → Inner → List ℕ → State → Type 0
+  Stands known team Here vs m = StandsWith known team m × Here vs m
+
+  abbrev pub InBlockOn : ℕ → Standing → List Member → Inner → Told → Type 0
+  InBlockOn i known team Here told =
+      (m : State) (vs : List ℕ) → StandsWith before first m → Begin vs m → AreActive active vs →
+      Comes (Stands known team Here vs) told (perform_list_on p n (drop i items) vs) (perform_list_on p n items vs m)
 
   opened : (i : ℕ) (s : Step) (vs : List ℕ) (m : State) → i < length items → s ≡ get_or items i s →
       perform_list_on p n (drop i items) vs m ≡ then_do (perform_on p n s vs m) (λ u. perform_list_on p n (drop (i + 1) items) vs)
   opened i s vs m h is = ap (λ xs. perform_list_on p n xs vs m) (drop_more items i s h ∙ ap (λ x. x ∷ drop (i + 1) items) (sym is))
 
-  module _ (i : ℕ) (s : Step) (known new : Standing) (team later : List Member) (told more : Told) (on : Bool)
-      (b : InBlockOn i known team told) (h : i < length items) (is : s ≡ get_or items i s) (k : IsKept told more)
-      (leads : (m : State) (vs : List ℕ) → StandsWith known team m → AreActive active vs →
+  module _ (i : ℕ) (s : Step) (known new : Standing) (team later : List Member) (Here There : Inner) (told more : Told) (on : Bool)
+      (b : InBlockOn i known team Here told) (h : i < length items) (is : s ≡ get_or items i s) (k : IsKept told more)
+      (leads : (m : State) (vs : List ℕ) → StandsWith known team m → Here vs m → AreActive active vs →
       Leads (λ u n. (on ≡ true) × StandsWith new later n) more (perform_on p n s vs m)) where
-    pub block_goes : InBlockOn (i + 1) new later more
-    block_goes = λ m vs stands act.
-        comes_on (StandsWith known team) (StandsWith new later) told more (perform_list_on p n (drop i items) vs)
-        (perform_list_on p n (drop (i + 1) items) vs) (perform_list_on p n items vs m) (b m vs stands act) k
-        (λ m here. subst (Comes (StandsWith new later) more (perform_list_on p n (drop (i + 1) items) vs)) (sym (opened i s vs m h is))
-        (then_comes (λ u n. (on ≡ true) × StandsWith new later n) (StandsWith new later) more more (perform_list_on p n (drop (i + 1) items) vs)
-        (perform_on p n s vs m) _ (leads m vs here act) (kept_same more) (λ u m g. inr (record { state = m; same = refl; stands = g.1 }))))
+    pub block_goes : (Behind : List ℕ → State → State → Type 0) → ((vs : List ℕ) (m : State) → Onward (λ u z. Behind vs m z) (perform_on p n s vs m)) →
+        ((vs : List ℕ) (m z : State) → Here vs m → Behind vs m z → There vs z) → InBlockOn (i + 1) new later There more
+    block_goes Behind onward there = λ m vs stands begin act.
+        comes_on (Stands known team Here vs) (Stands new later There vs) told more (perform_list_on p n (drop i items) vs)
+        (perform_list_on p n (drop (i + 1) items) vs) (perform_list_on p n items vs m) (b m vs stands begin act) k
+        (λ m here. subst (Comes (Stands new later There vs) more (perform_list_on p n (drop (i + 1) items) vs)) (sym (opened i s vs m h is))
+        (then_comes (λ u z. ((on ≡ true) × StandsWith new later z) × Behind vs m z) (Stands new later There vs) more more
+        (perform_list_on p n (drop (i + 1) items) vs) (perform_on p n s vs m) _
+        (leads_onward (λ u z. (on ≡ true) × StandsWith new later z) (λ u z. Behind vs m z) more (perform_on p n s vs m)
+        (leads m vs here.0 here.1 act) (onward vs m)) (kept_same more)
+        (λ u z g. inr (record { state = z; same = refl; stands = (g.0.1, there vs m z here.1 g.1) }))))
 
-    pub block_stops : (Q : Unit {0} → State → Type 0) → on ≡ false →
-        (m : State) (vs : List ℕ) → StandsWith before first m → AreActive active vs → Leads Q more (perform_list_on p n items vs m)
-    block_stops Q none = λ m vs stands act.
-        comes_leads (StandsWith known team) Q told more (perform_list_on p n (drop i items) vs) (perform_list_on p n items vs m)
-        (b m vs stands act) k
+    pub block_stops : (Q : Unit {0} → State → Type 0) → on ≡ false → (m : State) (vs : List ℕ) → StandsWith before first m → Begin vs m →
+        AreActive active vs → Leads Q more (perform_list_on p n items vs m)
+    block_stops Q none = λ m vs stands begin act.
+        comes_leads (Stands known team Here vs) Q told more (perform_list_on p n (drop i items) vs) (perform_list_on p n items vs m)
+        (b m vs stands begin act) k
         (λ m here. subst (Leads Q more) (sym (opened i s vs m h is))
-        (leads_then (λ u n. (on ≡ true) × StandsWith new later n) Q more more (perform_on p n s vs m) _ (leads m vs here act) (kept_same more)
-        (λ u m g. absurd (cc (sym none ∙ g.0)))))
+        (leads_then (λ u n. (on ≡ true) × StandsWith new later n) Q more more (perform_on p n s vs m) _ (leads m vs here.0 here.1 act)
+        (kept_same more) (λ u m g. absurd (cc (sym none ∙ g.0)))))
 
-  pub block_ends : (i : ℕ) (known : Standing) (team : List Member) (told : Told) → InBlockOn i known team told → length items ≤ i →
-      (m : State) (vs : List ℕ) → StandsWith before first m → AreActive active vs →
+  pub block_ends : (i : ℕ) (known : Standing) (team : List Member) (Here : Inner) (told : Told) → InBlockOn i known team Here told →
+      length items ≤ i → (m : State) (vs : List ℕ) → StandsWith before first m → Begin vs m → AreActive active vs →
       Leads (λ u n. (true ≡ true) × StandsWith known team n) told (perform_list_on p n items vs m)
-  block_ends i known team told b past = λ m vs stands act.
-      comes_leads (StandsWith known team) (λ u n. (true ≡ true) × StandsWith known team n) told told (perform_list_on p n (drop i items) vs)
-      (perform_list_on p n items vs m) (b m vs stands act) (kept_same told)
+  block_ends i known team Here told b past = λ m vs stands begin act.
+      comes_leads (Stands known team Here vs) (λ u n. (true ≡ true) × StandsWith known team n) told told (perform_list_on p n (drop i items) vs)
+      (perform_list_on p n items vs m) (b m vs stands begin act) (kept_same told)
       (λ m here. subst (λ xs. Leads (λ u n. (true ≡ true) × StandsWith known team n) told (perform_list_on p n xs vs m))
-      (sym (drop_all i items past)) (refl, here))
+      (sym (drop_all i items past)) (refl, here.0))
 
   pub at_items : (Q : Unit {0} → State → Type 0) (told : Told) (ys : List Step) → items ≡ ys →
-      ((m : State) (vs : List ℕ) → StandsWith before first m → AreActive active vs → Leads Q told (perform_list_on p n items vs m)) →
-      (m : State) (vs : List ℕ) → StandsWith before first m → AreActive active vs → Leads Q told (perform_list_on p n ys vs m)
+      ((m : State) (vs : List ℕ) → StandsWith before first m → Begin vs m → AreActive active vs → Leads Q told (perform_list_on p n items vs m)) →
+      (m : State) (vs : List ℕ) → StandsWith before first m → Begin vs m → AreActive active vs → Leads Q told (perform_list_on p n ys vs m)
   at_items Q told ys same h =
-      subst (λ xs. (m : State) (vs : List ℕ) → StandsWith before first m → AreActive active vs → Leads Q told (perform_list_on p n xs vs m)) same h
+      subst (λ xs. (m : State) (vs : List ℕ) → StandsWith before first m → Begin vs m → AreActive active vs →
+      Leads Q told (perform_list_on p n xs vs m)) same h
 
 -- ---- a choice and a loop, by their lists
 

@@ -42,13 +42,13 @@ pub sums_found : (a b : Interval) (r : Found) → Tells (λ x y. checked (x +ℤ
     IfSome r.value (λ i. (x y : ℤ) → IsIn x a → IsIn y b → IsIn (x +ℤ y) i)
 sums_found a b r told none = if_found a b r.value (λ x y i j. sum_found a b r x y told none i j)
 
-zero_behind : (z : ℤ) → z +ℤ pos 0 ≡ z
+pub zero_behind : (z : ℤ) → z +ℤ pos 0 ≡ z
 zero_behind z = grind (arith, ints)
 
 regrouped : (x y z : ℤ) → x +ℤ (y +ℤ z) ≡ (x +ℤ y) +ℤ z
 regrouped x y z = omega (arith, ints)
 
-sum_both : (ws vs : List Write) → sum_of (ws ++ vs) ≡ sum_of ws +ℤ sum_of vs
+pub sum_both : (ws vs : List Write) → sum_of (ws ++ vs) ≡ sum_of ws +ℤ sum_of vs
 sum_both [] vs = grind (arith, ints)
 sum_both (w ∷ ws) vs = ap (λ z. w.value +ℤ z) (sum_both ws vs) ∙ regrouped w.value (sum_of ws) (sum_of vs)
 

@@ -71,3 +71,8 @@ pub slot_value : (o : outlook.Outlook.Outlook) (e : Expression) (found : Option 
     Shows o s → IsValueOf s e z → z ≡ value_at slot s.uniforms s.cells
 slot_value o e found slot s z h some shows g =
     subst (λ f. IfSome f (λ slot. (s : View) (z : ℤ) → Shows o s → IsValueOf s e z → z ≡ value_at slot s.uniforms s.cells)) some h s z shows g
+
+pub local_is : (s : View) (e : Expression) (x : ℕ) (z : ℤ) → e ≡ expression.Local x → IsValueOf s e z → z ≡ slice_index_or s.locals x (pos 0)
+local_is s e x z is h =
+    let g : Gives h.from (slice_index_or s.locals x (pos 0)) ≡ Gives h.behind z = ap (λ e. attempt s e h.from) (sym is) ∙ h.gives in
+    let same : slice_index_or s.locals x (pos 0) ≡ z = cc g in sym same

@@ -22,6 +22,7 @@ begins known team a k locals m are h = record {
     most = h.known_as.most;
     uniforms = h.known_as.uniforms;
     cells = h.known_as.cells;
+    near = h.known_as.near;
   };
   members = are;
 }
@@ -33,6 +34,7 @@ ends known team m h = record {
     most = h.known_as.most;
     uniforms = h.known_as.uniforms;
     cells = h.known_as.cells;
+    near = h.known_as.near;
   };
   team = refl;
 }

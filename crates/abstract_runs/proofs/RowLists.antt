@@ -5,7 +5,9 @@ use Rattle.pram_check.specs.Checked.{Checked}
 use Rattle.pram_names.specs.declared.body.Expression.{Expression}
 use Rattle.pram_names.specs.declared.body.StepTarget.{StepTarget}
 use Rattle.pram_meaning.specs.Attempt.{Attempt, Gives, Fails, attempt_step}
+use Rattle.std.specs.Prelude.{slice_get}
 use Rattle.pram_meaning.specs.Store as store
+use Rattle.pram_meaning.specs.Store.{member_of}
 use Rattle.pram_meaning.specs.Together.{part_of, parts}
 use Rattle.abstract_runs.specs.declared.active.Active.{Active}
 use Rattle.all_inputs.specs.declared.faults.Faults.{Faults}
@@ -15,7 +17,8 @@ use Rattle.abstract_runs.specs.declared.standing.Standing.{Standing}
 use Rattle.all_inputs.specs.Faulting.{AreKept}
 use Rattle.abstract_runs.specs.Rows.{AreActive, ArePartsBy, IsPartBy}
 use Rattle.abstract_runs.specs.Rows as rows
-use Rattle.abstract_runs.specs.Standing.{StandsWith}
+use Rattle.abstract_runs.specs.Inner.{IsKnownAt, StandsOn}
+use Rattle.abstract_runs.specs.Standing.{IsKnownAs}
 use Rattle.abstract_runs.specs.Tried.{IsTried}
 use Rattle.abstract_runs.proofs.Trails.{Reaches}
 
@@ -28,7 +31,8 @@ module _ (p : Checked) (known : Standing) (team : List Member) (target : StepTar
   pub record IsRowFor (faults : Faults) (a : Active) (row : Row) : Type 0 where
     pub member : row.member ≡ a.member
     pub sure : row.is_sure ≡ a.is_sure
-    pub part : (m : store.State) → StandsWith known team m → IsPartBy faults row (part_of p m (λ s. attempt_step s target e) a.member)
+    pub part : (m : store.State) → IsKnownAs known m → IsKnownAt (slice_get team a.member) (member_of m.team a.member) →
+        IsPartBy faults row (part_of p m (λ s. attempt_step s target e) a.member)
 
   abbrev pub AreRowsFor : Faults → List Active → List Row → Type 0
   AreRowsFor faults [] [] = Unit {0}
@@ -36,13 +40,13 @@ module _ (p : Checked) (known : Standing) (team : List Member) (target : StepTar
   AreRowsFor faults some rs = ⊥
 
   row_kept : (f g : Faults) (a : Active) (row : Row) → AreKept f g → IsRowFor f a row → IsRowFor g a row
-  row_kept f g a row k h = record {
+  row_kept f g a row more h = record {
     member = h.member;
     sure = h.sure;
-    part = λ m stands. let x = h.part m stands in record {
+    part = λ m k is. let x = h.part m k is in record {
       member = x.member;
       processor = x.processor;
-      tried = tried_kept _ row.trail.items f g _ k x.tried;
+      tried = tried_kept _ row.trail.items f g _ more x.tried;
     };
   }
 
@@ -72,11 +76,12 @@ module _ (p : Checked) (known : Standing) (team : List Member) (target : StepTar
   -- the parts of any of the sets
   pub rows_parts : (f : Faults) (some : List Active) (rs : List Row) (vs : List ℕ) (m : store.State) → AreRowsFor f some rs →
       AreActive some vs →
-      StandsWith known team m → ArePartsBy f rs (parts p m (λ s. attempt_step s target e) vs)
+      StandsOn known team vs m → ArePartsBy f rs (parts p m (λ s. attempt_step s target e) vs)
   rows_parts f [] [] vs m h (rows.none) stands = rows.none
   rows_parts f (a ∷ some) [] vs m h active stands = absurd h
   rows_parts f [] (row ∷ rs) vs m h active stands = absurd h
   rows_parts f (a ∷ some) (row ∷ rs) vs m h (rows.takes active) stands =
-      rows.takes (h.0.part m stands) (rows_parts f some rs _ m h.1 active stands)
+      rows.takes (h.0.part m stands.known_as stands.members.0)
+      (rows_parts f some rs _ m h.1 active (record { known_as = stands.known_as; members = stands.members.1 }))
   rows_parts f (a ∷ some) (row ∷ rs) vs m h (rows.passes unsure active) stands =
       rows.passes (h.0.sure ∙ unsure) (rows_parts f some rs vs m h.1 active stands)

@@ -23,6 +23,7 @@ use Rattle.abstract_runs.specs.declared.effect as known
 use Rattle.all_inputs.specs.declared.faults.Faults.{Faults}
 use Rattle.abstract_runs.specs.declared.reach.Reach.{Reach}
 use Rattle.abstract_runs.specs.declared.row.Row.{Row}
+use Rattle.abstract_runs.specs.Alike.{AreAlike}
 use Rattle.abstract_runs.specs.Apart.{Reaches, AreApart}
 use Rattle.abstract_runs.specs.Columns.{targets, reach_in, value_in, low_of, high_of, low_sum, high_sum, AreWords, HasWords, IsOnly}
 use Rattle.abstract_runs.specs.Columns.{WritesOnly, NeverClash, kind_under}
@@ -136,12 +137,12 @@ pub clash_kind : (rule : Rule) (xs : List Part) (key : Key) → Contains (flat_m
     key.kind ≡ kind_under rule
 clash_kind rule xs key h = let one = some_clash rule xs key h in kind_is rule (writes_to one.cell xs) key.kind one.clash
 
-pub never_key : (before : Faults) (rule : Rule) (rs : List Row) (xs : List Part) (key : Key) → NeverClash rule rs →
-    ArePartsBy before rs xs →
+pub never_key : (before : Faults) (rule : Rule) (alike : Bool) (rs : List Row) (xs : List Part) (key : Key) → NeverClash rule alike rs →
+    ArePartsBy before rs xs → (alike ≡ true → AreAlike xs) →
     Contains (flat_map (λ x. write_conflict rule xs x.attempt) xs) key → ⊥
-never_key before rule rs xs key never parts h =
+never_key before rule alike rs xs key never parts same h =
     let one = some_clash rule xs key h in
-    never before xs one.cell key.kind parts one.clash
+    never before xs one.cell key.kind parts same one.clash
 
 -- ---- writes that are apart
 
@@ -227,13 +228,14 @@ lone_never rule ws k (inr one) e =
     let f = subst (λ ws. written rule (pos 0) ws ≡ Err k) one.1 e in
     let g = lone_written rule one.0 one.2 in absurd (cc (f, g))
 
-pub apart_never : (rule : Rule) (rs : List Row) → AreApart (targets rs) → All HasWords rs → NeverClash rule rs
-apart_never rule rs apart words = λ before xs c k parts e. lone_never rule (writes_to c xs) k (lone before rs xs c apart words parts) e
+pub apart_never : (rule : Rule) (alike : Bool) (rs : List Row) → AreApart (targets rs) → All HasWords rs → NeverClash rule alike rs
+apart_never rule alike rs apart words = λ before xs c k parts same e.
+    lone_never rule (writes_to c xs) k (lone before rs xs c apart words parts) e
 
 -- ---- by priority
 
-pub priority_never : (rs : List Row) → NeverClash Priority rs
-priority_never rs = λ before xs c k parts e. by (writes_to c xs) k e
+pub priority_never : (alike : Bool) (rs : List Row) → NeverClash Priority alike rs
+priority_never alike rs = λ before xs c k parts same e. by (writes_to c xs) k e
   where
     by : (ws : List Write) (k : Kind) → written Priority (pos 0) ws ≡ Err k → ⊥
     by [] k e = absurd (cc e)
@@ -252,7 +254,7 @@ only_value_is x v (Some j) i h e at =
     let m = at.greatest in
     grind (arith, ints, a, b, l, m)
 
-common_more : (x : ℤ) (w : Write) (ws : List Write) → x ≡ w.value → common_value x ws ≡ Ok x → common_value x (w ∷ ws) ≡ Ok x
+pub common_more : (x : ℤ) (w : Write) (ws : List Write) → x ≡ w.value → common_value x ws ≡ Ok x → common_value x (w ∷ ws) ≡ Ok x
 common_more x w ws e rest =
     let same : is_equal x w.value ≡ true = grind (arith, ints, e) in
     ap (λ b. if b then common_value x ws else Err WriteConflict) same ∙ rest
@@ -272,7 +274,7 @@ common_all f x (row ∷ rs) (y ∷ xs) c only (rows.takes one more) =
 common_all f x (row ∷ rs) xs c only (rows.passes unsure more) = common_all f x rs xs c (All-tail (WritesOnly x) row rs only) more
 
 -- the first of several writers of one number
-common_first : (x : ℤ) (ws : List Write) (k : Kind) → common_value x ws ≡ Ok x → written Common (pos 0) ws ≡ Err k → ⊥
+pub common_first : (x : ℤ) (ws : List Write) (k : Kind) → common_value x ws ≡ Ok x → written Common (pos 0) ws ≡ Err k → ⊥
 common_first x [] k a e = absurd (cc e)
 common_first x (w ∷ ws) k a e = by (is_equal x w.value) refl
   where
@@ -286,8 +288,8 @@ common_first x (w ∷ ws) k a e = by (is_equal x w.value) refl
         let none : Err WriteConflict ≡ Ok x = sym (ap (λ b. if b then common_value x ws else Err WriteConflict) t) ∙ a in
         absurd (cc none)
 
-pub common_never : (x : ℤ) (rs : List Row) → All (WritesOnly x) rs → NeverClash Common rs
-common_never x rs only = λ before xs c k parts e. common_first x (writes_to c xs) k (common_all before x rs xs c only parts) e
+pub common_never : (x : ℤ) (alike : Bool) (rs : List Row) → All (WritesOnly x) rs → NeverClash Common alike rs
+common_never x alike rs only = λ before xs c k parts same e. common_first x (writes_to c xs) k (common_all before x rs xs c only parts) e
 
 -- ---- sums
 
@@ -348,7 +350,7 @@ sum_never_by [] k fit e = absurd (cc e)
 sum_never_by (w ∷ ws) k fit e =
     let good = ap (λ b. if b then Ok (sum_of (w ∷ ws)) else Err Overflow) fit in absurd (cc (sym good ∙ e))
 
-pub sum_never : (rs : List Row) → fits (low_sum rs) ≡ true → fits (high_sum rs) ≡ true → NeverClash Sum rs
-sum_never rs low high = λ before xs c k parts e.
+pub sum_never : (alike : Bool) (rs : List Row) → fits (low_sum rs) ≡ true → fits (high_sum rs) ≡ true → NeverClash Sum alike rs
+sum_never alike rs low high = λ before xs c k parts same e.
     let s = sum_in before rs xs c parts in
     sum_never_by (writes_to c xs) k (between_words (low_sum rs) (sum_of (writes_to c xs)) (high_sum rs) low high s.least s.most) e

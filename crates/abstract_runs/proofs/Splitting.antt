@@ -30,7 +30,7 @@ or_splits x y z e g = let same : truth (is_nonzero x || is_nonzero y) ≡ z = cc
 
 -- ---- operators before an operand
 
-checked_as : (v z : ℤ) → checked v ≡ Ok z → v ≡ z
+pub checked_as : (v z : ℤ) → checked v ≡ Ok z → v ≡ z
 checked_as v z = by (fits v)
   where
     by : (b : Bool) → (if b then Ok v else Err Overflow) ≡ Ok z → v ≡ z

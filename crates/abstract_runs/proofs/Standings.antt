@@ -24,13 +24,14 @@ bound_passed bound a b c h same f = let m = same.most in let n = f.most in omega
 -- ---- inside pardo
 
 pub stands_later : (a : Standing) (most : ℕ) (team : List Member) → a.most ≤ most → (m : State) → StandsWith a team m →
-    StandsWith (record { least = a.least; most = most; uniforms = a.uniforms; cells = a.cells }) team m
+    StandsWith (record { least = a.least; most = most; uniforms = a.uniforms; cells = a.cells; origins = a.origins }) team m
 stands_later a most team more m h = record {
   known_as = record {
     least = h.known_as.least;
     most = (let n = h.known_as.most in omega (arith, more, n));
     uniforms = h.known_as.uniforms;
     cells = h.known_as.cells;
+    near = h.known_as.near;
   };
   members = h.members;
 }

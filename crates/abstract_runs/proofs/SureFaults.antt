@@ -3,7 +3,7 @@ use Rattle.std.proofs.Common.{◌≡◌, ◌⊎◌, inl, inr, ℕ, zero, suc, �
 use Rattle.std.proofs.Common.{Bool, true, false, if◌then◌else◌, Option, Some, None, Ok, Err, ℤ, pos, ◌<ℤ◌, arith, tests, nat_eq, get_or}
 use Rattle.std.specs.List.{Contains, flat_map}
 use Rattle.std.proofs.lemmas.Int.{ints}
-use Rattle.std.proofs.lemmas.List.Elements.{Contains-append_left, Contains-append_right}
+use Rattle.std.proofs.lemmas.List.Elements.{Contains-append_right}
 use Rattle.pram_model.specs.declared.rule.Rule.{Rule}
 use Rattle.pram_model.specs.declared.rule.Rule.TheVariants.{Erew, Crew, Common, Priority, Sum}
 use Rattle.pram_values.specs.declared.kind.Kind.TheVariants.{WriteConflict}
@@ -17,7 +17,6 @@ use Rattle.pram_meaning.specs.Attempt as meant
 use Rattle.pram_meaning.specs.Attempt.{Attempt, Gives, Fails}
 use Rattle.pram_meaning.specs.Conflict.{Part, cell_conflict, fault_of, keys, least, read_conflicts, reads_of, value_key, write_conflict}
 use Rattle.pram_meaning.specs.Conflict.{write_to, writes_by, writes_to}
-use Rattle.pram_meaning.specs.declared.key.Key.{Key}
 use Rattle.all_inputs.specs.declared.faults.Faults.{Faults}
 use Rattle.abstract_runs.specs.declared.effect.Effect.{Effect}
 use Rattle.abstract_runs.specs.declared.reach.Reach.{Reach}
@@ -51,10 +50,10 @@ never_given faults (row ∷ known) (suc k) d xs below sure none (rows.passes uns
 -- ---- what a row surely writes
 
 -- the only writes of a part are one to that cell, of such a value
-record IsWrite (c : ℕ) (i : Interval) (ws : List Write) : Type 0 where
-  write : Write
-  is : ws ≡ write ∷ []
-  value : IsIn write.value i
+pub record IsWrite (c : ℕ) (i : Interval) (ws : List Write) : Type 0 where
+  pub write : Write
+  pub is : ws ≡ write ∷ []
+  pub value : IsIn write.value i
 
 same_cell : (c d : ℕ) → d ≡ c → nat_eq c d ≡ true
 same_cell c d e = grind (arith, tests, e)
@@ -79,7 +78,7 @@ given_writes c i values effect e r t g is same goes l m given =
     let k : IsGiven e g = subst (λ o. IsGivenBy o g) is given in
     gone c i g.value e.reach r g.cell values goes l m k.cell (subst (IsIn g.value) same k.value)
 
-part_writes : (c : ℕ) (values : Interval) (faults : Faults) (row : Row) (x : Part) → WritesSurely c values row → IsPartBy faults row x →
+pub part_writes : (c : ℕ) (values : Interval) (faults : Faults) (row : Row) (x : Part) → WritesSurely c values row → IsPartBy faults row x →
     IsGiving x.attempt → IsWrite c values (writes_by c x.processor x.attempt)
 part_writes c values faults row x w part given = by x.attempt part.tried given
   where
@@ -92,10 +91,10 @@ part_writes c values faults row x w part given = by x.attempt part.tried given
 -- ---- two rows
 
 -- there is a write of a value of the interval
-record Holds (i : Interval) (ws : List Write) : Type 0 where
-  write : Write
-  among : Contains ws write
-  value : IsIn write.value i
+pub record Holds (i : Interval) (ws : List Write) : Type 0 where
+  pub write : Write
+  pub among : Contains ws write
+  pub value : IsIn write.value i
 
 holds_first : (c : ℕ) (i : Interval) (ws more : List Write) → IsWrite c i ws → Holds i (ws ++ more)
 holds_first c i ws more w = record {
@@ -107,7 +106,7 @@ holds_first c i ws more w = record {
 holds_more : (i : Interval) (ws more : List Write) → Holds i more → Holds i (ws ++ more)
 holds_more i ws more h = record { write = h.write; among = Contains-append_right ws more h.write h.among; value = h.value }
 
-one_holds : (c : ℕ) (i : Interval) (faults : Faults) (known : List Row) (k : ℕ) (d : Row) (xs : List Part) → k < length known →
+pub one_holds : (c : ℕ) (i : Interval) (faults : Faults) (known : List Row) (k : ℕ) (d : Row) (xs : List Part) → k < length known →
     WritesSurely c i (get_or known k d) → ArePartsBy faults known xs → AreGiven xs → Holds i (writes_to c xs)
 one_holds c i faults [] k d xs below w parts given = absurd (omega (arith, below))
 one_holds c i faults (row ∷ known) zero d (x ∷ xs) below w (rows.takes part parts) given =
@@ -207,11 +206,11 @@ value_given at c (Ok z) e = (z, refl)
 value_given at c (Err kind) e = absurd (cc e)
 
 -- the rule has a value for what is written to the cell
-abbrev IsSettled : Rule → ℕ → List Part → Type 0
+abbrev pub IsSettled : Rule → ℕ → List Part → Type 0
 IsSettled rule c all = (z : ℤ) × (written rule (pos 0) (writes_to c all) ≡ Ok z)
 
 -- no write conflict is told, so nothing is written to the cell, or the rule has a value for it
-settled_or_none : (rule : Rule) (c : ℕ) (all xs : List Part) → flat_map (λ x. write_conflict rule all x.attempt) xs ≡ [] → AreGiven xs →
+pub settled_or_none : (rule : Rule) (c : ℕ) (all xs : List Part) → flat_map (λ x. write_conflict rule all x.attempt) xs ≡ [] → AreGiven xs →
     (writes_to c xs ≡ []) ⊎ IsSettled rule c all
 settled_or_none rule c all [] e given = inl refl
 settled_or_none rule c all (x ∷ xs) e given = by x.attempt given.0 e (settled_or_none rule c all xs)

@@ -1,6 +1,6 @@
 -- Two processors that surely read one cell at one position.
 use Rattle.std.proofs.Common.{◌≡◌, ◌≢◌, ℕ, zero, suc, ◌+◌, ◌<◌, List, [], ◌∷◌, ◌++◌, length, refl, sym, subst, ap, ◌∙◌}
-use Rattle.std.proofs.Common.{Bool, true, false, Option, Some, None, ℤ, arith, tests, get_or}
+use Rattle.std.proofs.Common.{Bool, true, Option, Some, None, ℤ, arith, tests, get_or}
 use Rattle.std.specs.Prelude.{slice_index_or}
 use Rattle.std.specs.List.{Contains, flat_map, list_any}
 use Rattle.std.proofs.lemmas.Int.{ints}
@@ -20,7 +20,7 @@ use Rattle.abstract_runs.specs.Given.{AreGiven, IsGiving}
 use Rattle.abstract_runs.specs.Rows.{ArePartsBy, IsPartBy}
 use Rattle.abstract_runs.specs.Rows as rows
 use Rattle.abstract_runs.specs.Sure.{Meeting, ReadsSurely}
-use Rattle.abstract_runs.specs.Tried.{AreRead, GoesAlong, GoesThrough, IsTried}
+use Rattle.abstract_runs.specs.Tried.{AreRead, GoesAlong, IsTried}
 use Rattle.abstract_runs.proofs.Faultless.{all_given, no_keys, none_first, none_last}
 
 -- ---- lists

@@ -1,5 +1,5 @@
 -- What the rows of a set of processors read and write beside one another.
-use Rattle.std.specs.Prelude.{◌≡◌, true, ℕ, List, [], ◌∷◌, map, Option, Some, None, Err, ℤ, pos, ◌+ℤ◌, slice_index_or}
+use Rattle.std.specs.Prelude.{◌≡◌, Bool, true, ℕ, List, [], ◌∷◌, map, Option, Some, None, Err, ℤ, pos, ◌+ℤ◌, slice_index_or}
 use Rattle.std.specs.Int.{int_min, int_max}
 use Rattle.pram_model.specs.declared.rule.Rule.{Rule}
 use Rattle.pram_model.specs.declared.rule.Rule.TheVariants.{Erew, Crew, Common, Priority, Sum}
@@ -9,6 +9,7 @@ use Rattle.pram_values.specs.Value.{fits}
 use Rattle.write_rules.specs.Rule.{written}
 use Rattle.pram_meaning.specs.Conflict.{Part, writes_to}
 use Rattle.intervals.specs.declared.interval.Interval.{Interval}
+use Rattle.abstract_runs.specs.Alike.{AreAlike}
 use Rattle.abstract_runs.specs.declared.effect.Effect.{Effect}
 use Rattle.all_inputs.specs.declared.faults.Faults.{Faults}
 use Rattle.abstract_runs.specs.declared.reach.Reach.{Reach}
@@ -76,10 +77,10 @@ IsOnly x (Some i) = (i.least ≡ x) × (i.greatest ≡ x)
 abbrev pub WritesOnly : ℤ → Row → Type 0
 WritesOnly x row = IsOnly x (value_in row.effect)
 
--- whatever the processors write, the rule has nothing against the writers of a cell
-abbrev pub NeverClash : Rule → List Row → Type 0
-NeverClash rule rows = (before : Faults) (xs : List Part) (c : ℕ) (kind : Kind) → ArePartsBy before rows xs →
-    written rule (pos 0) (writes_to c xs) ≡ Err kind → ⊥
+-- whatever the processors write, all one value where they are alike, the rule has nothing against the writers of a cell
+abbrev pub NeverClash : Rule → Bool → List Row → Type 0
+NeverClash rule alike rows = (before : Faults) (xs : List Part) (c : ℕ) (kind : Kind) → ArePartsBy before rows xs →
+    (alike ≡ true → AreAlike xs) → written rule (pos 0) (writes_to c xs) ≡ Err kind → ⊥
 
 -- the kind of the faults of a rule that has any
 abbrev pub kind_under : Rule → Kind

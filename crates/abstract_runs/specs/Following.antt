@@ -6,6 +6,7 @@ use Rattle.abstract_runs.specs.declared.standing.Standing.{Standing}
 pub record IsSameSize (a b : Standing) : Type 0 where
   pub uniforms : length a.uniforms.items ≡ length b.uniforms.items
   pub cells : length a.cells.items ≡ length b.cells.items
+  pub origins : length a.origins.items ≡ length b.origins.items
 
 -- no fewer statements have run, and there are as many values
 pub record Follows (old new : Standing) : Type 0 where

@@ -1,3 +1,4 @@
+pub mod Alike
 pub mod Apart
 pub mod Columns
 pub mod Covers
@@ -5,13 +6,16 @@ pub mod Decided
 pub mod Effects
 pub mod Following
 pub mod Given
+pub mod Inner
 pub mod Inside
 pub mod Leads
 pub mod Likeness
+pub mod Near
 pub mod Open
 pub mod Placed
 pub mod Rows
 pub mod Standing
+pub mod Staying
 pub mod Sure
 pub mod Tests
 pub mod Tried

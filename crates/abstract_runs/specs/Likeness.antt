@@ -9,6 +9,7 @@ pub record IsSame (a b : Standing) : Type 0 where
   pub most : a.most ≡ b.most
   pub uniforms : a.uniforms.items ≡ b.uniforms.items
   pub cells : a.cells.items ≡ b.cells.items
+  pub origins : a.origins.items ≡ b.origins.items
 
 -- a processor of the same index, with as many locals
 pub record IsLike (a b : Member) : Type 0 where

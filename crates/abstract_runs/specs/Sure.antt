@@ -1,11 +1,18 @@
 -- What attempts of a set surely do.
-use Rattle.std.specs.Prelude.{◌≡◌, ◌≢◌, ◌⊎◌, ℕ, ◌<ℤ◌, Some, None, true, slice_index_or}
+use Rattle.std.specs.Prelude.{◌≡◌, ◌≢◌, ◌⊎◌, ℕ, List, pos, ◌<ℤ◌, Some, None, true, false, slice_index_or}
 use Rattle.pram_model.specs.declared.rule.Rule.{Rule}
 use Rattle.pram_model.specs.declared.rule.Rule.TheVariants.{Erew, Crew, Common, Priority, Sum}
+use Rattle.pram_values.specs.Value.{fits}
+use Rattle.write_rules.specs.Rule.{sum_of}
 use Rattle.intervals.specs.declared.interval.Interval.{Interval}
+use Rattle.intervals.specs.Intervals.{IsIn}
+use Rattle.pram_meaning.specs.Conflict.{Part, writes_by, writes_to}
+use Rattle.all_inputs.specs.declared.faults.Faults.{Faults}
 use Rattle.abstract_runs.specs.declared.effect.Effect.{Effect}
 use Rattle.abstract_runs.specs.declared.reach.Reach.{Reach}
 use Rattle.abstract_runs.specs.declared.row.Row.{Row}
+use Rattle.abstract_runs.specs.Given.{AreGiven, IsGiving}
+use Rattle.abstract_runs.specs.Rows.{ArePartsBy, IsPartBy}
 
 -- it takes place, and unless it faults it writes to that cell, a value of the interval
 pub record WritesSurely (c : ℕ) (i : Interval) (row : Row) : Type 0 where
@@ -49,3 +56,13 @@ pub record Clash (rule : Rule) (one two : Row) : Type 0 where
   pub one_writes : WritesSurely cell first one
   pub two_writes : WritesSurely cell second two
   pub against : IsAgainst rule first second
+
+-- what a row's processor adds to a cell's sum unless it faults lies in these, and so does 0 where it may take no part
+pub record AddsIn (c : ℕ) (added : Interval) (row : Row) : Type 0 where
+  pub taken : (faults : Faults) (x : Part) → IsPartBy faults row x → IsGiving x.attempt →
+      IsIn (sum_of (writes_by c x.processor x.attempt)) added
+  pub passed : row.is_sure ≡ false → IsIn (pos 0) added
+
+-- where no processor faults, the sum of what they write to the cell is no number of 64 bits
+abbrev pub NeverFits : ℕ → List Row → Type 0
+NeverFits c rows = (faults : Faults) (xs : List Part) → ArePartsBy faults rows xs → AreGiven xs → fits (sum_of (writes_to c xs)) ≡ false

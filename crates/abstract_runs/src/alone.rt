@@ -87,6 +87,8 @@ impl<'a> Survey<'a> {
         // Each run goes on with such a value for such a cell, or comes to what is told.
         ensures leads { IfOk result (λ effect. (m : State) → StandsFor known.old m → Leads (λ g n. IsGivenBy effect g × StandsFor known.new n)
             told.new (evaluated self.now.bound line (λ m. attempt_assign (seen self.now.program.now m) target.now e.now) m)) }
+        // The origins stay.
+        ensures origins { known.new.origins.items ≡ known.old.origins.items }
         // Where a run may stand at the bound, that is told.
         ensures bound { OnOk result (self.now.bound ≤ known.old.most → told.new.may_go_on ≡ true) }
         ensures follows { Follows known.old known.new }

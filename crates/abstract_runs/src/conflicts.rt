@@ -9,6 +9,7 @@ ghost use Rattle.pram_meaning.specs.Conflict.{Part, read_conflicts, reads_of, wr
 ghost use Rattle.pram_meaning.specs.Together.{together};
 ghost use Rattle.pram_meaning.specs.declared.key.Key.{Key};
 ghost use Rattle.all_inputs.specs.declared.faults.Faults as spec;
+ghost use Rattle.abstract_runs.specs.Alike.{AreAlike};
 ghost use Rattle.abstract_runs.specs.Apart.{AreApart};
 ghost use Rattle.abstract_runs.specs.Columns.{column as column_of, value_in, low_sum, high_sum, WritesOnly, NeverClash, kind_under};
 ghost use Rattle.all_inputs.specs.Faulting.{May, AreKept};
@@ -172,28 +173,44 @@ fn have_sums(rows: &[Row]) -> bool
     true
 }
 
+// Whether all that write to one cell write one number: `true` says so.
+fn write_common(alike: bool, rows: &[Row]) -> bool
+    ensures { result ≡ true → NeverClash Rule.Common alike rows.now }
+{
+    if alike {
+        return true;
+    }
+    write_only(first_value(rows), rows)
+}
+
 // Whether the rule has nothing against whatever rows write to one cell: `true` says so.
-fn is_shared_well(rule: Rule, rows: &[Row]) -> bool
-    ensures { result ≡ true → NeverClash rule rows.now }
+fn is_shared_well(rule: Rule, alike: bool, rows: &[Row]) -> bool
+    ensures { result ≡ true → NeverClash rule alike rows.now }
 {
     match rule {
         Rule::Erew | Rule::Crew => false,
-        Rule::Common => write_only(first_value(rows), rows),
+        Rule::Common => write_common(alike, rows),
         Rule::Priority => true,
         Rule::Sum => have_sums(rows),
     }
 }
 
 // Whether the rule has nothing against the writers of any cell: `true` says so.
-fn never_clash(alloc: Global, rule: Rule, cells: usize, rows: &[Row]) -> Result<bool, AllocError>
-    ensures { IfOk result (λ never. never ≡ true → NeverClash rule rows.now) }
+fn never_clash(
+    alloc: Global,
+    rule: Rule,
+    cells: usize,
+    alike: bool,
+    rows: &[Row],
+) -> Result<bool, AllocError>
+    ensures { IfOk result (λ never. never ≡ true → NeverClash rule alike rows.now) }
 {
     let reaches = targets(alloc, rows)?;
     let apart = are_apart(alloc, cells, &reaches)?;
     if apart {
         return Ok(true);
     }
-    Ok(is_shared_well(rule, rows))
+    Ok(is_shared_well(rule, alike, rows))
 }
 
 // The kind of the faults of a rule that has something against writers.
@@ -206,21 +223,22 @@ fn clash_kind(rule: Rule) -> Kind
     }
 }
 
-/// Notes the fault that the rule may have against the writers of one cell, if it may have one.
+/// Notes the fault that the rule may have against the writers of one cell, if it may have one. Where they are alike, all write one value.
 pub fn note_write_conflicts(
     alloc: Global,
     rule: Rule,
     cells: usize,
+    alike: bool,
     rows: &[Row],
     faults: &mut Faults,
 ) -> Result<(), AllocError>
-    // Each fault of the writers of a cell, by parts of this kind, is one that may come.
+    // Each fault of the writers of a cell, by parts of this kind, alike where that is said, is one that may come.
     ensures noted { OnOk result ((before : spec.Faults) (xs : List Part) (key : Key) → ArePartsBy before rows.now xs →
-        Contains (flat_map (λ x. write_conflict rule xs x.attempt) xs) key → May key.kind faults.new) }
+        (alike ≡ true → AreAlike xs) → Contains (flat_map (λ x. write_conflict rule xs x.attempt) xs) key → May key.kind faults.new) }
     // What might come before may come still.
     ensures kept { AreKept faults.old faults.new }
 {
-    let never = never_clash(alloc, rule, cells, rows)?;
+    let never = never_clash(alloc, rule, cells, alike, rows)?;
     if !never {
         faults.note(clash_kind(rule), Reason::Shared);
     }
@@ -229,22 +247,23 @@ pub fn note_write_conflicts(
 
 // ---- both
 
-/// Notes the conflicts that may come between the processors of a set.
+/// Notes the conflicts that may come between the processors of a set. Where they are alike, all write one value.
 pub fn note_conflicts(
     alloc: Global,
     rule: Rule,
     cells: usize,
+    alike: bool,
     rows: &[Row],
     faults: &mut Faults,
 ) -> Result<(), AllocError>
-    // The fault of a statement on parts of this kind is one that may come, if the parts' own are.
+    // The fault of a statement on parts of this kind, alike where that is said, is one that may come, if the parts' own are.
     ensures told { OnOk result ((before : spec.Faults) (xs : List Part) (line : ℕ) (p : Checked) → p.rule ≡ rule →
-        ArePartsBy before rows.now xs → AreKept before faults.new →
+        ArePartsBy before rows.now xs → (alike ≡ true → AreAlike xs) → AreKept before faults.new →
         IfErr (together p line xs) (λ fault. May fault.kind faults.new × (fault.line ≡ line))) }
     // What might come before may come still.
     ensures kept { AreKept faults.old faults.new }
 {
     note_read_conflicts(alloc, rule, cells, rows, faults)?;
-    note_write_conflicts(alloc, rule, cells, rows, faults)?;
+    note_write_conflicts(alloc, rule, cells, alike, rows, faults)?;
     Ok(())
 }

@@ -6,16 +6,19 @@ ghost use Rattle.pram_meaning.specs.Conflict.{Part};
 ghost use Rattle.pram_meaning.specs.Store.{State};
 ghost use Rattle.pram_meaning.specs.Together.{assigned_by};
 ghost use Rattle.abstract_runs.specs.Following.{Follows};
+ghost use Rattle.abstract_runs.specs.Inner.{AreKnownIn, AreWay};
 ghost use Rattle.abstract_runs.specs.Inside.{IsAttempted};
 ghost use Rattle.abstract_runs.specs.Leads.{Leads};
 ghost use Rattle.abstract_runs.specs.Likeness.{AreLike};
 ghost use Rattle.abstract_runs.specs.Open.{StayActive, after_test_on};
 ghost use Rattle.abstract_runs.specs.Rows.{AreActive};
-ghost use Rattle.abstract_runs.specs.Standing.{StandsWith};
+ghost use Rattle.abstract_runs.specs.Standing.{IsKnownAs, StandsWith};
 ghost use Rattle.all_inputs.specs.Told.{IsKept};
 
 use crate::active::Active;
 use crate::halt::Halt;
+use crate::inner::{known_behind, known_of, sharper};
+use crate::narrowing_members::narrowed_team;
 use crate::resting::{MOST_ROUNDS, is_all_within, widen_at, widen_team_at};
 use crate::row::Row;
 use crate::selecting::{select, unsure};
@@ -55,25 +58,43 @@ impl<'a> Survey<'a> {
         }
     }
 
+    /// What is left of what is known of the processors whose test came out so, if it names what a processor has alone.
+    fn left_of(
+        &self,
+        known: &Standing,
+        team: &Vec<Member>,
+        e: &Expression,
+        way: bool,
+    ) -> Result<Option<Vec<Member>>, AllocError>
+        ensures { IfOk result (λ left. IfSome left (λ inner. (m : State) (vs : List ℕ) → IsKnownAs known.now m →
+            AreKnownIn team.now.items vs m → AreWay self.now.program.now e.now way vs m → AreKnownIn inner.items vs m)) }
+    {
+        let left = narrowed_team(self.alloc, self.program, known, team, e, way)?;
+        Ok(left)
+    }
+
     /// An assignment of a set; `false` where no run goes on.
     fn assign_on(
         &self,
         known: &mut Standing,
         told: &mut Told,
         team: &mut Vec<Member>,
+        inner: Option<&Vec<Member>>,
         active: &[Active],
         line: u32,
         target: &StepTarget,
         e: &Expression,
     ) -> Result<bool, Halt>
-        ensures leads { IfOk result (λ on. (m : State) (vs : List ℕ) → StandsWith known.old team.old.items m → AreActive active.now vs →
+        ensures leads { IfOk result (λ on. (m : State) (vs : List ℕ) → StandsWith known.old team.old.items m →
+            IfSome inner.entry (λ t. AreKnownIn t.now.items vs m) → AreActive active.now vs →
             Leads (λ u n. (on ≡ true) × StandsWith known.new team.new.items n) told.new
             (spec.assign_on self.now.program.now self.now.bound line target.now e.now vs m)) }
         ensures follows { OnOk result (Follows known.old known.new) }
         ensures like { OnOk result (AreLike team.old.items team.new.items) }
         ensures kept { IsKept told.old told.new }
     {
-        let Some(rows) = self.attempt_on(known, told, team, active, line, target, e)? else {
+        let seen = known_of(team, inner);
+        let Some(rows) = self.attempt_on(known, told, seen, active, line, target, e)? else {
             return Ok(false);
         };
         self.write_rows(known, team, target, &rows)?;
@@ -86,11 +107,13 @@ impl<'a> Survey<'a> {
         known: &mut Standing,
         told: &mut Told,
         team: &Vec<Member>,
+        inner: Option<&Vec<Member>>,
         active: &[Active],
         line: u32,
         e: &Expression,
     ) -> Result<Option<Vec<Row>>, AllocError>
-        ensures leads { IfOk result (λ found. (m : State) (vs : List ℕ) → StandsWith known.old team.now.items m → AreActive active.now vs →
+        ensures leads { IfOk result (λ found. (m : State) (vs : List ℕ) → StandsWith known.old team.now.items m →
+            IfSome inner.entry (λ t. AreKnownIn t.now.items vs m) → AreActive active.now vs →
             Leads (λ xs n. IsSomeAnd found (λ rows. IsAttempted self.now.program.now rows.items vs xs) × StandsWith known.new team.now.items n)
             told.new (spec.tested_on self.now.program.now self.now.bound line e.now vs m)) }
         ensures bound { OnOk result (self.now.bound ≤ known.old.most → told.new.may_go_on ≡ true) }
@@ -99,7 +122,8 @@ impl<'a> Survey<'a> {
         ensures kept { IsKept told.old told.new }
     {
         let target = StepTarget::Local(0);
-        let rows = self.attempt_on(known, told, team, active, line, &target, e)?;
+        let seen = known_of(team, inner);
+        let rows = self.attempt_on(known, told, seen, active, line, &target, e)?;
         Ok(rows)
     }
 
@@ -110,11 +134,13 @@ impl<'a> Survey<'a> {
         known: &mut Standing,
         told: &mut Told,
         team: &mut Vec<Member>,
+        inner: Option<&Vec<Member>>,
         active: &[Active],
         body: &Vec<Step>,
     ) -> Result<bool, Halt>
-        // Each run of any of the sets goes on as is known, or comes to what is told.
-        ensures leads { IfOk result (λ on. (m : State) (vs : List ℕ) → StandsWith known.old team.old.items m → AreActive active.now vs →
+        // Each run of any of the sets, of which more may be known, goes on as is known, or comes to what is told.
+        ensures leads { IfOk result (λ on. (m : State) (vs : List ℕ) → StandsWith known.old team.old.items m →
+            IfSome inner.entry (λ t. AreKnownIn t.now.items vs m) → AreActive active.now vs →
             Leads (λ u n. (on ≡ true) × StandsWith known.new team.new.items n) told.new
             (spec.perform_list_on self.now.program.now self.now.bound body.now.items vs m)) }
         ensures follows { OnOk result (Follows known.old known.new) }
@@ -122,11 +148,13 @@ impl<'a> Survey<'a> {
         ensures like { OnOk result (AreLike team.old.items team.new.items) }
         ensures kept { IsKept told.old told.new }
     {
+        let mut more = inner;
         for s in body {
-            let on = self.run_step(known, told, team, active, s)?;
+            let on = self.run_step(known, told, team, more, active, s)?;
             if !on {
                 return Ok(false);
             }
+            more = known_behind(more, s);
         }
         Ok(true)
     }
@@ -138,10 +166,12 @@ impl<'a> Survey<'a> {
         known: &mut Standing,
         told: &mut Told,
         team: &mut Vec<Member>,
+        inner: Option<&Vec<Member>>,
         active: &[Active],
         s: &Step,
     ) -> Result<bool, Halt>
-        ensures leads { IfOk result (λ on. (m : State) (vs : List ℕ) → StandsWith known.old team.old.items m → AreActive active.now vs →
+        ensures leads { IfOk result (λ on. (m : State) (vs : List ℕ) → StandsWith known.old team.old.items m →
+            IfSome inner.entry (λ t. AreKnownIn t.now.items vs m) → AreActive active.now vs →
             Leads (λ u n. (on ≡ true) × StandsWith known.new team.new.items n) told.new
             (spec.perform_on self.now.program.now self.now.bound s.now vs m)) }
         ensures follows { OnOk result (Follows known.old known.new) }
@@ -154,7 +184,16 @@ impl<'a> Survey<'a> {
                 target,
                 value,
             } => {
-                let on = self.assign_on(known, told, team, active, location.line, target, value)?;
+                let on = self.assign_on(
+                    known,
+                    told,
+                    team,
+                    inner,
+                    active,
+                    location.line,
+                    target,
+                    value,
+                )?;
                 Ok(on)
             }
             Step::While {
@@ -171,17 +210,21 @@ impl<'a> Survey<'a> {
                 then_part,
                 else_part,
             } => {
-                let tried = self.test_on(known, told, team, active, location.line, test)?;
+                let tried = self.test_on(known, told, team, inner, active, location.line, test)?;
                 let Some(rows) = tried else {
                     return Ok(false);
                 };
                 let chosen = select(self.alloc, true, &rows)?;
                 let others = select(self.alloc, false, &rows)?;
-                let on = self.run_block_on(known, told, team, &chosen, then_part)?;
+                let left = self.left_of(known, known_of(team, inner), test, true)?;
+                let rest = self.left_of(known, known_of(team, inner), test, false)?;
+                let more = sharper(&left, inner);
+                let on = self.run_block_on(known, told, team, more, &chosen, then_part)?;
                 if !on {
                     return Ok(false);
                 }
-                let off = self.run_block_on(known, told, team, &others, else_part)?;
+                let more = sharper(&rest, inner);
+                let off = self.run_block_on(known, told, team, more, &others, else_part)?;
                 Ok(off)
             }
         }
@@ -208,7 +251,7 @@ impl<'a> Survey<'a> {
     {
         let mut current = Vec::from_slice(self.alloc, active)?;
         'turns: loop {
-            let tried = self.test_on(known, told, team, &current, line, e)?;
+            let tried = self.test_on(known, told, team, None, &current, line, e)?;
             let Some(rows) = tried else {
                 return Ok(false);
             };
@@ -221,7 +264,9 @@ impl<'a> Survey<'a> {
                 let on = self.run_open_on(known, told, team, &some, body, line, e)?;
                 return Ok(on);
             }
-            let on = self.run_block_on(known, told, team, &chosen, body)?;
+            let left = self.left_of(known, team, e, true)?;
+            let more = sharper(&left, None);
+            let on = self.run_block_on(known, told, team, more, &chosen, body)?;
             if !on {
                 return Ok(false);
             }
@@ -242,7 +287,8 @@ impl<'a> Survey<'a> {
         e: &Expression,
     ) -> Result<bool, Halt>
         requires { StayActive active.now }
-        ensures leads { IfOk result (λ on. (k : ℕ) (m : State) (vs : List ℕ) → StandsWith known.old team.old.items m → AreActive active.now vs →
+        ensures leads { IfOk result (λ on. (k : ℕ) (m : State) (vs : List ℕ) → StandsWith known.old team.old.items m →
+            AreWay self.now.program.now e.now true vs m → AreActive active.now vs →
             Leads (λ u n. (on ≡ true) × StandsWith known.new team.new.items n) told.new
             (after_test_on self.now.program.now self.now.bound line e.now body.now.items k vs m)) }
         ensures follows { OnOk result (Follows known.old known.new) }
@@ -253,11 +299,13 @@ impl<'a> Survey<'a> {
         for round in 0..MOST_ROUNDS {
             let mut inside = known.copied(self.alloc)?;
             let mut members = copied_team(self.alloc, team)?;
-            let on = self.run_block_on(&mut inside, told, &mut members, active, body)?;
+            let left = self.left_of(known, team, e, true)?;
+            let more = sharper(&left, None);
+            let on = self.run_block_on(&mut inside, told, &mut members, more, active, body)?;
             if !on {
                 return Ok(true);
             }
-            let Some(_) = self.test_on(&mut inside, told, &members, active, line, e)? else {
+            let Some(_) = self.test_on(&mut inside, told, &members, None, active, line, e)? else {
                 return Ok(true);
             };
             if is_all_within(&inside, known, &members, team) {

@@ -23,11 +23,13 @@ impl Standing {
     {
         let uniforms = Vec::from_slice(alloc, &self.uniforms)?;
         let cells = Vec::from_slice(alloc, &self.cells)?;
+        let origins = Vec::from_slice(alloc, &self.origins)?;
         Ok(Standing {
             least: self.least,
             most: self.most,
             uniforms,
             cells,
+            origins,
         })
     }
 
@@ -44,6 +46,7 @@ impl Standing {
         self.most = self.most.max(other.most).max(most);
         grow_all(&mut self.uniforms, &other.uniforms, growth);
         grow_all(&mut self.cells, &other.cells, growth);
+        grow_all(&mut self.origins, &other.origins, growth);
     }
 
     /// What is known where a run came this way or the other.
@@ -108,5 +111,6 @@ impl Standing {
             && self.most <= other.most
             && is_within_all(&self.uniforms, &other.uniforms)
             && is_within_all(&self.cells, &other.cells)
+            && is_within_all(&self.origins, &other.origins)
     }
 }

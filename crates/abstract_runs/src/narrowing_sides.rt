@@ -83,7 +83,7 @@ fn narrow_sides(
 }
 
 // The comparison that holds where one came out that way.
-fn held(comparison: Comparison, way: bool) -> Comparison
+pub(crate) fn held(comparison: Comparison, way: bool) -> Comparison
     ensures { (x y : ℤ) → holds comparison x y ≡ way → holds result x y ≡ true }
 {
     if way {
@@ -118,7 +118,7 @@ pub(crate) fn narrow_compared(
 }
 
 // The comparison with 0 of what is true or false.
-fn held_alone(way: bool) -> Comparison
+pub(crate) fn held_alone(way: bool) -> Comparison
     ensures { (z y : ℤ) → is_nonzero z ≡ way → y ≡ pos 0 → holds result z y ≡ true }
 {
     if way {

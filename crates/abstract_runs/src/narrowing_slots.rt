@@ -16,7 +16,7 @@ use crate::storing::set_interval;
 use intervals::{Comparison, Interval, narrowed};
 
 // What is left of the interval at a place where a comparison of its value with a number of the other holds; `false` where nothing is.
-fn narrow_place(
+pub(crate) fn narrow_place(
     items: &mut Vec<Interval>,
     place: usize,
     comparison: Comparison,

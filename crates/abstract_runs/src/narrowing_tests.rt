@@ -27,7 +27,7 @@ fn splits(operator: Binary, way: bool) -> bool
 }
 
 // Whether all operators of a chain are so.
-fn split_all(links: &[Link], way: bool) -> bool
+pub(crate) fn split_all(links: &[Link], way: bool) -> bool
     ensures { result ≡ true → AllByRecursion (λ l. Splits l.operator way) links.now }
 {
     for k in 0..links.len() {
@@ -39,7 +39,7 @@ fn split_all(links: &[Link], way: bool) -> bool
 }
 
 // Which way an operand goes where the operator before it gives what goes that way.
-fn way_before(operator: Prefix, way: bool) -> bool
+pub(crate) fn way_before(operator: Prefix, way: bool) -> bool
     ensures { (x z : ℤ) → spec.operate_before operator x ≡ Ok z → is_nonzero z ≡ way → is_nonzero x ≡ result }
 {
     match operator {

@@ -12,13 +12,14 @@ ghost use Rattle.abstract_runs.specs.Standing.{StandsFor};
 ghost use Rattle.abstract_runs.specs.Tests.{ComesTo, IsTested};
 ghost use Rattle.all_inputs.specs.Told.{IsKept};
 
+use crate::counters::store;
 use crate::decided::{Decided, decide};
 use crate::halt::Halt;
 use crate::joining_ways::join_ways;
 use crate::narrowing_tests::narrow;
 use crate::resting::{MOST_ROUNDS, widen_at};
 use crate::standing::Standing;
-use crate::storing::{set_variable, store};
+use crate::storing::set_variable;
 use crate::survey::Survey;
 use all_inputs::{Told, Undecided};
 use pram_check::{Expression, Statement, Target};
@@ -41,7 +42,7 @@ impl<'a> Survey<'a> {
     {
         match self.try_assign(known, told, line, target, e)? {
             Some(effect) => {
-                store(known, target, effect);
+                store(known, target, e, effect);
                 Ok(true)
             }
             None => Ok(false),

@@ -45,11 +45,13 @@ fn opening(alloc: Global, program: &Program, scope: Scope) -> Result<Standing, A
 {
     let uniforms = vec![in alloc; Interval::point(0); program.uniforms()]?;
     let cells = opening_cells(alloc, program.layout().cells(), scope)?;
+    let origins = vec![in alloc; Interval::point(0); program.uniforms()]?;
     Ok(Standing {
         least: 0,
         most: 0,
         uniforms,
         cells,
+        origins,
     })
 }
 

@@ -73,7 +73,7 @@ impl<'a> Survey<'a> {
         };
         let mut team = gather(self.alloc, first, count, locals)?;
         let all = all_active(self.alloc, count)?;
-        let on = self.run_block_on(known, told, &mut team, &all, body)?;
+        let on = self.run_block_on(known, told, &mut team, None, &all, body)?;
         Ok(on)
     }
 }

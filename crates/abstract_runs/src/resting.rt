@@ -7,13 +7,29 @@ ghost use Rattle.abstract_runs.specs.Standing.{AreMembersOf, IsKnownAs, StandsWi
 ghost use Rattle.abstract_runs.specs.Likeness.{AreLike};
 ghost use Rattle.abstract_runs.specs.declared.standing.Standing.{Standing as Known};
 
+use crate::holding::hold_back_all;
 use crate::standing::{Member, Standing};
 use crate::teams::{is_team_within, widen_team, widen_team_to_all};
 
 /// How often a loop is gone through at most until it comes to rest.
 pub(crate) const MOST_ROUNDS: u32 = 100;
 
-/// What is known at a loop's test, behind one turn more: it grows to marks, and in late rounds to all numbers.
+// What is known at a loop's test grows behind one turn more: to marks, and in late rounds to all numbers.
+fn grow_at(known: &mut Standing, turned: &Standing, marks: &[i64], bound: u32, round: u32)
+    requires { IsSameSize known.old turned.now }
+    ensures left { (m : State) → IsKnownAs known.old m → IsKnownAs known.new m }
+    ensures most { known.old.most ≤ known.new.most }
+    ensures follows { (before : Known) → Follows before known.old → Follows before turned.now → Follows before known.new }
+{
+    if round < MOST_ROUNDS / 2 {
+        known.widen(turned, marks, bound);
+    } else {
+        known.widen_to_all(turned, bound);
+    }
+}
+
+/// What is known at a loop's test, behind one turn more: it grows to marks, and in late rounds to all numbers, or as far as uniform
+/// variables may be from their origins.
 pub(crate) fn widen_at(
     known: &mut Standing,
     turned: &Standing,
@@ -29,11 +45,8 @@ pub(crate) fn widen_at(
     // Where both come later than something, so does the result.
     ensures follows { (before : Known) → Follows before known.old → Follows before turned.now → Follows before known.new }
 {
-    if round < MOST_ROUNDS / 2 {
-        known.widen(turned, marks, bound);
-    } else {
-        known.widen_to_all(turned, bound);
-    }
+    grow_at(known, turned, marks, bound, round);
+    hold_back_all(known);
 }
 
 /// The same of the processors.

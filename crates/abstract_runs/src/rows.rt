@@ -1,13 +1,14 @@
 //! The attempts of a set of processors.
 
-ghost use Rattle.std.specs.Prelude.{◌≡◌, ℕ, List, [], IfOk};
+ghost use Rattle.std.specs.Prelude.{◌≡◌, ℕ, List, [], IfOk, slice_get};
 ghost use Rattle.pram_meaning.specs.Attempt.{attempt_step};
-ghost use Rattle.pram_meaning.specs.Store.{State, seen_by};
+ghost use Rattle.pram_meaning.specs.Store.{State, member_of, seen_by};
 ghost use Rattle.abstract_runs.specs.Covers.{Shows};
 ghost use Rattle.pram_meaning.specs.Together.{part_of, parts};
 ghost use Rattle.all_inputs.specs.Faulting.{AreKept};
 ghost use Rattle.abstract_runs.specs.Rows.{AreActive, ArePartsBy, IsPartBy};
-ghost use Rattle.abstract_runs.specs.Standing.{StandsWith};
+ghost use Rattle.abstract_runs.specs.Inner.{IsKnownAt, StandsOn};
+ghost use Rattle.abstract_runs.specs.Standing.{IsKnownAs};
 
 use crate::active::Active;
 use crate::assigning::step_assignment;
@@ -21,7 +22,7 @@ use pram_check::{Expression, Program, StepTarget};
 use std::alloc::AllocError;
 
 // What is known of what a member sees.
-fn outlook_by<'a>(
+pub(crate) fn outlook_by<'a>(
     program: &'a Program,
     known: &'a Standing,
     team: &'a [Member],
@@ -29,7 +30,8 @@ fn outlook_by<'a>(
     member: u32,
 ) -> Outlook<'a>
     requires { no_locals.now.items ≡ [] }
-    ensures { (m : State) → StandsWith known.now team.now m → Shows result (seen_by program.now m member) }
+    ensures { (m : State) → IsKnownAs known.now m → IsKnownAt (slice_get team.now member) (member_of m.team member) →
+        Shows result (seen_by program.now m member) }
 {
     match team.get(member as usize) {
         Some(one) => Outlook {
@@ -60,7 +62,8 @@ impl<'a> Survey<'a> {
         e: &Expression,
         faults: &mut Faults,
     ) -> Result<Row, AllocError>
-        ensures part { IfOk result (λ row. (m : State) → StandsWith known.now team.now.items m → IsPartBy faults.new row
+        ensures part { IfOk result (λ row. (m : State) → IsKnownAs known.now m →
+            IsKnownAt (slice_get team.now.items active.member) (member_of m.team active.member) → IsPartBy faults.new row
             (part_of self.now.program.now m (λ s. attempt_step s target.now e.now) active.member)) }
         ensures member { IfOk result (λ row. row.member ≡ active.member) }
         ensures sure { IfOk result (λ row. row.is_sure ≡ active.is_sure) }
@@ -90,7 +93,7 @@ impl<'a> Survey<'a> {
         faults: &mut Faults,
     ) -> Result<Vec<Row>, AllocError>
         // For each set of members that may be active, the parts are of this kind.
-        ensures parts { IfOk result (λ rows. (m : State) (vs : List ℕ) → StandsWith known.now team.now.items m → AreActive active.now vs →
+        ensures parts { IfOk result (λ rows. (m : State) (vs : List ℕ) → StandsOn known.now team.now.items vs m → AreActive active.now vs →
             ArePartsBy faults.new rows.items (parts self.now.program.now m (λ s. attempt_step s target.now e.now) vs)) }
         // Each fault that might come before may come still.
         ensures kept { AreKept faults.old faults.new }

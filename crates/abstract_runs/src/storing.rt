@@ -1,10 +1,10 @@
-//! What is known behind an assignment outside pardo.
+//! What is known where a value is set outside pardo.
 
 ghost use Rattle.std.specs.Prelude.{◌≡◌, ℕ, List, ℤ, length, slice_set};
 ghost use Rattle.intervals.specs.Intervals.{IsIn};
 ghost use Rattle.pram_meaning.specs.Attempt.{Effect as Given};
 ghost use Rattle.pram_meaning.specs.Store.{State, with_uniform};
-ghost use Rattle.pram_meaning.specs.Together.{assigned};
+ghost use Rattle.pram_meaning.specs.Together.{after_write};
 ghost use Rattle.all_inputs.specs.Overall.{Cover};
 ghost use Rattle.abstract_runs.specs.Covers.{IsReached};
 ghost use Rattle.abstract_runs.specs.Effects.{IsGiven};
@@ -16,7 +16,6 @@ use crate::outlook::interval_at;
 use crate::reach::Reach;
 use crate::standing::Standing;
 use intervals::Interval;
-use pram_check::Target;
 use pram_meaning::numbers::Numbers;
 
 /// The value at a place becomes one of the interval, if there is such a place.
@@ -58,21 +57,29 @@ fn write_one(cells: &mut Vec<Interval>, reach: Reach, value: Interval)
     }
 }
 
-/// What is known behind an assignment that gives this.
-pub(crate) fn store(known: &mut Standing, target: &Target, effect: Effect)
-    // Each state behind such an assignment is one for which it stands.
-    ensures stands { (m : State) (g : Given) → StandsFor known.old m → IsGiven effect g → StandsFor known.new (assigned target.now g m) }
+/// What is known behind an assignment to a cell that gives this.
+pub(crate) fn store_cell(known: &mut Standing, effect: Effect)
+    // Each state behind such a write is one for which it stands.
+    ensures stands { (m : State) (g : Given) → StandsFor known.old m → IsGiven effect g →
+        StandsFor known.new (after_write g.cell g.value m) }
     // As many statements have run, and there are as many values.
     ensures follows { Follows known.old known.new }
 {
-    match target {
-        Target::Uniform(x) => set_interval(&mut known.uniforms, *x, effect.value),
-        Target::Cell(_) | Target::Element(_, _) => {
-            if let Some(reach) = effect.reach {
-                write_one(&mut known.cells, reach, effect.value);
-            }
-        }
+    if let Some(reach) = effect.reach {
+        write_one(&mut known.cells, reach, effect.value);
     }
+}
+
+/// A uniform variable becomes a number of the interval, which is its origin from then on.
+pub(crate) fn set_uniform(known: &mut Standing, x: usize, value: Interval)
+    // Whatever number of the interval it becomes, the state is one that is known.
+    ensures known { (m : State) (v : ℤ) → IsKnownAs known.old m → IsIn v value → IsKnownAs known.new (with_uniform x v m) }
+    // As many statements have run, and there are as many values.
+    ensures follows { Follows known.old known.new }
+    ensures least { known.new.least ≡ known.old.least }
+{
+    set_interval(&mut known.uniforms, x, value);
+    set_interval(&mut known.origins, x, value);
 }
 
 /// The variable of a `for` becomes the next of its numbers.
@@ -83,5 +90,5 @@ pub(crate) fn set_variable(known: &mut Standing, variable: usize, numbers: &Numb
     ensures follows { Follows known.old known.new }
     ensures least { known.new.least ≡ known.old.least }
 {
-    set_interval(&mut known.uniforms, variable, Interval::point(numbers.next));
+    set_uniform(known, variable, Interval::point(numbers.next));
 }

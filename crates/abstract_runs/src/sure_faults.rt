@@ -7,8 +7,10 @@ ghost use Rattle.abstract_runs.specs.Given.{AreGiven};
 ghost use Rattle.abstract_runs.specs.Rows.{ArePartsBy};
 ghost use Rattle.abstract_runs.specs.Sure.{Clash, IsAgainst, WritesSurely};
 
+use crate::first_rows::first_before;
 use crate::row::Row;
 use crate::sure_meetings::surely_meet;
+use crate::sure_sums::surely_overflows;
 use all_inputs::Faults;
 use intervals::Interval;
 use pram_model::Rule;
@@ -34,8 +36,8 @@ fn one_faults(rows: &[Row]) -> bool
     false
 }
 
-// The one cell to which a row surely writes, and what it writes there.
-fn sure_write(row: &Row) -> Option<(u32, Interval)>
+/// The one cell to which a row surely writes, and what it writes there.
+pub(crate) fn sure_write(row: &Row) -> Option<(u32, Interval)>
     ensures { IfSome result (λ w. WritesSurely w.0 w.1 row.now) }
 {
     let Some(effect) = row.effect else {
@@ -79,21 +81,16 @@ fn some_clash(alloc: Global, rule: Rule, cells: usize, rows: &[Row]) -> Result<b
     ensures { IfOk result (λ sure. sure ≡ true → (faults : spec.Faults) (xs : List Part) → ArePartsBy faults rows.now xs →
         least (keys rule xs) ≡ None → ⊥) }
 {
-    let none = rows.len();
-    let mut first = vec![in alloc; none; cells]?;
+    let mut first = vec![in alloc; rows.len(); cells]?;
     for k in 0..rows.len() {
         let Some((c, _)) = sure_write(&rows[k]) else {
             continue;
         };
-        if c as usize >= first.len() {
+        let Some(j) = first_before(&mut first, c, k) else {
             continue;
-        }
-        let j = first[c as usize];
-        if j < k && clash(rule, &rows[j], &rows[k]) {
+        };
+        if clash(rule, &rows[j], &rows[k]) {
             return Ok(true);
-        }
-        if j == none {
-            first[c as usize] = k;
         }
     }
     Ok(false)
@@ -120,8 +117,14 @@ pub(crate) fn surely_faults(
             return Ok(true);
         }
     }
-    if faults.reason(Kind::WriteConflict).is_none() {
+    if faults.reason(Kind::WriteConflict).is_some() {
+        let clashes = some_clash(alloc, rule, cells, rows)?;
+        if clashes {
+            return Ok(true);
+        }
+    }
+    if faults.reason(Kind::Overflow).is_none() {
         return Ok(false);
     }
-    some_clash(alloc, rule, cells, rows)
+    Ok(surely_overflows(rule, rows))
 }

@@ -7,6 +7,7 @@ ghost use Rattle.abstract_runs.specs.Rows.{ArePartsBy};
 ghost use Rattle.abstract_runs.specs.Sure.{Meeting, ReadsSurely};
 
 use crate::conflicts::{longest, reach_at};
+use crate::first_rows::first_before;
 use crate::row::Row;
 use pram_model::Rule;
 use std::alloc::{AllocError, Global};
@@ -42,21 +43,16 @@ fn some_meet_at(alloc: Global, cells: usize, p: usize, rows: &[Row]) -> Result<b
     ensures { IfOk result (λ sure. sure ≡ true → (faults : spec.Faults) (xs : List Part) → ArePartsBy faults rows.now xs →
         least (keys Rule.Erew xs) ≡ None → ⊥) }
 {
-    let none = rows.len();
-    let mut first = vec![in alloc; none; cells]?;
+    let mut first = vec![in alloc; rows.len(); cells]?;
     for k in 0..rows.len() {
         let Some(c) = sure_read(&rows[k], p) else {
             continue;
         };
-        if c as usize >= first.len() {
+        let Some(j) = first_before(&mut first, c, k) else {
             continue;
-        }
-        let j = first[c as usize];
-        if j < k && meet(p, &rows[j], &rows[k]) {
+        };
+        if meet(p, &rows[j], &rows[k]) {
             return Ok(true);
-        }
-        if j == none {
-            first[c as usize] = k;
         }
     }
     Ok(false)

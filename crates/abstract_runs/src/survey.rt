@@ -33,6 +33,8 @@ impl<'a> Survey<'a> {
         ensures bound { self.now.bound ≤ known.old.most → told.new.may_go_on ≡ true }
         // Where runs go on, one statement more has run, and no more than the bound allows.
         ensures more { result ≡ true → (known.old.least < known.new.least) × (known.old.least < self.now.bound) }
+        // The origins stay.
+        ensures origins { known.new.origins.items ≡ known.old.origins.items }
         // What is known comes later than before.
         ensures follows { Follows known.old known.new }
         // Whatever was told is told still.

@@ -9,10 +9,11 @@ ghost use Rattle.abstract_runs.specs.Following.{Follows};
 ghost use Rattle.abstract_runs.specs.Inside.{IsAttempted};
 ghost use Rattle.abstract_runs.specs.Leads.{Leads};
 ghost use Rattle.abstract_runs.specs.Rows.{AreActive};
-ghost use Rattle.abstract_runs.specs.Standing.{StandsWith};
+ghost use Rattle.abstract_runs.specs.Inner.{IsStill, StandsOn};
 ghost use Rattle.all_inputs.specs.Told.{IsKept};
 
 use crate::active::Active;
+use crate::alike::is_alike;
 use crate::conflicts::note_conflicts;
 use crate::row::Row;
 use crate::standing::{Member, Standing};
@@ -41,7 +42,7 @@ impl<'a> Survey<'a> {
         Ok(Some(rows))
     }
 
-    /// The parts of a set in a statement, where runs go on: it counts, and it may fault.
+    /// The parts of a set in a statement, where runs go on, by what is known of its processors: it counts, and it may fault.
     pub fn attempt_on(
         &self,
         known: &mut Standing,
@@ -53,8 +54,8 @@ impl<'a> Survey<'a> {
         e: &Expression,
     ) -> Result<Option<Vec<Row>>, AllocError>
         // Each run goes on with parts of this kind, or comes to what is told.
-        ensures leads { IfOk result (λ found. (m : State) (vs : List ℕ) → StandsWith known.old team.now.items m → AreActive active.now vs →
-            Leads (λ xs n. IsSomeAnd found (λ rows. IsAttempted self.now.program.now rows.items vs xs) × StandsWith known.new team.now.items n)
+        ensures leads { IfOk result (λ found. (m : State) (vs : List ℕ) → StandsOn known.old team.now.items vs m → AreActive active.now vs →
+            Leads (λ xs n. IsSomeAnd found (λ rows. IsAttempted self.now.program.now rows.items vs xs) × IsStill known.new m n)
             told.new (attempted_on self.now.program.now self.now.bound line (λ s. attempt_step s target.now e.now) vs m)) }
         // Where a run may stand at the bound, that is told.
         ensures bound { OnOk result (self.now.bound ≤ known.old.most → told.new.may_go_on ≡ true) }
@@ -72,6 +73,7 @@ impl<'a> Survey<'a> {
             self.alloc,
             self.program.rule(),
             known.cells.len(),
+            is_alike(e),
             &rows,
             &mut faults,
         )?;

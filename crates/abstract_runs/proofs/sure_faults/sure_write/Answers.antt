@@ -1,4 +1,4 @@
-use Rattle.std.proofs.Common.{◌≡◌, true, arith, tests, refl, sym}
+use Rattle.std.proofs.Common.{arith, tests, refl}
 use Rattle.abstract_runs.proofs.sure_faults.sure_write.Goals as goal
 
 pub returns : goal.returns

@@ -5,10 +5,11 @@ use Rattle.abstract_runs.proofs.sure_meetings.some_meet_at.Goals as goal
 
 pub returns-then-meet : goal.returns-then-meet
 returns-then-meet c = λ e faults xs parts none.
-    let before = c.if-j-k.true in
+    let before = c.in-Some-first_before.ensures in
     let below = c.loop-k-test.true in
+    let j = c.in-Some-first_before.j in
     let one = c.index-rows-j.result in
-    let two = c.index-rows-k-then-j-k.result in
-    meeting_faults c.args.p faults c.args.rows.now c.index-j.result.now c.loop-k.k one two xs (omega (arith, before, below)) below
-    (subst (Meeting c.args.p (get_or c.args.rows.now c.index-j.result.now one)) c.index-rows-k-then-j-k.is
+    let two = c.index-rows-k-in-loop-k.result in
+    meeting_faults c.args.p faults c.args.rows.now j c.loop-k.k one two xs (omega (arith, before, below)) below
+    (subst (Meeting c.args.p (get_or c.args.rows.now j one)) c.index-rows-k-in-loop-k.is
     (subst (λ row. Meeting c.args.p row two) c.index-rows-j.is (c.meet.ensures c.if-meet.true))) parts none

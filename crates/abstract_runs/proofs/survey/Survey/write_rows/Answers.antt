@@ -16,6 +16,7 @@ returns-in-Local-clause-stands c = λ m vs xs stands attempted.
         most = stands.known_as.most;
         uniforms = stands.known_as.uniforms;
         cells = stands.known_as.cells;
+        near = stands.known_as.near;
       };
       members = c.write_locals.ensures.covers attempted.faults xs m.team
           (subst (λ rows. ArePartsBy attempted.faults rows xs) (sym c.deref.ensures.value) attempted.parts)
