@@ -14,13 +14,13 @@ use Rattle.pages.proofs.Tailing.{shrinks}
 
 -- ---- how long a part is
 
-length_take_within : (n : ℕ) (l : List ℕ) → length (take n l) ≤ length l
+pub length_take_within : (n : ℕ) (l : List ℕ) → length (take n l) ≤ length l
 length_take_within n l =
     let e : length (take n l) + length (drop n l) ≡ length l =
     sym (length-append (take n l) (drop n l)) ∙ ap length (take-append-drop n l) in
     omega (arith, e)
 
-pub length_take_most : (n : ℕ) (l : List ℕ) → length (take n l) ≤ n
+pub length_take_most : {X : Type 0} (n : ℕ) (l : List X) → length (take n l) ≤ n
 length_take_most n l = by (cases_lt (length l) n) where
   by : (length l < n) ⊎ (n ≤ length l) → length (take n l) ≤ n
   by (inl lt) = let e : length (take n l) ≡ length l = ap length (take_all n l (omega (arith, lt))) in omega (arith, e, lt)

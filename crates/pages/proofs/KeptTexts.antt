@@ -143,3 +143,29 @@ some_behind_held k n head text first last before count some h = record {
     far (inl same) (inl none) = absurd (omega (arith, same, none, some))
     far (inr past) (inl none) = let f = past.0 in let u = past.1 in absurd (omega (arith, f, u, none))
     far at (inr more) = let l : length n.last.items ≡ length k.last.items = ap length last in inr (omega (arith, more, l))
+
+-- lines that aren't kept stand before, which have so many bytes, or more than a page has room for
+pub others_held : (k n : KeptLines) (head text : List ℕ) (size : ℕ) → room < length k.last.items →
+    n.first.items ≡ take room (head ++ text) → n.last.items ≡ k.last.items → n.before ≡ k.before + size →
+    n.count ≡ line_count (head ++ text) → (size ≡ length head) ⊎ ((room < size) × (size ≤ length head)) → Holds k text →
+    Holds n (head ++ text)
+others_held k n head text size far first last before count sized h = record {
+  first = first;
+  offset = h.offset + length head;
+  last = last ∙ h.last ∙ sym (drop_past head text (h.offset + length head) h.offset (omega arith));
+  within = let w : h.offset ≤ length text = h.within in let l = length-append head text in omega (arith, w, l);
+  enough = let l : length n.last.items ≡ length k.last.items = ap length last in inr (omega (arith, far, l));
+  known = place h.known sized;
+  count = count;
+}
+  where
+    place : (k.before ≡ h.offset) ⊎ ((room < k.before) × (k.before ≤ h.offset)) →
+        (size ≡ length head) ⊎ ((room < size) × (size ≤ length head)) →
+        (n.before ≡ h.offset + length head) ⊎ ((room < n.before) × (n.before ≤ h.offset + length head))
+    place (inl same) (inl whole) = inl (omega (arith, before, same, whole))
+    place (inl same) (inr most) =
+        let f = most.0 in let u = most.1 in inr (omega (arith, f, before), omega (arith, u, before, same))
+    place (inr past) (inl whole) =
+        let f = past.0 in let u = past.1 in inr (omega (arith, f, before), omega (arith, u, before, whole))
+    place (inr past) (inr most) =
+        let f = past.0 in let u = past.1 in let g = most.1 in inr (omega (arith, f, before), omega (arith, u, g, before))

@@ -16,3 +16,10 @@ pub mod Strings
 pub mod OneEntry
 pub mod Whole
 pub mod ReadBack
+pub mod Sound
+pub mod SoundSteps
+pub mod LinePlaces
+pub mod States
+pub mod Gathers
+pub mod FirstBytes
+pub mod AllLines

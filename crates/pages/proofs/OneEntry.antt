@@ -1,5 +1,5 @@
 -- One entry that passes: its changes, and its line.
-use Rattle.std.proofs.Common.{◌≡◌, ◌<◌, ◌≤◌, ◌∙◌, ◌+◌, ◌-◌, ◌&&◌, ℕ, suc, Bool, true, false, List, [], ◌∷◌, ◌++◌, ap, append-nil, arith}
+use Rattle.std.proofs.Common.{◌≡◌, ◌<◌, ◌≤◌, ◌∙◌, ◌+◌, ◌-◌, ◌&&◌, ℕ, suc, Bool, List, [], ◌∷◌, ◌++◌, ap, arith}
 use Rattle.std.proofs.Common.{if◌then◌else◌, nat_le, refl, subst, sym, take}
 use Rattle.std.proofs.Math.Bool.{and-false}
 use Rattle.std.proofs.lemmas.Bool.{le-leb, lt-leb}
@@ -7,14 +7,15 @@ use Rattle.std.proofs.lemmas.List.{take_all}
 use Rattle.std.specs.List.{fold}
 use Rattle.serde_json.specs.Data.{Data}
 use Rattle.json_texts.specs.Lines.{IsJson}
-use Rattle.json_texts.specs.StepFacts.{step_facts, step_within, steps_from}
+use Rattle.json_texts.specs.StepFacts.{step_facts, step_within}
+use Rattle.pram_model.specs.Layout.{SharedEntry}
+use Rattle.pram_trees.specs.Program.{ProgramTree}
 use Rattle.journal.specs.Entries.{Entry}
 use Rattle.pages.specs.Kept.{Holds}
 use Rattle.journal.specs.Replay.{with_cells, with_printed, with_variables}
 use Rattle.pages.specs.declared.lines.KeptLines.{KeptLines}
 use Rattle.pages.specs.declared.state.RunState.{RunState}
-use Rattle.pages.specs.declared.asked.Asked.{Asked}
-use Rattle.pages.specs.Gathered.{AddsLines, Gathers, Replays}
+use Rattle.pages.specs.Gathered.{AddsLines, Replays}
 use Rattle.pages.specs.GatheredLaws.{adds_none}
 
 -- ---- its changes
@@ -60,51 +61,32 @@ pub line_pushed : (k l : KeptLines) (bytes line : List ℕ) → bytes ≡ line �
     (before : List ℕ) → Holds k before → Holds l (before ++ line)
 line_pushed k l bytes line same holds before h = subst (λ b. Holds l (before ++ b)) same (holds before h)
 
-module _ (a : Asked) (count number : ℕ) (e : Entry) (n : number ≡ count + 1) where
-  abbrev facts : ℕ → List Data
-  facts k = steps_from a.layout.now a.tree.now a.source.now a.first a.last k (e ∷ [])
-
+module _ (layout : List SharedEntry) (tree : ProgramTree) (source : List ℕ) (first last number : ℕ) (e : Entry) where
   abbrev told_if : Bool → List Data
-  told_if b = if b then step_facts a.layout.now a.tree.now a.source.now number e ∷ [] else []
-
-  -- by whether it is asked for
-  facts_if : (b : Bool) → (nat_le a.first number && nat_le number a.last) ≡ b → told_if b ≡ facts (count + 1)
-  facts_if b is =
-      ap told_if (sym is) ∙ sym (append-nil (step_within a.layout.now a.tree.now a.source.now a.first a.last number e)) ∙ ap facts n
-
-  before_first : number < a.first → (nat_le a.first number && nat_le number a.last) ≡ false
-  before_first lt = ap (λ b. b && nat_le number a.last) (lt-leb a.first number lt)
-
-  behind_last : a.last < number → (nat_le a.first number && nat_le number a.last) ≡ false
-  behind_last lt = ap (λ b. nat_le a.first number && b) (lt-leb number a.last lt) ∙ and-false (nat_le a.first number)
-
-  among : a.first ≤ number → number ≤ a.last → (nat_le a.first number && nat_le number a.last) ≡ true
-  among from to = ap (λ b. b && nat_le number a.last) (le-leb a.first number from) ∙ le-leb number a.last to
-
-  no_line : (k : KeptLines) → (nat_le a.first number && nat_le number a.last) ≡ false → AddsLines k k (facts (count + 1))
-  no_line k is = subst (AddsLines k k) (facts_if false is) (adds_none k)
+  told_if b = if b then step_facts layout tree source number e ∷ [] else []
 
   -- it is before the first one that is asked for
-  pub replayed_one : (s t : RunState) (k : KeptLines) → number < a.first → t.cells.items ≡ with_cells s.cells.items e →
-      t.variables.items ≡ with_variables s.variables.items e → t.printed ≡ with_printed s.printed e →
-      Gathers a count number s t k k (e ∷ [])
-  replayed_one s t k lt cells variables printed = record {
-    replays = state_on (a.first - 1) count number s t e n (omega (arith, lt)) cells variables printed;
-    lines = no_line k (before_first lt);
-  }
+  pub none_before : number < first → step_within layout tree source first last number e ≡ []
+  none_before lt = ap told_if (ap (λ b. b && nat_le number last) (lt-leb first number lt))
 
-  -- it is behind the last one, and not before the first
-  pub passed_one : (s : RunState) (k : KeptLines) → a.first ≤ number → a.last < number → Gathers a count number s s k k (e ∷ [])
-  passed_one s k from past = record {
-    replays = state_passed (a.first - 1) count number s e n (omega (arith, from, n));
-    lines = no_line k (behind_last past);
-  }
+  -- behind the last one
+  pub none_behind : last < number → step_within layout tree source first last number e ≡ []
+  none_behind lt = ap told_if (ap (λ b. nat_le first number && b) (lt-leb number last lt) ∙ and-false (nat_le first number))
 
-  -- it is asked for
-  pub lined_one : (s : RunState) (k l : KeptLines) (line : List ℕ) → a.first ≤ number → number ≤ a.last →
-      IsJson (step_facts a.layout.now a.tree.now a.source.now number e ∷ []) line →
-      ((before : List ℕ) → Holds k before → Holds l (before ++ line)) → Gathers a count number s s k l (e ∷ [])
-  lined_one s k l line from to json holds = record {
-    replays = state_passed (a.first - 1) count number s e n (omega (arith, from, n));
-    lines = subst (AddsLines k l) (facts_if true (among from to)) (record { text = line; json = json; holds = holds });
-  }
+  -- or asked for
+  pub one_within : first ≤ number → number ≤ last → step_within layout tree source first last number e ≡ step_facts layout tree source
+      number e ∷ []
+  one_within from to =
+      ap told_if (ap (λ b. b && nat_le number last) (le-leb first number from) ∙ le-leb number last to)
+
+  pub no_line_before : (k : KeptLines) → number < first → AddsLines k k (step_within layout tree source first last number e)
+  no_line_before k lt = subst (AddsLines k k) (sym (none_before lt)) (adds_none k)
+
+  pub no_line_behind : (k : KeptLines) → last < number → AddsLines k k (step_within layout tree source first last number e)
+  no_line_behind k lt = subst (AddsLines k k) (sym (none_behind lt)) (adds_none k)
+
+  pub line_added : (k l : KeptLines) (line : List ℕ) → first ≤ number → number ≤ last →
+      IsJson (step_facts layout tree source number e ∷ []) line → ((before : List ℕ) → Holds k before → Holds l (before ++ line)) →
+      AddsLines k l (step_within layout tree source first last number e)
+  line_added k l line from to json holds =
+      subst (AddsLines k l) (sym (one_within from to)) (record { text = line; json = json; holds = holds })

@@ -60,7 +60,7 @@ module _ (layout : List SharedEntry) (tree : ProgramTree) (source : List ℕ) (f
     by true = alone (step_facts layout tree source number e) (shallow_step layout tree source number e)
     by false = All-nil (IsSmall 126)
 
-  steps_told : (number : ℕ) (es : List Entry) → AreTold (steps_from layout tree source first last number es)
+  pub steps_told : (number : ℕ) (es : List Entry) → AreTold (steps_from layout tree source first last number es)
   steps_told number [] = All-nil (IsSmall 126)
   steps_told number (e ∷ es) = All-append (IsSmall 126) (step_within layout tree source first last number e)
       (steps_from layout tree source first last (number + 1) es) (within_told number e) (steps_told (number + 1) es)

@@ -1,6 +1,7 @@
 -- What was gathered of a whole run, and its facts.
 use Rattle.std.proofs.Common.{◌≡◌, ◌∙◌, ◌<◌, ◌≤◌, ◌+◌, ◌-◌, ℕ, ℤ, Bool, true, false, List, [], ◌∷◌, ◌++◌, Option, ap, append_assoc, arith}
 use Rattle.std.proofs.Common.{length, min, nat_lt, refl, subst, sym, take}
+use Rattle.std.proofs.lemmas.List.{take_all}
 use Rattle.std.specs.List.{fold}
 use Rattle.serde_json.specs.Data.{Data}
 use Rattle.json_texts.specs.Lines.{IsJson}
@@ -21,17 +22,23 @@ use Rattle.pages.specs.State.{state_facts, state_of}
 use Rattle.pages.specs.declared.lines.KeptLines.{KeptLines}
 use Rattle.pages.specs.declared.state.RunState.{RunState}
 use Rattle.pages.specs.declared.asked.Asked.{Asked}
+use Rattle.pages.specs.declared.first_lines.FirstLines.{FirstLines}
+use Rattle.pages.specs.declared.gatherer.Gatherer.{Gatherer}
 use Rattle.pages.specs.declared.gathering.Gathered.{Gathered}
-use Rattle.pages.specs.Gathered.{Gathers, IsBehind, IsGathered, IsLineIf, Replays}
+use Rattle.pages.specs.declared.recent.Recent.{Recent}
+use Rattle.pages.proofs.States.{after_none}
+use Rattle.pages.specs.Gathered.{AreFirstLines, AreRecent, Gathers, HoldsFacts, IsAfter, IsBehind, IsGathered, IsGathering, IsLineIf}
+use Rattle.pages.specs.Gathered.{Replays, last_told}
 use Rattle.pages.specs.Pages.{IsPage, IsStateBehind, IsStateIf}
-use Rattle.pages.specs.Paged.{IsPaged, KeepsFacts}
+use Rattle.pages.specs.Facts.{line_count}
+use Rattle.pages.specs.Paged.{IsPaged, IsWithin, KeepsFacts}
 use Rattle.pages.specs.declared.streaming.Page.{Page}
 use Rattle.pages.specs.Cut.{gap_end}
 use Rattle.pages.specs.Page.{page}
 use Rattle.pram_model.specs.Layout.{total_size}
 use Rattle.step_text.specs.declared.failure.StreamFailure.{StreamFailure}
 use Rattle.step_text.specs.declared.failure.StreamFailure.TheVariants as failure
-use Rattle.std.specs.Prelude.{Result, Ok, Err, ◌↔◌, string_bytes}
+use Rattle.std.specs.Prelude.{Result, Ok, Err, None, Some, ◌↔◌, drop, if◌then◌else◌, nat_le, string_bytes}
 
 -- ---- of a whole run
 
@@ -48,13 +55,35 @@ all_replayed last count input s t es cells variables printed h = record {
   printed = all_made with_printed last 0 s.printed t.printed es printed h.printed;
 }
 
-pub all_gathered : (a : Asked) (input : List ℤ) (es : List Entry) (s : RunState) (k : KeptLines) (g : Gathered) → s.cells.items ≡ input →
-    s.variables.items ≡ [] → s.printed ≡ 0 → Holds k [] → Gathers a 0 g.count s g.state k g.lines es → IsGathered a input es g
-all_gathered a input es s k g cells variables printed none h = record {
-  counted = let e : g.count ≡ 0 + length es = h.replays.counted in omega (arith, e);
-  before = all_replayed (a.first - 1) g.count input s g.state es cells variables printed h.replays;
-  lines = record { text = h.lines.text; json = h.lines.json; holds = h.lines.holds [] none };
+-- nothing has come yet
+pub gathering_begun : (input : List ℤ) (g : Gatherer) → g.count ≡ 0 → g.state.cells.items ≡ input → g.state.variables.items ≡ [] →
+    g.state.printed ≡ 0 → AreRecent input [] g.recent → AreFirstLines [] g.first → IsGathering input [] g
+gathering_begun input g none cells variables printed recent first = record {
+  counted = none;
+  before = subst (λ es. IsAfter input es g.state) (sym (take_all (g.asked.first - 1) [] (omega arith)))
+      (after_none input g.state cells variables printed);
+  recent = subst (λ es. AreRecent input es g.recent) (sym (take_all (last_told g.asked) [] (omega arith))) recent;
+  lines = first;
 }
+
+-- all has
+pub all_gathered : (a b : Asked) (input : List ℤ) (es : List Entry) (r : Recent) (f : FirstLines) (g : Gathered) → b ≡ a →
+    Gathers b input es g.count g.state r f →
+    HoldsFacts g.lines (steps_from a.layout.now a.tree.now a.source.now a.first a.last 1 es) → IsGathered a input es g
+all_gathered a b input es r f g same h lines = record {
+  counted = h.counted;
+  before = subst (λ a. IsBehind input es (a.first - 1) g.state) same h.before;
+  lines = lines;
+}
+
+pub all_recent : (a b : Asked) (input : List ℤ) (es : List Entry) (count : ℕ) (s : RunState) (r : Recent) (f : FirstLines) → b ≡ a →
+    Gathers b input es count s r f → AreRecent input (take (last_told a) es) r
+all_recent a b input es count s r f same h = subst (λ a. AreRecent input (take (last_told a) es) r) same h.recent
+
+pub all_first : (a b : Asked) (input : List ℤ) (es : List Entry) (count : ℕ) (s : RunState) (r : Recent) (f : FirstLines) → b ≡ a →
+    Gathers b input es count s r f → AreFirstLines (steps_from a.layout.now a.tree.now a.source.now a.first a.last 1 es) f
+all_first a b input es count s r f same h =
+    subst (λ a. AreFirstLines (steps_from a.layout.now a.tree.now a.source.now a.first a.last 1 es) f) same h.lines
 
 -- ---- the lines of states
 
@@ -120,6 +149,14 @@ module _ (file text : List ℕ) (program : Checked) (input : List ℤ) (outcome 
         };
         holds = pushed (head ++ told) (behind told h.lines.holds);
       }
+
+-- the last one that is left out is no later than the last of all
+pub gap_within : (facts : List ℕ) (front back last most : ℕ) (behind : Option ℕ) → behind ≡ gap_end facts front back last → last ≤ most →
+    IsWithin behind most
+gap_within facts front back last most behind is le = subst (λ b. IsWithin b most) (sym is) (by (nat_le back front)) where
+  by : (b : Bool) → IsWithin (if b then None else Some (last - (line_count (drop back facts) - 1))) most
+  by true = tt
+  by false = omega (arith, le)
 
 -- the state behind what has no room
 pub between_so : (input : List ℤ) (es : List Entry) (behind gap : Option ℕ) (state : List ℕ) → behind ≡ gap →

@@ -1,5 +1,5 @@
 -- The laws of what a page takes of entries: it is nothing of no entries, and entries come behind entries.
-use Rattle.std.proofs.Common.{◌≡◌, ◌∙◌, ◌+◌, ◌-◌, ℕ, zero, suc, List, [], ◌∷◌, ◌++◌, ap, append_assoc, arith, length, subst, sym, take}
+use Rattle.std.proofs.Common.{◌≡◌, ◌∙◌, ◌+◌, ◌-◌, ℕ, ℤ, zero, suc, List, [], ◌∷◌, ◌++◌, ap, append_assoc, arith, length, subst, sym, take}
 use Rattle.std.proofs.lemmas.Grind.{fold-append}
 use Rattle.std.proofs.lemmas.List.{append-nil, length-append, take_all}
 use Rattle.std.specs.List.{fold}
@@ -13,8 +13,8 @@ use Rattle.pages.specs.Kept.{Holds}
 use Rattle.journal.specs.Replay.{with_cells, with_printed, with_variables}
 use Rattle.pages.specs.declared.lines.KeptLines.{KeptLines}
 use Rattle.pages.specs.declared.state.RunState.{RunState}
-use Rattle.pages.specs.declared.asked.Asked.{Asked}
-use Rattle.pages.specs.Gathered.{AddsLines, Gathers, Replays}
+use Rattle.pages.specs.declared.gatherer.Gatherer.{Gatherer}
+use Rattle.pages.specs.Gathered.{AddsLines, IsGathering, Replays}
 
 -- ---- the changes
 
@@ -92,22 +92,9 @@ module _ (layout : List SharedEntry) (tree : ProgramTree) (source : List ℕ) (f
 
 -- ---- both
 
-pub gathers_nothing : (a : Asked) (count : ℕ) (s : RunState) (k : KeptLines) → Gathers a count count s s k k []
-gathers_nothing a count s k = record { replays = replays_nothing (a.first - 1) count s; lines = adds_none k }
+pub told_nothing : (input : List ℤ) (es : List Entry) (g : Gatherer) → IsGathering input es g → IsGathering input (es ++ []) g
+told_nothing input es g h = subst (λ es. IsGathering input es g) (sym (append-nil es)) h
 
-both_gathered : (a : Asked) (count mid late : ℕ) (s t u : RunState) (k l m : KeptLines) (xs ys : List Entry) →
-    Gathers a count mid s t k l xs → Gathers a mid late t u l m ys → Gathers a count late s u k m (xs ++ ys)
-both_gathered a count mid late s t u k l m xs ys h g =
-    let facts : ℕ → List Entry → List Data = steps_from a.layout.now a.tree.now a.source.now a.first a.last in
-    let behind : AddsLines l m (facts ((count + length xs) + 1) ys) =
-    subst (λ n. AddsLines l m (facts (n + 1) ys)) h.replays.counted g.lines in
-    record {
-      replays = replays_on (a.first - 1) count mid late s t u xs ys h.replays g.replays;
-      lines = subst (AddsLines k m) (sym (facts_both a.layout.now a.tree.now a.source.now a.first a.last count xs ys))
-          (adds_both k l m (facts (count + 1) xs) (facts ((count + length xs) + 1) ys) h.lines behind);
-    }
-
-pub gathers_on : (a b : Asked) (count mid late : ℕ) (s t u : RunState) (k l m : KeptLines) (xs ys : List Entry) → b ≡ a →
-    Gathers a count mid s t k l xs → Gathers b mid late t u l m ys → Gathers a count late s u k m (xs ++ ys)
-gathers_on a b count mid late s t u k l m xs ys same h g =
-    both_gathered a count mid late s t u k l m xs ys h (subst (λ a. Gathers a mid late t u l m ys) same g)
+pub told_on : (input : List ℤ) (es xs ys : List Entry) (g : Gatherer) → IsGathering input ((es ++ xs) ++ ys) g →
+    IsGathering input (es ++ (xs ++ ys)) g
+told_on input es xs ys g h = subst (λ es. IsGathering input es g) (append_assoc es xs ys) h

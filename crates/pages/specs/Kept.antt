@@ -25,3 +25,8 @@ pub record FitsBeside (text : List ℕ) (most beside front : ℕ) : Type 0 where
 pub record IsLongest (text : List ℕ) (most beside front : ℕ) : Type 0 where
   pub are : FitsBeside text most beside front
   pub longest : (n : ℕ) → FitsBeside text most beside n → n ≤ front
+
+-- So many lines are the bytes up to that place; or fewer end in these bytes, and the place is behind all that a page has room for.
+abbrev pub AreLinesTo : (bytes : List ℕ) → (lines at : ℕ) → Type 0
+AreLinesTo bytes lines at =
+    ((line_count bytes < lines) × (at ≡ room + 1)) ⊎ ((at ≤ length bytes) × BeginsLine bytes at × (line_count (take at bytes) ≡ lines))

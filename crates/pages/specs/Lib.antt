@@ -6,6 +6,7 @@ pub mod Kept
 pub mod Page
 pub mod Stand
 pub mod State
+pub mod Counted
 pub mod Gathered
 pub mod GatheredLaws
 pub mod Pages

@@ -1,5 +1,5 @@
 -- The facts of a run as they are kept, and what stands in its page.
-use Rattle.std.specs.Prelude.{◌≤◌, ◌+◌, ℕ, ℤ, List, length, min, string_bytes}
+use Rattle.std.specs.Prelude.{◌≤◌, ◌+◌, ℕ, ℤ, List, None, Option, Some, length, min, string_bytes, ⊤}
 use Rattle.pram_check.specs.Checked.{Checked}
 use Rattle.write_rules.specs.declared.outcome.Outcome.{Outcome}
 use Rattle.journal.specs.Entries.{Entry}
@@ -25,3 +25,8 @@ pub record IsPaged (file text : List ℕ) (program : Checked) (input : List ℤ)
   pub back_within : p.kept.back ≤ length p.lines.last.items
   pub between : IsStateBehind input entries
       (gap_end keeps.facts p.kept.front (keeps.holds.offset + p.kept.back) (min last (length entries))) (string_bytes p.state)
+
+-- a number that is at most that one, if there is one
+abbrev pub IsWithin : Option ℕ → (most : ℕ) → Type 0
+IsWithin None most = ⊤
+IsWithin (Some n) most = n ≤ most

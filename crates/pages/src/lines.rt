@@ -2,11 +2,13 @@
 
 ghost use Rattle.std.specs.Prelude.{◌≡◌, ◌≤◌, ◌+◌, ◌-◌, ◌++◌, List, [], IfOk, OnOk, false, length, nat_le, nat_lt, take, true, ℕ};
 ghost use Rattle.pages.specs.Cut.{IsCut, gap_end as end_of_gap, room};
-ghost use Rattle.pages.specs.Facts.{line_count as lines_in};
+ghost use Rattle.pages.specs.Facts.{BeginsLine, line_count as lines_in};
 ghost use Rattle.pages.specs.Kept.{Holds};
 
 use crate::cut::{ROOM, front, tail};
 use crate::facts::line_count;
+use crate::first_lines::FirstLines;
+use crate::line_end::size_of_lines;
 use std::alloc::{AllocError, Global};
 
 // How many of the last bytes there may be before some are given back.
@@ -35,8 +37,8 @@ pub(crate) struct Kept {
     pub(crate) back: usize,
 }
 
-// Puts bytes behind the first ones, as far as there is room.
-fn push_first(first: &mut Vec<u8>, bytes: &[u8]) -> Result<(), AllocError>
+/// Puts bytes behind the first ones, as far as there is room.
+pub(crate) fn push_first(first: &mut Vec<u8>, bytes: &[u8]) -> Result<(), AllocError>
     ensures { OnOk result ((text : List ℕ) → first.old.items ≡ take room text → first.new.items ≡ take room (text ++ bytes.now)) }
 {
     let wanted = ROOM.saturating_sub(first.len());
@@ -150,6 +152,27 @@ impl KeptLines {
         } else {
             self.some_behind(alloc, head)
         }
+    }
+
+    /// These lines behind others, so many, which aren't kept; these are the first ones of all. `AllocError`: there are more bytes than can
+    /// be counted, or of these lines no more than a page has room for. More are always kept: each has what it is counted for.
+    pub(crate) fn behind_some(self, first: FirstLines, left: usize) -> Result<KeptLines, AllocError>
+        ensures { IfOk result (λ lines. (head text : List ℕ) → Holds self text → first.bytes.items ≡ take room (head ++ text) →
+            first.count ≡ lines_in (head ++ text) → left ≡ lines_in head → BeginsLine head (length head) → Holds lines (head ++ text)) }
+    {
+        if self.last.len() <= ROOM {
+            return Err(AllocError);
+        }
+        let size = size_of_lines(&first.bytes, left);
+        let Some(before) = self.before.checked_add(size) else {
+            return Err(AllocError);
+        };
+        Ok(KeptLines {
+            first: first.bytes,
+            last: self.last,
+            before,
+            count: first.count,
+        })
     }
 
     // How many of the first bytes there are before a place of the last ones.

@@ -1,6 +1,6 @@
 //! What stands in shared memory and in the uniform variables behind a statement, and how much was printed.
 
-ghost use Rattle.std.specs.Prelude.{◌≡◌, ◌<◌, ◌∷◌, [], ℤ, IfOk, OnOk, length, string_bytes};
+ghost use Rattle.std.specs.Prelude.{◌≡◌, ◌<◌, ◌∷◌, [], ℤ, IfOk, OnOk, length, map, string_bytes, take};
 ghost use Rattle.std.specs.List.{fold};
 ghost use Rattle.serde_json.specs.View.{view};
 ghost use Rattle.json_texts.specs.Lines.{IsJson};
@@ -113,6 +113,32 @@ impl RunState {
         put_cells(&mut self.cells, entry)?;
         put_variables(&mut self.variables, entry)?;
         count_printed(&mut self.printed, entry)
+    }
+
+    /// Behind these statements more. `AllocError`: the same.
+    pub(crate) fn go_on_all(&mut self, entries: &[Entry]) -> Result<(), AllocError>
+        ensures cells { OnOk result (self.new.cells.items ≡ fold replay.with_cells self.old.cells.items (map entry_is entries.now)) }
+        ensures variables { OnOk result
+            (self.new.variables.items ≡ fold replay.with_variables self.old.variables.items (map entry_is entries.now)) }
+        ensures printed { OnOk result (self.new.printed ≡ fold replay.with_printed self.old.printed (map entry_is entries.now)) }
+    {
+        for entry in entries {
+            self.go_on(entry)?;
+        }
+        Ok(())
+    }
+
+    /// Behind so many of these, or all. `AllocError`: the same.
+    pub(crate) fn go_on_to(&mut self, entries: &[Entry], most: usize) -> Result<(), AllocError>
+        ensures cells { OnOk result
+            (self.new.cells.items ≡ fold replay.with_cells self.old.cells.items (take most (map entry_is entries.now))) }
+        ensures variables { OnOk result
+            (self.new.variables.items ≡ fold replay.with_variables self.old.variables.items (take most (map entry_is entries.now))) }
+        ensures printed { OnOk result
+            (self.new.printed ≡ fold replay.with_printed self.old.printed (take most (map entry_is entries.now))) }
+    {
+        let (some, _) = entries.split_at(most.min(entries.len()));
+        self.go_on_all(some)
     }
 }
 

@@ -30,7 +30,7 @@ pub(crate) struct Page {
     state: String,
 }
 
-// When the run ends whose lines are gathered: the state behind those that are left out takes a second one, of about a tenth of its time.
+// When the run ends whose lines are gathered: what is left of its time is for the lines of the last statements.
 fn gathers_until(until: Option<u64>, now: u64) -> Option<u64>
     ensures { (bound behind : ℕ) → EndsBy result bound behind → EndsBy until bound behind }
 {
@@ -66,7 +66,7 @@ fn make_page<V: Watch>(
         last,
     };
     let until = gathers_until(until, watch.elapsed());
-    let (ending, gathered) = gather(alloc, asked, program, input, bound, until, watch)?;
+    let (ending, gathered, recent) = gather(alloc, asked, program, input, bound, until, watch)?;
     let told = last.min(gathered.count);
     let outcome = &ending.outcome;
     let lines = keep_facts(alloc, file, text, program, input, asked, outcome, gathered)?;
@@ -77,6 +77,7 @@ fn make_page<V: Watch>(
         input,
         ending.bound,
         lines.gap_end(kept, told),
+        recent,
         watch,
     )?;
     Ok((ending, Page { lines, kept, state }))
@@ -84,9 +85,8 @@ fn make_page<V: Watch>(
 
 /// Runs a program on an input, for at most `bound` statements, as long as there is time, and writes the page of the statements whose
 /// numbers, counted from 1, go from `first` to `last`; `file` is what the program's file is called, and `text` the text that was read as the program. The page is
-/// written when the run is over. No entry is kept, and of the lines of facts those that could stand in the page: beside the run it takes
-/// the memory of one statement and some MiB. Where not all have room, the program runs a second time, for the state behind those that are
-/// left out. The watch is told how far each run is.
+/// written when the run is over. Of entries and of lines of facts those are kept that could stand in the page, and no others are made into
+/// lines: beside the run it takes the memory of one statement and some tens of MiB. The watch is told how far the run is.
 ///
 /// E11 where there are more values than cells, and then nothing is written; E17 where the writer failed; E16 only where memory was refused,
 /// and then nothing is written either.
