@@ -5,6 +5,7 @@ examples.py PROGRAM: by its definition, by 1, 3 and 4 workers, and from the list
 where NAME.RULE.out has what it writes if that is neither what NAME.out has nor a fault alone. Those of the gallery also with the change
 that gives a conflict, within as many statements as their T, and one less, with which they go on; as many statements are told of them,
 and no more, and they cost their T and W at three sizes. Those with a reference in gate/expected write what it says at each of these.
+What each says of all inputs of a scope is what is told of it.
 """
 import csv
 import re
@@ -14,7 +15,7 @@ import tempfile
 from concurrent.futures import ThreadPoolExecutor
 from pathlib import Path
 
-from gallery import EXAMPLES, cases, change, costs, foot, programs, sizes
+from gallery import EXAMPLES, cases, change, costs, foot, programs, scope, sizes
 from jobs import JOBS
 
 sys.path.insert(0, str(Path(__file__).resolve().parent / "expected"))
@@ -99,6 +100,15 @@ def of_the_gallery(program, text, output, folder):
     return [(["run", folder / program.name], f"{fault}\n", 1), *bounds, behind]
 
 
+def always_told(name, text):
+    """What is wrong with what is told of all inputs of the scope that an example names."""
+    words, wanted = scope(text)
+    done = subprocess.run([PROGRAM, "always", EXAMPLES / f"{name}.pram", *words], capture_output=True, text=True, timeout=60)
+    told = done.stdout.splitlines()[1:]
+    if not any(it.startswith(wanted) for it in told):
+        yield f"examples/{name}.pram: on every input of {' '.join(words)} not `{wanted}`, but\n{done.stdout}{done.stderr}"
+
+
 def tried(name, text, folder):
     """What is wrong with the runs of an example."""
     program, values = EXAMPLES / f"{name}.pram", ["--input", EXAMPLES / f"{name}.in"]
@@ -109,7 +119,7 @@ def tried(name, text, folder):
     calls = [(["meaning", program], output, status), (["rules", program], rules, 0), (["exec", plan], output, status)]
     calls += [(["run", program, "--workers", it], output, status) for it in "134"]
     calls += under_each_rule(name, text, output, folder)
-    found = []
+    found = list(always_told(name, text))
     if foot(text):
         calls += of_the_gallery(program, text, output, folder)
         found += miscounted(name, text)

@@ -13,13 +13,14 @@ from pathlib import Path
 EXAMPLES = Path(__file__).resolve().parent.parent / "examples"
 INPUTS = EXAMPLES / "inputs"
 PAGE = EXAMPLES / "README.md"
-FIELDS = ["Algorithm", "Chapter", "Source", "Rule", "Sizes", "T", "W", "Conflict"]
+FIELDS = ["Algorithm", "Chapter", "Source", "Rule", "Sizes", "T", "W", "Conflict", "Always"]
 FOOT = re.compile("".join(rf"# {it}: (?P<{it}>.+)\n" for it in FIELDS) + r"\Z")
 COSTS = re.compile(r"(at most )?(.+?)( (?:for|of) .+)?: (\d+), (\d+), (\d+)")
 CHANGE = re.compile(r"(.+?) becomes (.+); (fault .+)")
+SCOPE = re.compile(r"^# Always: (\d+) values?(?: from (-?\d+) to (-?\d+))?: (?:(no fault|faults .+)|(may fault|undecided): .+)$", re.M)
 SIZE = re.compile(r"^# size (\w+) = (\d+)$", re.M)
 TABLES = re.compile(r"(<!-- by gate/gallery.py -->\n).*?(<!-- end -->\n)", re.S)
-HEAD = "| Program | Algorithm | Source | Rule, and why | Sizes | T | W | A conflict |\n|---|---|---|---|---|---|---|---|"
+HEAD = f"| Program | Algorithm | Source | Rule, and why | Sizes | T | W | A conflict | On every input of |\n|{'---|' * 9}"
 
 
 def files():
@@ -99,6 +100,12 @@ def strays():
     return [f"{it} is of no size of an example" for it in sorted(INPUTS.iterdir()) if it not in wanted]
 
 
+def scope(text):
+    """The words of a call of `always` with the scope that an example names, and what is told of it."""
+    cells, least, greatest, decided, left = SCOPE.search(text).groups()
+    return ["--cells", cells, *(["--values", f"{least}..{greatest}"] if least else [])], decided or left
+
+
 def change(text):
     """The text with its conflict, the two pieces in which they differ, and the fault that it comes to."""
     old, new, fault = CHANGE.fullmatch(foot(text)["Conflict"]).groups()
@@ -111,8 +118,16 @@ def row(name, text):
     """The row of an example in the table of its chapter."""
     said = {key: value.replace("JaJa", "JáJá") for key, value in foot(text).items()}
     _, old, new, fault = change(text)
-    cells = [f"[`{name}`]({name}.pram)", *(said[it] for it in ("Algorithm", "Source", "Rule", "Sizes", "T", "W")), f"`{old}` as `{new}`: `{fault}`"]
+    facts = [said[it] for it in ("Algorithm", "Source", "Rule", "Sizes", "T", "W")]
+    cells = [f"[`{name}`]({name}.pram)", *facts, f"`{old}` as `{new}`: `{fault}`", said["Always"]]
     return "| " + " | ".join(cells) + " |"
+
+
+def unlike_the_page(page, name, text):
+    """Where the row of an example outside the gallery doesn't end with what holds of it on every input."""
+    said = SCOPE.search(text)[0].removeprefix("# Always: ")
+    if not re.search(rf"^\| \[`{name}`\].*\| {re.escape(said)} \|$", page, re.M):
+        yield f"examples/README.md: the row of {name} doesn't end with: {said}"
 
 
 def tables():
@@ -130,7 +145,8 @@ def main():
     if sys.argv[1:] == ["--write"]:
         PAGE.write_text(wanted)
     else:
-        wrong = [it for name, text in programs() if foot(text) for what in "TW" for it in unlike_the_analysis(name, text, what)]
+        wrong = [it for name, text in programs() if not foot(text) for it in unlike_the_page(page, name, text)]
+        wrong += [it for name, text in programs() if foot(text) for what in "TW" for it in unlike_the_analysis(name, text, what)]
         wrong += [it for name, text in programs() if foot(text) for it in wrong_sizes(name, text)] + strays()
         missing = [name for name, _ in programs() if f"]({name}.pram)" not in page]
         if missing or page != wanted:
