@@ -91,7 +91,7 @@ def peak(program, words, file, bound, folder):
     told = Path(folder) / f"told_{abs(hash((*words, file)))}"
     limits = [] if words[0] in UNBOUNDED else ["--bound", str(bound)]
     call = [TIME, "-f", "%M", "-o", told, program, words[0], file, *words[1:], *limits]
-    subprocess.run(call, stdout=subprocess.DEVNULL, stderr=subprocess.DEVNULL, timeout=120)
+    subprocess.run(call, stdout=subprocess.DEVNULL, stderr=subprocess.DEVNULL, timeout=600)
     return int(told.read_text().split()[-1]) / 1024
 
 
