@@ -7,6 +7,7 @@ use Rattle.pram_check.specs.Checked.{Checked}
 use Rattle.scopes.proofs.Placed.{drop_further}
 use Rattle.scopes.specs.Found.{Found, found}
 use Rattle.scopes.specs.Merged.{merged}
+use Rattle.scopes.specs.declared.specification.Specification.{Specification}
 use Rattle.scopes.proofs.Merges.{blocks_are_merged}
 
 take_more : (a b m : ℕ) (xs : List (List ℤ)) → m ≡ a + b → take a xs ++ take b (drop a xs) ≡ take m xs
@@ -24,19 +25,21 @@ at_next [] x d ys = refl
 at_next (z ∷ xs) x d ys = at_next xs x d ys
 
 -- one block more
-pub one_more : (p : Checked) (n : ℕ) (inputs : List (List ℤ)) (k j size : ℕ) (f g h : Found) → f ≡ found p n (take (k * size) inputs) →
-    g ≡ found p n (take size (drop (k * size) inputs)) → h ≡ merged f g → j ≡ k + 1 → h ≡ found p n (take (j * size) inputs)
-one_more p n inputs k j size f g h fs gs is next =
+pub one_more : (s : Specification) (p : Checked) (n : ℕ) (inputs : List (List ℤ)) (k j size : ℕ) (f g h : Found) →
+    f ≡ found s p n (take (k * size) inputs) →
+    g ≡ found s p n (take size (drop (k * size) inputs)) → h ≡ merged f g → j ≡ k + 1 → h ≡ found s p n (take (j * size) inputs)
+one_more s p n inputs k j size f g h fs gs is next =
     let behind : j * size ≡ k * size + size = ap (λ (i : ℕ). i * size) next ∙ (let e : (k + 1) * size ≡ k * size + size = grind
     arith in e) in
-    is ∙ ap (λ (f : Found). merged f g) fs ∙ ap (merged (found p n (take (k * size) inputs))) gs
-    ∙ sym (blocks_are_merged p n (take (k * size) inputs) (take size (drop (k * size) inputs)))
-    ∙ ap (found p n) (take_more (k * size) size (j * size) inputs behind)
+    is ∙ ap (λ (f : Found). merged f g) fs ∙ ap (merged (found s p n (take (k * size) inputs))) gs
+    ∙ sym (blocks_are_merged s p n (take (k * size) inputs) (take size (drop (k * size) inputs)))
+    ∙ ap (found s p n) (take_more (k * size) size (j * size) inputs behind)
 
 -- as many inputs as there are in both blocks, and no more than there are in all
-pub room_for : (p : Checked) (n : ℕ) (inputs : List (List ℤ)) (k size : ℕ) (f g : Found) → f ≡ found p n (take (k * size) inputs) →
-    g ≡ found p n (take size (drop (k * size) inputs)) → f.inputs + g.inputs ≤ length inputs
-room_for p n inputs k size f g fs gs =
+pub room_for : (s : Specification) (p : Checked) (n : ℕ) (inputs : List (List ℤ)) (k size : ℕ) (f g : Found) →
+    f ≡ found s p n (take (k * size) inputs) →
+    g ≡ found s p n (take size (drop (k * size) inputs)) → f.inputs + g.inputs ≤ length inputs
+room_for s p n inputs k size f g fs gs =
     let a = ap (λ (f : Found). f.inputs) fs in
     let b = ap (λ (f : Found). f.inputs) gs in
     let c = length-take (k * size) inputs in
@@ -49,6 +52,7 @@ pub next_is : {X : Type 0} (xs : List X) (x d : X) (ys all : List X) → xs ++ x
 next_is xs x d ys all e = ap (λ zs. get_or zs (length xs) d) (sym e) ∙ at_next xs x d ys
 
 -- all blocks
-pub all_blocks : (p : Checked) (n : ℕ) (inputs : List (List ℤ)) (m : ℕ) (f : Found) → f ≡ found p n (take m inputs) → length inputs ≤ m →
-    f ≡ found p n inputs
-all_blocks p n inputs m f is enough = is ∙ ap (found p n) (take_all m inputs enough)
+pub all_blocks : (s : Specification) (p : Checked) (n : ℕ) (inputs : List (List ℤ)) (m : ℕ) (f : Found) →
+    f ≡ found s p n (take m inputs) → length inputs ≤ m →
+    f ≡ found s p n inputs
+all_blocks s p n inputs m f is enough = is ∙ ap (found s p n) (take_all m inputs enough)

@@ -18,3 +18,10 @@ pub mod Told
 pub mod Merges
 pub mod Shared
 pub mod Blocks
+pub mod Lists
+pub mod Places
+pub mod Offered
+pub mod Affirmed
+pub mod Bounds
+pub mod Lent
+pub mod Lasting

@@ -16,9 +16,12 @@ use Rattle.write_rules.specs.Verdict.{Verdict, Ended, Faulted, GoesOn}
 use Rattle.pram_model.proofs.Truths.{or_second}
 use Rattle.scopes.specs.declared.findings.Span.{Span}
 use Rattle.scopes.specs.Firsts.{Met, are_alike, noted}
-use Rattle.scopes.specs.Found.{Found, added, found, nothing, verdict_on, widened}
+use Rattle.scopes.specs.Found.{Found, added, found, nothing, skipped, widened, with_input, with_run}
+use Rattle.scopes.specs.Runs.{verdict_on}
+use Rattle.scopes.specs.Specified.{counts, fails}
+use Rattle.scopes.specs.declared.specification.Specification.{Specification}
 use Rattle.scopes.specs.Merged.{both_spans, merged}
-use Rattle.scopes.proofs.Pushed.{added_is}
+use Rattle.scopes.proofs.Pushed.{input_added}
 
 -- ---- spans
 
@@ -103,89 +106,139 @@ noted_by ms qs m true e =
 noted_by ms qs m false e =
     ap (λ (b : Bool). fold noted ms (if b then qs else qs ++ m ∷ [])) e ∙ fold_push noted ms qs m
 
--- ---- one run more behind both
+-- ---- one input more behind both
 
-merged_more : (f g : Found) (v : Verdict) (t w : ℕ) (x : List ℤ) → merged f (added v t w x g) ≡ added v t w x (merged f g)
-merged_more f g (Ended output memory) t w x =
-    let all : f.inputs + (g.inputs + 1) ≡ f.inputs + g.inputs + 1 = omega arith in
-    let ends : f.ended + (g.ended + 1) ≡ f.ended + g.ended + 1 = omega arith in
+merged_run : (f g : Found) (v : Verdict) (b : Bool) (t w : ℕ) (x : List ℤ) →
+    merged f (added v t w b x g) ≡ added v t w b x (merged f g)
+merged_run f g (Ended output memory) true t w x =
+    let inputs_more : f.inputs + (g.inputs + 1) ≡ f.inputs + g.inputs + 1 = omega arith in
+    let counting_more : f.counting + (g.counting + 1) ≡ f.counting + g.counting + 1 = omega arith in
+    let ended_more : f.ended + (g.ended + 1) ≡ f.ended + g.ended + 1 = omega arith in
+    let failed_more : f.failed + (g.failed + 1) ≡ f.failed + g.failed + 1 = omega arith in
     λ i. record {
-      inputs = all i;
-      ended = ends i;
+      inputs = inputs_more i;
+      counting = counting_more i;
+      ended = ended_more i;
       faulted = f.faulted + g.faulted;
       go_on = f.go_on + g.go_on;
+      failed = failed_more i;
       faults = fold noted f.faults g.faults;
       goes_on_at = option_or f.goes_on_at g.goes_on_at;
+      fails_at = or_behind f.fails_at g.fails_at (Some x) i;
       time = widened_both t f.time g.time i;
       work = widened_both w f.work g.work i;
     }
-merged_more f g (Faulted fault output) t w x =
-    let all : f.inputs + (g.inputs + 1) ≡ f.inputs + g.inputs + 1 = omega arith in
-    let faults : f.faulted + (g.faulted + 1) ≡ f.faulted + g.faulted + 1 = omega arith in
+merged_run f g (Ended output memory) false t w x =
+    let inputs_more : f.inputs + (g.inputs + 1) ≡ f.inputs + g.inputs + 1 = omega arith in
+    let counting_more : f.counting + (g.counting + 1) ≡ f.counting + g.counting + 1 = omega arith in
+    let ended_more : f.ended + (g.ended + 1) ≡ f.ended + g.ended + 1 = omega arith in
+    λ i. record {
+      inputs = inputs_more i;
+      counting = counting_more i;
+      ended = ended_more i;
+      faulted = f.faulted + g.faulted;
+      go_on = f.go_on + g.go_on;
+      failed = f.failed + g.failed;
+      faults = fold noted f.faults g.faults;
+      goes_on_at = option_or f.goes_on_at g.goes_on_at;
+      fails_at = option_or f.fails_at g.fails_at;
+      time = widened_both t f.time g.time i;
+      work = widened_both w f.work g.work i;
+    }
+merged_run f g (Faulted fault output) b t w x =
+    let inputs_more : f.inputs + (g.inputs + 1) ≡ f.inputs + g.inputs + 1 = omega arith in
+    let counting_more : f.counting + (g.counting + 1) ≡ f.counting + g.counting + 1 = omega arith in
+    let faulted_more : f.faulted + (g.faulted + 1) ≡ f.faulted + g.faulted + 1 = omega arith in
     let m : Met = record { fault = fault; input = x } in
     λ i. record {
-      inputs = all i;
+      inputs = inputs_more i;
+      counting = counting_more i;
       ended = f.ended + g.ended;
-      faulted = faults i;
+      faulted = faulted_more i;
       go_on = f.go_on + g.go_on;
+      failed = f.failed + g.failed;
       faults = noted_by f.faults g.faults m (is_there g.faults m) refl i;
       goes_on_at = option_or f.goes_on_at g.goes_on_at;
+      fails_at = option_or f.fails_at g.fails_at;
       time = both_spans f.time g.time;
       work = both_spans f.work g.work;
     }
-merged_more f g (GoesOn output) t w x =
-    let all : f.inputs + (g.inputs + 1) ≡ f.inputs + g.inputs + 1 = omega arith in
-    let goes : f.go_on + (g.go_on + 1) ≡ f.go_on + g.go_on + 1 = omega arith in
+merged_run f g (GoesOn output) b t w x =
+    let inputs_more : f.inputs + (g.inputs + 1) ≡ f.inputs + g.inputs + 1 = omega arith in
+    let counting_more : f.counting + (g.counting + 1) ≡ f.counting + g.counting + 1 = omega arith in
+    let go_on_more : f.go_on + (g.go_on + 1) ≡ f.go_on + g.go_on + 1 = omega arith in
     λ i. record {
-      inputs = all i;
+      inputs = inputs_more i;
+      counting = counting_more i;
       ended = f.ended + g.ended;
       faulted = f.faulted + g.faulted;
-      go_on = goes i;
+      go_on = go_on_more i;
+      failed = f.failed + g.failed;
       faults = fold noted f.faults g.faults;
       goes_on_at = or_behind f.goes_on_at g.goes_on_at (Some x) i;
+      fails_at = option_or f.fails_at g.fails_at;
       time = both_spans f.time g.time;
       work = both_spans f.work g.work;
     }
+
+merged_skipped : (f g : Found) → merged f (skipped g) ≡ skipped (merged f g)
+merged_skipped f g =
+    let all : f.inputs + (g.inputs + 1) ≡ f.inputs + g.inputs + 1 = omega arith in
+    ap (λ (k : ℕ). record (merged f g) { inputs = k }) all
+
+input_case : (s : Specification) (p : Checked) (n : ℕ) (x : List ℤ) (f g : Found) (b : Bool) →
+    merged f (if b then with_run s.postcondition p n x g else skipped g)
+    ≡ (if b then with_run s.postcondition p n x (merged f g) else skipped (merged f g))
+input_case s p n x f g true =
+    merged_run f g (verdict_on p n x) (fails s.postcondition p n x) (time (run_steps p x n)) (work (run_steps p x n)) x
+input_case s p n x f g false = merged_skipped f g
+
+merged_input : (s : Specification) (p : Checked) (n : ℕ) (x : List ℤ) (f g : Found) →
+    merged f (with_input s p n x g) ≡ with_input s p n x (merged f g)
+merged_input s p n x f g = input_case s p n x f g (counts s.precondition n x)
 
 merged_none : (f : Found) → merged f nothing ≡ f
 merged_none f =
     let zero : (k : ℕ) → k + 0 ≡ k = λ k. omega arith in
     λ i. record {
       inputs = zero f.inputs i;
+      counting = zero f.counting i;
       ended = zero f.ended i;
       faulted = zero f.faulted i;
       go_on = zero f.go_on i;
+      failed = zero f.failed i;
       faults = f.faults;
       goes_on_at = or_nothing f.goes_on_at i;
+      fails_at = or_nothing f.fails_at i;
       time = none_behind f.time i;
       work = none_behind f.work i;
     }
 
 -- ---- all inputs behind
 
-one_behind : (p : Checked) (n : ℕ) (xs zs : List (List ℤ)) (y : List ℤ) → found p n (xs ++ zs) ≡ merged (found p n xs) (found p n zs) →
-    found p n (xs ++ (zs ++ y ∷ [])) ≡ merged (found p n xs) (found p n (zs ++ y ∷ []))
-one_behind p n xs zs y e =
-    let v = verdict_on p n y in
-    let t = time (run_steps p y n) in
-    let w = work (run_steps p y n) in
-    ap (found p n) (sym (append_assoc xs zs (y ∷ [])))
-    ∙ added_is p n (xs ++ zs) y v refl ∙ ap (added v t w y) e
-    ∙ sym (merged_more (found p n xs) (found p n zs) v t w y)
-    ∙ sym (ap (merged (found p n xs)) (added_is p n zs y v refl))
+one_behind : (s : Specification) (p : Checked) (n : ℕ) (xs zs : List (List ℤ)) (y : List ℤ) →
+    found s p n (xs ++ zs) ≡ merged (found s p n xs) (found s p n zs) →
+    found s p n (xs ++ (zs ++ y ∷ [])) ≡ merged (found s p n xs) (found s p n (zs ++ y ∷ []))
+one_behind s p n xs zs y e =
+    ap (found s p n) (sym (append_assoc xs zs (y ∷ [])))
+    ∙ input_added s p n (xs ++ zs) y ∙ ap (with_input s p n y) e
+    ∙ sym (merged_input s p n y (found s p n xs) (found s p n zs))
+    ∙ sym (ap (merged (found s p n xs)) (input_added s p n zs y))
 
-all_behind : (p : Checked) (n : ℕ) (xs zs ys : List (List ℤ)) → found p n (xs ++ zs) ≡ merged (found p n xs) (found p n zs) →
-    found p n (xs ++ (zs ++ ys)) ≡ merged (found p n xs) (found p n (zs ++ ys))
-all_behind p n xs zs [] e =
-    ap (λ (qs : List (List ℤ)). found p n (xs ++ qs)) (append-nil zs) ∙ e
-    ∙ sym (ap (λ (qs : List (List ℤ)). merged (found p n xs) (found p n qs)) (append-nil zs))
-all_behind p n xs zs (y ∷ ys) e =
+all_behind : (s : Specification) (p : Checked) (n : ℕ) (xs zs ys : List (List ℤ)) →
+    found s p n (xs ++ zs) ≡ merged (found s p n xs) (found s p n zs) →
+    found s p n (xs ++ (zs ++ ys)) ≡ merged (found s p n xs) (found s p n (zs ++ ys))
+all_behind s p n xs zs [] e =
+    ap (λ (qs : List (List ℤ)). found s p n (xs ++ qs)) (append-nil zs) ∙ e
+    ∙ sym (ap (λ (qs : List (List ℤ)). merged (found s p n xs) (found s p n qs)) (append-nil zs))
+all_behind s p n xs zs (y ∷ ys) e =
     let whole : (zs ++ y ∷ []) ++ ys ≡ zs ++ y ∷ ys = append_assoc zs (y ∷ []) ys in
-    ap (λ (qs : List (List ℤ)). found p n (xs ++ qs)) (sym whole)
-    ∙ all_behind p n xs (zs ++ y ∷ []) ys (one_behind p n xs zs y e)
-    ∙ ap (λ (qs : List (List ℤ)). merged (found p n xs) (found p n qs)) whole
+    ap (λ (qs : List (List ℤ)). found s p n (xs ++ qs)) (sym whole)
+    ∙ all_behind s p n xs (zs ++ y ∷ []) ys (one_behind s p n xs zs y e)
+    ∙ ap (λ (qs : List (List ℤ)). merged (found s p n xs) (found s p n qs)) whole
 
 -- what is found of inputs and of others behind them
-pub blocks_are_merged : (p : Checked) (n : ℕ) (xs ys : List (List ℤ)) → found p n (xs ++ ys) ≡ merged (found p n xs) (found p n ys)
-blocks_are_merged p n xs ys =
-    all_behind p n xs [] ys (ap (found p n) (append-nil xs) ∙ sym (merged_none (found p n xs)))
+pub blocks_are_merged : (s : Specification) (p : Checked) (n : ℕ) (xs ys : List (List ℤ)) →
+    found s p n (xs ++ ys) ≡ merged (found s p n xs) (found s p n ys)
+blocks_are_merged s p n xs ys =
+    all_behind s p n xs [] ys (ap (found s p n) (append-nil xs) ∙ sym (merged_none (found s p n xs)))

@@ -19,6 +19,7 @@ use Rattle.pram_names.specs.contracts.body.Statement as body
 use Rattle.pram_check.specs.contracts.resolve.Parts as parts
 use Rattle.pram_check.specs.contracts.program.Program.{the_row}
 use Rattle.pram_check.specs.contracts.program.Program.TheInside as inside
+use Rattle.scopes.specs.contracts.specification.Specification as specification
 
 tree_sync : IsSync tree.the_row
 tree_sync =
@@ -48,3 +49,6 @@ inside_sync = declared_sync inside.the_type (tree_sync, (parts_sync, tt))
 
 pub program_sync : IsSync the_row
 program_sync = view_sync _ _ _ _ _ inside_sync
+
+pub specification_sync : IsSync specification.the_row
+specification_sync = search (crosses, program_sync, sendable) depth 60 fits 20000

@@ -3,7 +3,8 @@ use Rattle.std.proofs.Common.{◌≡◌, ℕ, zero, suc, ◌+◌, Bool, true, fa
 use Rattle.std.proofs.Common.{length, refl, ap, sym, subst, ◌∙◌, arith}
 use Rattle.std.proofs.lemmas.Bool.{not-true}
 use Rattle.std.proofs.lemmas.Bool.Decides.{nat_tests}
-use Rattle.std.proofs.lemmas.List.Elements.{All-cons, All-filter, All-head, All-nil, All-tail, All-weaker, filter_map-append, filter_passes}
+use Rattle.std.proofs.lemmas.List.Elements.{All-cons, All-filter, All-head, All-nil, All-tail, All-weaker, filter-append}
+use Rattle.std.proofs.lemmas.List.Elements.{filter_map-append, filter_passes}
 use Rattle.std.proofs.lemmas.List.Kept.{AllPairs-cons, AllPairs-filter}
 use Rattle.std.specs.List.{All, AllPairs, Contains, cons_option, filter, list_any}
 use Rattle.std.specs.Option.{option_map}
@@ -12,9 +13,13 @@ use Rattle.pram_check.specs.Checked.{Checked}
 use Rattle.write_rules.specs.declared.fault.Fault.{Fault}
 use Rattle.write_rules.specs.Verdict.{Verdict, Ended, Faulted, GoesOn}
 use Rattle.scopes.specs.Firsts.{Met, are_alike, firsts}
-use Rattle.scopes.specs.Found.{ending, fault_of, found, going_on, is_end, is_going_on, met, met_on, verdict_on}
-use Rattle.scopes.specs.Told.{IsFirstGoingOn}
+use Rattle.scopes.specs.Found.{ending, found, going_on, met, met_on}
+use Rattle.scopes.specs.Runs.{fault_of, is_end, is_going_on, verdict_on}
+use Rattle.scopes.specs.Told.{IsFirst}
+use Rattle.scopes.specs.Specified.{counting, counts}
+use Rattle.scopes.specs.declared.specification.Specification.{Specification}
 use Rattle.scopes.proofs.FirstFaults.{any_kept}
+use Rattle.scopes.proofs.Lists.{behind, in_filter}
 
 -- ---- how many
 
@@ -33,9 +38,6 @@ counted p n [] = refl
 counted p n (x ∷ xs) = count_step p n x xs (verdict_on p n x) refl (counted p n xs)
 
 -- ---- which faults
-
-behind : {X : Type 0} (x y : X) (xs : List X) → Contains xs y → Contains (x ∷ xs) y
-behind x y xs (k, lt, e) = (suc k, omega arith, e)
 
 met_step : (p : Checked) (n : ℕ) (x : List ℤ) (xs : List (List ℤ)) (v : Verdict) → verdict_on p n x ≡ v →
     All (λ (m : Met). Contains (x ∷ xs) m.input × (fault_of (verdict_on p n m.input) ≡ Some m.fault)) (met p n xs) →
@@ -62,11 +64,12 @@ firsts_all P (m ∷ ms) h =
     let t : Met → Bool = λ q. not (are_alike m.fault q.fault) in
     All-cons P m (filter t (firsts ms)) (All-head P m ms h) (All-filter t P (firsts ms) (firsts_all P ms (All-tail P m ms h)))
 
-pub occur : (p : Checked) (n : ℕ) (inputs : List (List ℤ)) →
-    All (λ (m : Met). Contains inputs m.input × (fault_of (verdict_on p n m.input) ≡ Some m.fault)) (found p n inputs).faults
-occur p n inputs =
-    firsts_all (λ (m : Met). Contains inputs m.input × (fault_of (verdict_on p n m.input) ≡ Some m.fault)) (met p n inputs)
-    (met_occur p n inputs)
+pub occur : (s : Specification) (p : Checked) (n : ℕ) (inputs : List (List ℤ)) →
+    All (λ (m : Met). Contains (counting s.precondition n inputs) m.input × (fault_of (verdict_on p n m.input) ≡ Some m.fault))
+    (found s p n inputs).faults
+occur s p n inputs =
+    let xs = counting s.precondition n inputs in
+    firsts_all (λ (m : Met). Contains xs m.input × (fault_of (verdict_on p n m.input) ≡ Some m.fault)) (met p n xs) (met_occur p n xs)
 
 -- ---- no two alike
 
@@ -80,9 +83,9 @@ firsts_once (m ∷ ms) =
     (filter_passes t (firsts ms)))
     (AllPairs-filter R t (firsts ms) (firsts_once ms))
 
-pub told_once : (p : Checked) (n : ℕ) (inputs : List (List ℤ)) →
-    AllPairs (λ (a b : Met). are_alike a.fault b.fault ≡ false) (found p n inputs).faults
-told_once p n inputs = firsts_once (met p n inputs)
+pub told_once : (s : Specification) (p : Checked) (n : ℕ) (inputs : List (List ℤ)) →
+    AllPairs (λ (a b : Met). are_alike a.fault b.fault ≡ false) (found s p n inputs).faults
+told_once s p n inputs = firsts_once (met p n (counting s.precondition n inputs))
 
 -- ---- one for each that is met
 
@@ -123,24 +126,15 @@ is_met p n (x ∷ xs) input m (zero, lt, e) h =
     subst (λ (o : Option Met). Contains (cons_option o (met p n xs)) m) (sym (ap (met_on p n) e ∙ h)) (0, omega arith, refl)
 is_met p n (x ∷ xs) input m (suc k, lt, e) h = cons_behind (met_on p n x) m (met p n xs) (is_met p n xs input m (k, omega arith, e) h)
 
-pub all_told : (p : Checked) (n : ℕ) (inputs : List (List ℤ)) (input : List ℤ) (f : Fault) → Contains inputs input →
-    fault_of (verdict_on p n input) ≡ Some f → list_any (λ (m : Met). are_alike m.fault f) (found p n inputs).faults ≡ true
-all_told p n inputs input f in' h =
+pub all_told : (s : Specification) (p : Checked) (n : ℕ) (inputs : List (List ℤ)) (input : List ℤ) (f : Fault) →
+    Contains (counting s.precondition n inputs) input → fault_of (verdict_on p n input) ≡ Some f →
+    list_any (λ (m : Met). are_alike m.fault f) (found s p n inputs).faults ≡ true
+all_told s p n inputs input f in' h =
     let m : Met = record { fault = f; input = input } in
-    covered (met p n inputs) m (is_met p n inputs input m in' (met_at p n input f h))
+    let xs = counting s.precondition n inputs in
+    covered (met p n xs) m (is_met p n xs input m in' (met_at p n input f h))
 
 -- ---- the first one
-
-kept_step : (t : Met → Bool) (a m : Met) (ms : List Met) (b : Bool) → Contains (filter t ms) m →
-    Contains (cond b (a ∷ filter t ms) (filter t ms)) m
-kept_step t a m ms true h = behind a m (filter t ms) h
-kept_step t a m ms false h = h
-
-kept : (t : Met → Bool) (ms : List Met) (m : Met) → Contains ms m → t m ≡ true → Contains (filter t ms) m
-kept t [] m (k, lt, e) h = absurd (omega arith)
-kept t (a ∷ ms) m (zero, lt, e) h = subst (λ (b : Bool). Contains (cond b (a ∷ filter t ms) (filter t ms)) m) (sym (ap t e ∙ h))
-    (0, omega arith, e)
-kept t (a ∷ ms) m (suc k, lt, e) h = kept_step t a m ms (t a) (kept t ms m (k, omega arith, e) h)
 
 first_kept : (ms : List Met) (m : Met) (rest : List Met) → All (λ (a : Met). are_alike a.fault m.fault ≡ false) ms →
     Contains (firsts (ms ++ m ∷ rest)) m
@@ -149,7 +143,7 @@ first_kept (a ∷ ms) m rest h =
     let P : Met → Type 0 = λ q. are_alike q.fault m.fault ≡ false in
     let t : Met → Bool = λ q. not (are_alike a.fault q.fault) in
     behind a m (filter t (firsts (ms ++ m ∷ rest)))
-    (kept t (firsts (ms ++ m ∷ rest)) m (first_kept ms m rest (All-tail P a ms h)) (ap not (All-head P a ms h)))
+    (in_filter t (firsts (ms ++ m ∷ rest)) m (first_kept ms m rest (All-tail P a ms h)) (ap not (All-head P a ms h)))
 
 unlike_step : (p : Checked) (n : ℕ) (f : Fault) (x : List ℤ) (ms : List Met) (v : Verdict) → verdict_on p n x ≡ v →
     ((g : Fault) → fault_of (verdict_on p n x) ≡ Some g → are_alike g f ≡ false) → All (λ (a : Met). are_alike a.fault f ≡ false) ms →
@@ -168,11 +162,11 @@ unlike_all p n f (x ∷ xs) h =
     let P : List ℤ → Type 0 = λ y. (g : Fault) → fault_of (verdict_on p n y) ≡ Some g → are_alike g f ≡ false in
     unlike_step p n f x (met p n xs) (verdict_on p n x) refl (All-head P x xs h) (unlike_all p n f xs (All-tail P x xs h))
 
-pub first_told : (p : Checked) (n : ℕ) (before after : List (List ℤ)) (input : List ℤ) (f : Fault) →
+first_of_these : (p : Checked) (n : ℕ) (before after : List (List ℤ)) (input : List ℤ) (f : Fault) →
     fault_of (verdict_on p n input) ≡ Some f →
     All (λ (x : List ℤ). (g : Fault) → fault_of (verdict_on p n x) ≡ Some g → are_alike g f ≡ false) before →
-    Contains (found p n (before ++ input ∷ after)).faults (record { fault = f; input = input })
-first_told p n before after input f h none =
+    Contains (firsts (met p n (before ++ input ∷ after))) (record { fault = f; input = input })
+first_of_these p n before after input f h none =
     let m : Met = record { fault = f; input = input } in
     let split : met p n (before ++ input ∷ after) ≡ met p n before ++ m ∷ met p n after =
     filter_map-append (met_on p n) before (input ∷ after)
@@ -180,39 +174,63 @@ first_told p n before after input f h none =
     subst (λ (ms : List Met). Contains (firsts ms) m) (sym split)
     (first_kept (met p n before) m (met p n after) (unlike_all p n f before none))
 
--- ---- the first input on which the run goes on
+-- what all that count have, all that are left in have
+kept_step : (t : List ℤ → Bool) (P : List ℤ → Type 0) (x : List ℤ) (xs : List (List ℤ)) (b : Bool) → t x ≡ b → (t x ≡ true → P x) →
+    All P (filter t xs) → All P (cond b (x ∷ filter t xs) (filter t xs))
+kept_step t P x xs true is here rest = All-cons P x (filter t xs) (here is) rest
+kept_step t P x xs false is here rest = rest
 
-going_step : (p : Checked) (n : ℕ) (x : List ℤ) (xs : List (List ℤ)) (input : List ℤ) (b : Bool) → is_going_on (verdict_on p n x) ≡ b →
-    (slice_get (going_on p n xs) 0 ≡ Some input → IsFirstGoingOn p n xs input) →
-    slice_get (cond b (x ∷ going_on p n xs) (going_on p n xs)) 0 ≡ Some input → IsFirstGoingOn p n (x ∷ xs) input
-going_step p n x xs input true e further h =
+all_kept : (t : List ℤ → Bool) (P : List ℤ → Type 0) (xs : List (List ℤ)) → All (λ (x : List ℤ). t x ≡ true → P x) xs →
+    All P (filter t xs)
+all_kept t P [] h = All-nil P
+all_kept t P (x ∷ xs) h =
+    let Q : List ℤ → Type 0 = λ y. t y ≡ true → P y in
+    kept_step t P x xs (t x) refl (All-head Q x xs h) (all_kept t P xs (All-tail Q x xs h))
+
+pub first_told : (s : Specification) (p : Checked) (n : ℕ) (before after : List (List ℤ)) (input : List ℤ) (f : Fault) →
+    counts s.precondition n input ≡ true → fault_of (verdict_on p n input) ≡ Some f →
+    All (λ (x : List ℤ). counts s.precondition n x ≡ true → (g : Fault) → fault_of (verdict_on p n x) ≡ Some g →
+    are_alike g f ≡ false) before →
+    Contains (found s p n (before ++ input ∷ after)).faults (record { fault = f; input = input })
+first_told s p n before after input f here h none =
+    let t = counts s.precondition n in
+    let m : Met = record { fault = f; input = input } in
+    let P : List ℤ → Type 0 = λ x. (g : Fault) → fault_of (verdict_on p n x) ≡ Some g → are_alike g f ≡ false in
+    let split : filter t (before ++ input ∷ after) ≡ filter t before ++ input ∷ filter t after =
+    filter-append t before (input ∷ after)
+    ∙ ap (λ (b : Bool). filter t before ++ cond b (input ∷ filter t after) (filter t after)) here in
+    subst (λ (xs : List (List ℤ)). Contains (firsts (met p n xs)) m) (sym split)
+    (first_of_these p n (filter t before) (filter t after) input f h (all_kept t P before none))
+
+-- ---- the first input of a kind
+
+first_step : (t : List ℤ → Bool) (x : List ℤ) (xs : List (List ℤ)) (input : List ℤ) (b : Bool) → t x ≡ b →
+    (slice_get (filter t xs) 0 ≡ Some input → IsFirst t xs input) →
+    slice_get (cond b (x ∷ filter t xs) (filter t xs)) 0 ≡ Some input → IsFirst t (x ∷ xs) input
+first_step t x xs input true e further h =
     let same : x ≡ input = cc h in
     record {
       before = [];
       behind = xs;
       all = ap (λ (y : List ℤ). y ∷ xs) same;
-      over = All-nil (λ (y : List ℤ). is_going_on (verdict_on p n y) ≡ false);
-      goes_on = ap (λ (y : List ℤ). is_going_on (verdict_on p n y)) (sym same) ∙ e;
+      over = All-nil (λ (y : List ℤ). t y ≡ false);
+      passes = ap t (sym same) ∙ e;
     }
-going_step p n x xs input false e further h =
+first_step t x xs input false e further h =
     let f = further h in
     record {
       before = x ∷ f.before;
       behind = f.behind;
       all = ap (λ (ys : List (List ℤ)). x ∷ ys) f.all;
-      over = All-cons (λ (y : List ℤ). is_going_on (verdict_on p n y) ≡ false) x f.before e f.over;
-      goes_on = f.goes_on;
+      over = All-cons (λ (y : List ℤ). t y ≡ false) x f.before e f.over;
+      passes = f.passes;
     }
 
-pub first_goes_on : (p : Checked) (n : ℕ) (inputs : List (List ℤ)) (input : List ℤ) → (found p n inputs).goes_on_at ≡ Some input →
-    IsFirstGoingOn p n inputs input
-first_goes_on p n [] input h = absurd (cc h)
-first_goes_on p n (x ∷ xs) input h =
-    going_step p n x xs input (is_going_on (verdict_on p n x)) refl (first_goes_on p n xs input) h
+pub is_first : (t : List ℤ → Bool) (inputs : List (List ℤ)) (input : List ℤ) → slice_get (filter t inputs) 0 ≡ Some input →
+    IsFirst t inputs input
+is_first t [] input h = absurd (cc h)
+is_first t (x ∷ xs) input h = first_step t x xs input (t x) refl (is_first t xs input) h
 
-none_there : (ys : List (List ℤ)) → (slice_get ys 0 ≡ None) ↔ (length ys ≡ 0)
+pub none_there : (ys : List (List ℤ)) → (slice_get ys 0 ≡ None) ↔ (length ys ≡ 0)
 none_there [] = (λ h. refl, λ h. refl)
 none_there (y ∷ ys) = (λ h. absurd (cc h), λ h. absurd (omega (arith, h)))
-
-pub none_goes_on : (p : Checked) (n : ℕ) (inputs : List (List ℤ)) → ((found p n inputs).goes_on_at ≡ None) ↔ ((found p n inputs).go_on ≡ 0)
-none_goes_on p n inputs = none_there (going_on p n inputs)

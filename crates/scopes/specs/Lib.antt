@@ -3,6 +3,9 @@ pub mod Scopes
 pub mod Drawn
 pub mod Intervals
 pub mod Firsts
+pub mod Runs
+pub mod Handed
+pub mod Specified
 pub mod Found
 pub mod Merged
 pub mod Told

@@ -1,44 +1,65 @@
 //! The runs of a program on every input of a scope, one after the other.
 
 ghost use Rattle.std.specs.Prelude.{◌≡◌, ◌≢◌, ◌↔◌, ◌+◌, ◌<◌, ◌^◌, [], ◌∷◌, ◌++◌, take, drop, IfOk, OnOk, length, List, ℤ};
-ghost use Rattle.pram_model.specs.Layout.{total_size};
 ghost use Rattle.scopes.specs.Scopes.{inputs_left, inputs_of};
-ghost use Rattle.scopes.specs.Found.{found, found_is};
+ghost use Rattle.scopes.specs.Found.{found, found_is, with_input, with_run};
+ghost use Rattle.scopes.specs.Specified.{most_values};
 
+use crate::affirming::{input_counts, most_values};
+use crate::failing::is_failing;
 use crate::findings::Findings;
 use crate::inputs::input_at;
-use crate::{Inputs, Scope, first_input, input_count};
+use crate::{Inputs, Scope, Specification, first_input, input_count};
 use costs::time_and_work;
 use observing::{Nobody, Watch};
 use pram_check::Program;
 use pram_meaning::MeaningRefusal;
 use std::alloc::Global;
 
-// Runs the program on one input more.
-fn try_input(
+// Runs the program on one input more that counts.
+fn run_on(
     alloc: Global,
     program: &Program,
+    specification: &Specification,
     bound: u32,
     input: &[i64],
     findings: &mut Findings,
 ) -> Result<(), MeaningRefusal>
     requires room { findings.old.inputs + 1 < 2 ^ 64 }
-    ensures found { OnOk result ((before : List (List ℤ)) → found_is findings.old ≡ found program.now bound before →
-        found_is findings.new ≡ found program.now bound (before ++ input.now ∷ [])) }
-    ensures memory { result ≢ Err MeaningRefusal.InputTooLong }
+    ensures found { OnOk result (found_is findings.new
+        ≡ with_run specification.now.postcondition program.now bound input.now (found_is findings.old)) }
 {
-    let Ok((outcome, counted)) = time_and_work(alloc, program, input, bound) else {
-        return Err(MeaningRefusal::OutOfMemory);
-    };
-    match findings.add(
+    let (outcome, counted) = time_and_work(alloc, program, input, bound)?;
+    let fails = is_failing(
         alloc,
-        &outcome,
-        u64::from(counted.time),
-        counted.work,
+        program,
+        &specification.postcondition,
         input,
-    ) {
-        Ok(()) => Ok(()),
-        Err(_) => Err(MeaningRefusal::OutOfMemory),
+        &outcome,
+        bound,
+    )?;
+    let time = u64::from(counted.time);
+    findings.add(alloc, &outcome, time, counted.work, fails, input)?;
+    Ok(())
+}
+
+// Tries one input more: the program is run on it where it counts.
+fn try_input(
+    alloc: Global,
+    program: &Program,
+    specification: &Specification,
+    bound: u32,
+    input: &[i64],
+    findings: &mut Findings,
+) -> Result<(), MeaningRefusal>
+    requires room { findings.old.inputs + 1 < 2 ^ 64 }
+    ensures found { OnOk result (found_is findings.new ≡ with_input specification.now program.now bound input.now (found_is findings.old)) }
+{
+    if input_counts(alloc, &specification.precondition, input, bound)? {
+        run_on(alloc, program, specification, bound, input, findings)
+    } else {
+        findings.skip();
+        Ok(())
     }
 }
 
@@ -47,12 +68,13 @@ fn try_input(
 fn try_some<W: Watch>(
     alloc: Global,
     program: &Program,
+    specification: &Specification,
     inputs: Inputs,
     most: u64,
     bound: u32,
     watch: &mut W,
 ) -> Result<Findings, MeaningRefusal>
-    ensures found { IfOk result (λ r. found_is r ≡ found program.now bound
+    ensures found { IfOk result (λ r. found_is r ≡ found specification.now program.now bound
         (take most (inputs_left inputs.scope inputs.over inputs.input.items))) }
     ensures memory { result ≢ Err MeaningRefusal.InputTooLong }
 {
@@ -64,7 +86,9 @@ fn try_some<W: Watch>(
         }
         let next = inputs.values();
         watch.look(findings.inputs, most, next);
-        try_input(alloc, program, bound, next, &mut findings)?;
+        let Ok(()) = try_input(alloc, program, specification, bound, next, &mut findings) else {
+            return Err(MeaningRefusal::OutOfMemory);
+        };
         inputs.advance();
     }
     Ok(findings)
@@ -75,66 +99,80 @@ fn try_some<W: Watch>(
 fn try_all<W: Watch>(
     alloc: Global,
     program: &Program,
+    specification: &Specification,
     scope: Scope,
     bound: u32,
     watch: &mut W,
 ) -> Result<Findings, MeaningRefusal>
     requires few { length (inputs_of scope) < 2 ^ 64 }
-    ensures found { IfOk result (λ r. found_is r ≡ found program.now bound (inputs_of scope)) }
+    ensures found { IfOk result (λ r. found_is r ≡ found specification.now program.now bound (inputs_of scope)) }
     ensures memory { result ≢ Err MeaningRefusal.InputTooLong }
 {
     let all = input_count(scope).unwrap_or(u64::MAX);
     let Ok(inputs) = first_input(alloc, scope) else {
         return Err(MeaningRefusal::OutOfMemory);
     };
-    try_some(alloc, program, inputs, all, bound, watch)
+    try_some(alloc, program, specification, inputs, all, bound, watch)
 }
 
 /// Runs a program on a block of the inputs of a scope, as [`explore`] does on all of them: on `count` inputs from that of a place on, which
-/// is counted from 0, or on all from there on. E11 where an input has more values than the program has cells; E16 only where memory was
-/// refused.
+/// is counted from 0, or on all from there on. E11 where an input has more values than the program has cells, or the precondition; E16 only
+/// where memory was refused.
 pub(crate) fn explore_block(
     alloc: Global,
     program: &Program,
+    specification: &Specification,
     scope: Scope,
     place: u64,
     count: u64,
     bound: u32,
 ) -> Result<Findings, MeaningRefusal>
-    ensures found { IfOk result (λ r. found_is r ≡ found program.now bound (take count (drop place (inputs_of scope)))) }
-    ensures too_long { (result ≡ Err MeaningRefusal.InputTooLong) ↔ (total_size program.now.layout < scope.count) }
+    ensures found { IfOk result (λ r. found_is r ≡ found specification.now program.now bound (take count (drop place (inputs_of scope)))) }
+    ensures too_long { (result ≡ Err MeaningRefusal.InputTooLong) ↔ (most_values specification.now.precondition program.now < scope.count) }
 {
-    if scope.count > program.layout().cells() {
+    if scope.count > most_values(&specification.precondition, program) {
         return Err(MeaningRefusal::InputTooLong);
     }
     let Ok(inputs) = input_at(alloc, scope, place) else {
         return Err(MeaningRefusal::OutOfMemory);
     };
-    try_some(alloc, program, inputs, count, bound, &mut Nobody)
+    try_some(
+        alloc,
+        program,
+        specification,
+        inputs,
+        count,
+        bound,
+        &mut Nobody,
+    )
 }
 
-/// Runs a program on every input of a scope, each for at most `bound` statements, and says what is found, over just these inputs in
-/// their order: how many runs end, fault and go on; of each kind of fault at each line the first one, with its input; and the least and
-/// the greatest time and work of the runs that end. E11 where an input has more values than the program has cells; E16 only where memory
-/// was refused. Before each run the watch is told how many were made, and it is closed behind the last.
+/// Runs a program on each input of a scope that counts, for at most `bound` statements, and says what is found, over just these inputs in
+/// their order: how many there are, and how many count; on how many of these the run ends, faults and goes on; of each kind of fault at
+/// each line the first one, with its input; the first input on which the run goes on; how many of the runs that end fail, and the first
+/// input of these; and the least and the greatest time and work of the runs that end. Precondition and postcondition are run within the
+/// same bound. E11 where an input has more values than the program has cells, or the precondition; E16 only where memory was refused.
+/// Before each input the watch is told how many were tried, and it is closed behind the last.
 pub fn explore<W: Watch>(
     alloc: Global,
     program: &Program,
+    specification: &Specification,
     scope: Scope,
     bound: u32,
     watch: &mut W,
 ) -> Result<Findings, MeaningRefusal>
     requires few { length (inputs_of scope) < 2 ^ 64 }
-    // Over just the scope's inputs it tells how many runs end, fault and go on, the first faults, the first that goes
-    // on, and spans of time and work.
-    ensures found { IfOk result (λ r. found_is r ≡ found program.now bound (inputs_of scope)) }
-    // The inputs are refused as too long exactly where they have more values than the program has cells.
-    ensures too_long { (result ≡ Err MeaningRefusal.InputTooLong) ↔ (total_size program.now.layout < scope.count) }
+    // Over just the scope's inputs that count it tells how many runs end, fault, go on and fail, the first of each, and
+    // spans of time and work.
+    ensures found { IfOk result (λ r. found_is r ≡ found specification.now program.now bound (inputs_of scope)) }
+    // The inputs are refused as too long exactly where they have more values than the program has cells, or the
+    // precondition.
+    ensures too_long { (result ≡ Err MeaningRefusal.InputTooLong) ↔ (most_values specification.now.precondition program.now < scope.count) }
 {
-    if scope.count > program.layout().cells() {
+    if scope.count > most_values(&specification.precondition, program) {
         return Err(MeaningRefusal::InputTooLong);
     }
-    let found = try_all(alloc, program, scope, bound, watch);
+    let found = try_all(alloc, program, specification, scope, bound, watch);
     watch.close();
     found
 }

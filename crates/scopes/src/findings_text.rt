@@ -6,24 +6,45 @@ ghost use Rattle.text_out.specs.Out.{Writes};
 ghost use Rattle.scopes.specs.Found.{found_is, met_is, values_of};
 ghost use Rattle.scopes.specs.FindingsText as spec;
 
-use crate::{Findings, FoundFault, Span};
+use crate::{Findings, FoundFault, Span, Specification};
 use itoa::Buffer;
+use pram_check::Program;
 use pram_trees::Layout;
 use program_texts::{write_fault_text, write_values};
 use text_out::{Out, WriteFault};
 
-// How many inputs there are, and how many runs end, fault and go on.
-fn write_counts<W: Out>(out: &mut W, findings: &Findings) -> Result<(), WriteFault>
-    ensures written { Writes (W.Out.state out.old) (W.Out.state out.new) (spec.counts_text (found_is findings.now)) result }
+// A number behind some words, on a line.
+fn write_fact<W: Out>(out: &mut W, words: &[u8], number: u64) -> Result<(), WriteFault>
+    ensures written { Writes (W.Out.state out.old) (W.Out.state out.new) (spec.fact words.now number) result }
 {
-    let mut inputs = Buffer::new();
+    let mut buffer = Buffer::new();
+    out.write_parts(&[words, buffer.format(number).as_bytes(), b"\n"])
+}
+
+// The same, where there is a program of that kind.
+fn write_fact_with<W: Out>(
+    out: &mut W,
+    program: &Option<Program>,
+    words: &[u8],
+    number: u64,
+) -> Result<(), WriteFault>
+    ensures written { Writes (W.Out.state out.old) (W.Out.state out.new) (spec.fact_with program.now words.now number) result }
+{
+    match program {
+        None => out.write_all(b""),
+        Some(_) => write_fact(out, words, number),
+    }
+}
+
+// On how many inputs the run ends, faults and goes on.
+fn write_outcomes<W: Out>(out: &mut W, findings: &Findings) -> Result<(), WriteFault>
+    ensures written { Writes (W.Out.state out.old) (W.Out.state out.new) (spec.outcomes_text (found_is findings.now)) result }
+{
     let mut ended = Buffer::new();
     let mut faulted = Buffer::new();
     let mut go_on = Buffer::new();
     out.write_parts(&[
-        b"inputs ",
-        inputs.format(findings.inputs).as_bytes(),
-        b"\nended ",
+        b"ended ",
         ended.format(findings.ended).as_bytes(),
         b"\nfaulted ",
         faulted.format(findings.faulted).as_bytes(),
@@ -31,6 +52,31 @@ fn write_counts<W: Out>(out: &mut W, findings: &Findings) -> Result<(), WriteFau
         go_on.format(findings.go_on).as_bytes(),
         b"\n",
     ])
+}
+
+// How many inputs there are, how many count, and on how many of these the run ends, faults, goes on and fails.
+fn write_counts<W: Out>(
+    out: &mut W,
+    specification: &Specification,
+    findings: &Findings,
+) -> Result<(), WriteFault>
+    ensures written { Writes (W.Out.state out.old) (W.Out.state out.new)
+        (spec.counts_text specification.now (found_is findings.now)) result }
+{
+    write_fact(out, b"inputs ", findings.inputs)?;
+    write_fact_with(
+        out,
+        &specification.precondition,
+        b"counting ",
+        findings.counting,
+    )?;
+    write_outcomes(out, findings)?;
+    write_fact_with(
+        out,
+        &specification.postcondition,
+        b"failed ",
+        findings.failed,
+    )
 }
 
 // A fault, and the input on which it was met.
@@ -56,22 +102,27 @@ fn write_all_met<W: Out>(
     Ok(())
 }
 
-// An input on which the run goes on.
-fn write_going_on_at<W: Out>(out: &mut W, input: &[i64]) -> Result<(), WriteFault>
-    ensures written { Writes (W.Out.state out.old) (W.Out.state out.new) (spec.going_on_line (Some input.now)) result }
+// An input behind some words, on a line.
+fn write_input<W: Out>(out: &mut W, words: &[u8], input: &[i64]) -> Result<(), WriteFault>
+    ensures written { Writes (W.Out.state out.old) (W.Out.state out.new) (spec.input_line words.now (Some input.now)) result }
 {
-    out.write_all(b"goes on at input")?;
+    out.write_all(words)?;
     write_values(out, input)?;
     out.write_all(b"\n")
 }
 
-// The first of these, if there is one.
-fn write_going_on<W: Out>(out: &mut W, input: &Option<Vec<i64>>) -> Result<(), WriteFault>
-    ensures written { Writes (W.Out.state out.old) (W.Out.state out.new) (spec.going_on_line (option_map values_of input.now)) result }
+// The same of the first input of a kind, if there is one.
+fn write_first<W: Out>(
+    out: &mut W,
+    words: &[u8],
+    input: &Option<Vec<i64>>,
+) -> Result<(), WriteFault>
+    ensures written { Writes (W.Out.state out.old) (W.Out.state out.new)
+        (spec.input_line words.now (option_map values_of input.now)) result }
 {
     match input {
         None => out.write_all(b""),
-        Some(input) => write_going_on_at(out, input.as_slice()),
+        Some(input) => write_input(out, words, input.as_slice()),
     }
 }
 
@@ -99,21 +150,31 @@ fn write_some_span<W: Out>(out: &mut W, words: &[u8], span: Span) -> Result<(), 
     ])
 }
 
-/// Writes what is found, one fact a line: how many inputs there are, and on how many the run ends, faults and goes on; each fault that
-/// was found, with its first input; the first input on which the run goes on, if there is one; and, where any run ends, the least and the
-/// greatest time and work of those that do. The error is that the writer failed (E17).
+// The first inputs on which the run goes on and fails, and the time and work of the runs that end.
+fn write_behind<W: Out>(out: &mut W, findings: &Findings) -> Result<(), WriteFault>
+    ensures written { Writes (W.Out.state out.old) (W.Out.state out.new) (spec.behind_text (found_is findings.now)) result }
+{
+    write_first(out, b"goes on at input", &findings.goes_on_at)?;
+    write_first(out, b"fails at input", &findings.fails_at)?;
+    write_span(out, b"time ", findings.time)?;
+    write_span(out, b"work ", findings.work)
+}
+
+/// Writes what is found, one fact a line: how many inputs there are, and with a precondition how many count; on how many of these the run
+/// ends, faults and goes on, and with a postcondition on how many it fails; each fault that was found, with its first input; the first
+/// input on which the run goes on and the first on which it fails, if there are such; and, where any run ends, the least and the greatest
+/// time and work of those that do. The error is that the writer failed (E17).
 pub fn write_findings<W: Out>(
     out: &mut W,
     layout: &Layout,
+    specification: &Specification,
     findings: &Findings,
 ) -> Result<(), WriteFault>
     // Exactly the text of what is found is written, or a beginning of it and then a failure.
     ensures written { Writes (W.Out.state out.old) (W.Out.state out.new)
-        (spec.findings_text layout.now (found_is findings.now)) result }
+        (spec.findings_text layout.now specification.now (found_is findings.now)) result }
 {
-    write_counts(out, findings)?;
+    write_counts(out, specification, findings)?;
     write_all_met(out, layout, findings.faults.as_slice())?;
-    write_going_on(out, &findings.goes_on_at)?;
-    write_span(out, b"time ", findings.time)?;
-    write_span(out, b"work ", findings.work)
+    write_behind(out, findings)
 }

@@ -8,7 +8,7 @@ ghost use Rattle.scopes.specs.Merged.{merged};
 ghost use Rattle.scopes.specs.Merged as spec;
 
 use crate::findings::{Findings, FoundFault, Span};
-use crate::going_on::keep_first;
+use crate::keeping::keep_first;
 use crate::noting::is_met;
 use std::alloc::AllocError;
 
@@ -57,11 +57,14 @@ impl Findings {
     {
         keep_all(&mut self.faults, others.faults)?;
         keep_first(&mut self.goes_on_at, others.goes_on_at);
+        keep_first(&mut self.fails_at, others.fails_at);
         self.time = both_spans(self.time, others.time);
         self.work = both_spans(self.work, others.work);
         self.ended += others.ended;
         self.faulted += others.faulted;
         self.go_on += others.go_on;
+        self.failed += others.failed;
+        self.counting += others.counting;
         self.inputs += others.inputs;
         Ok(())
     }

@@ -4,10 +4,10 @@ ghost use Rattle.std.specs.Prelude.{◌≡◌, ◌+◌, ◌<◌, ◌^◌, map, O
 ghost use Rattle.std.specs.List.{list_any};
 ghost use Rattle.write_rules.specs.Verdict.{verdict_of};
 ghost use Rattle.scopes.specs.Firsts.{are_alike, noted};
-ghost use Rattle.scopes.specs.Found.{added, ended_more, faulted_more, found_is, going_on_more, met_is, nothing};
+ghost use Rattle.scopes.specs.Found.{added, ended_more, ended_so, faulted_more, found_is, going_on_more, met_is, nothing, skipped};
 
 use crate::findings::{Findings, FoundFault};
-use crate::going_on::keep_going_on;
+use crate::keeping::keep_input;
 use crate::kinds::is_alike;
 use crate::span::with_number;
 use std::alloc::{AllocError, Global};
@@ -51,25 +51,49 @@ impl Findings {
     {
         Findings {
             inputs: 0,
+            counting: 0,
             ended: 0,
             faulted: 0,
             go_on: 0,
+            failed: 0,
             faults: Vec::new(alloc),
             goes_on_at: None,
+            fails_at: None,
             time: None,
             work: None,
         }
     }
 
-    // A run that ended.
-    fn add_end(&mut self, time: u64, work: u64)
+    /// Notes an input that doesn't count.
+    pub(crate) fn skip(&mut self)
         requires room { self.old.inputs + 1 < 2 ^ 64 }
-        ensures { found_is self.new ≡ ended_more time work (found_is self.old) }
+        ensures { found_is self.new ≡ skipped (found_is self.old) }
     {
+        self.inputs += 1;
+    }
+
+    // A run that ended, and whether it failed.
+    fn add_end(
+        &mut self,
+        alloc: Global,
+        time: u64,
+        work: u64,
+        fails: bool,
+        input: &[i64],
+    ) -> Result<(), AllocError>
+        requires room { self.old.inputs + 1 < 2 ^ 64 }
+        ensures { OnOk result (found_is self.new ≡ ended_so fails input.now (ended_more time work (found_is self.old))) }
+    {
+        if fails {
+            keep_input(alloc, &mut self.fails_at, input)?;
+        }
         self.time = Some(with_number(self.time, time));
         self.work = Some(with_number(self.work, work));
+        self.failed += u64::from(fails);
         self.ended += 1;
+        self.counting += 1;
         self.inputs += 1;
+        Ok(())
     }
 
     // A run that faulted.
@@ -79,6 +103,7 @@ impl Findings {
     {
         keep_fault(alloc, &mut self.faults, fault, input)?;
         self.faulted += 1;
+        self.counting += 1;
         self.inputs += 1;
         Ok(())
     }
@@ -88,26 +113,28 @@ impl Findings {
         requires room { self.old.inputs + 1 < 2 ^ 64 }
         ensures { OnOk result (found_is self.new ≡ going_on_more input.now (found_is self.old)) }
     {
-        keep_going_on(alloc, &mut self.goes_on_at, input)?;
+        keep_input(alloc, &mut self.goes_on_at, input)?;
         self.go_on += 1;
+        self.counting += 1;
         self.inputs += 1;
         Ok(())
     }
 
-    /// Notes a run on an input more: how it came out, and its time and work.
+    /// Notes a run on an input more that counts: how it came out, its time and work, and whether it fails where it ended.
     pub(crate) fn add(
         &mut self,
         alloc: Global,
         outcome: &Outcome,
         time: u64,
         work: u64,
+        fails: bool,
         input: &[i64],
     ) -> Result<(), AllocError>
         requires room { self.old.inputs + 1 < 2 ^ 64 }
-        ensures { OnOk result (found_is self.new ≡ added (verdict_of outcome.now) time work input.now (found_is self.old)) }
+        ensures { OnOk result (found_is self.new ≡ added (verdict_of outcome.now) time work fails input.now (found_is self.old)) }
     {
         match outcome {
-            Outcome::Ended { .. } => self.add_end(time, work),
+            Outcome::Ended { .. } => self.add_end(alloc, time, work, fails, input)?,
             Outcome::Faulted { fault, .. } => self.add_fault(alloc, *fault, input)?,
             Outcome::GoesOn { .. } => self.add_going_on(alloc, input)?,
         }

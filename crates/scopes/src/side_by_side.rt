@@ -1,13 +1,14 @@
 //! A block of the inputs for each worker.
 
 ghost use Rattle.std.specs.Prelude.{◌≡◌, ◌↔◌, ◌+◌, ◌*◌, ◌<◌, ◌≤◌, ◌^◌, IfOk, length, take, drop};
-ghost use Rattle.pram_model.specs.Layout.{total_size};
 ghost use Rattle.scopes.specs.Scopes.{inputs_of};
 ghost use Rattle.scopes.specs.Found.{found, found_is};
+ghost use Rattle.scopes.specs.Specified.{most_values};
 
+use crate::affirming::most_values;
 use crate::exploring::explore_block;
 use crate::inputs::input_at;
-use crate::{Findings, Scope, explore, input_count};
+use crate::{Findings, Scope, Specification, explore, input_count};
 use observing::Watch;
 use pram_check::Program;
 use pram_meaning::MeaningRefusal;
@@ -38,6 +39,7 @@ fn explore_blocks<R: Threads + Sync>(
     rt: &R,
     alloc: Global,
     program: &Program,
+    specification: &Specification,
     scope: Scope,
     bound: u32,
     workers: u32,
@@ -46,16 +48,19 @@ fn explore_blocks<R: Threads + Sync>(
 ) -> Result<Findings, AllocError>
     requires few { length (inputs_of scope) < 2 ^ 64 }
     requires room { place + workers * size < 2 ^ 64 }
-    ensures found { IfOk result (λ r. found_is r ≡ found program.now bound (take (workers * size) (drop place (inputs_of scope)))) }
+    ensures found { IfOk result (λ r. found_is r ≡ found specification.now program.now bound
+        (take (workers * size) (drop place (inputs_of scope)))) }
 {
     let block = |worker: usize| -> Result<Findings, MeaningRefusal>
         requires { place + worker * size < 2 ^ 64 }
         ensures { IfOk result
-            (λ r. found_is r ≡ found program.entry.now bound (take size (drop (place + worker * size) (inputs_of scope)))) }
+            (λ r. found_is r ≡ found specification.entry.now program.entry.now bound
+            (take size (drop (place + worker * size) (inputs_of scope)))) }
     {
         explore_block(
             alloc,
             program,
+            specification,
             scope,
             place + worker as u64 * size,
             size,
@@ -93,6 +98,7 @@ fn explore_rounds<R: Threads + Sync, W: Watch>(
     rt: &R,
     alloc: Global,
     program: &Program,
+    specification: &Specification,
     scope: Scope,
     bound: u32,
     workers: u32,
@@ -104,7 +110,7 @@ fn explore_rounds<R: Threads + Sync, W: Watch>(
     requires one { workers * size < 2 ^ 64 }
     requires whole { length (inputs_of scope) ≤ rounds * (workers * size) }
     requires room { rounds * (workers * size) < 2 ^ 64 }
-    ensures found { IfOk result (λ r. found_is r ≡ found program.now bound (inputs_of scope)) }
+    ensures found { IfOk result (λ r. found_is r ≡ found specification.now program.now bound (inputs_of scope)) }
 {
     let all_inputs = input_count(scope).unwrap_or(0);
     let step = u64::from(workers) * size;
@@ -115,6 +121,7 @@ fn explore_rounds<R: Threads + Sync, W: Watch>(
             rt,
             alloc,
             program,
+            specification,
             scope,
             bound,
             workers,
@@ -126,14 +133,15 @@ fn explore_rounds<R: Threads + Sync, W: Watch>(
     Ok(all)
 }
 
-/// Runs a program on every input of a scope, as [`explore`] does, by so many workers in threads: each takes a block of the inputs in their
-/// order, and what they find is told as one worker finds it. E11 where an input has more values than the program has cells; E16 only where
-/// memory was refused. Where no thread can be made, blocks are run one after the other. One worker tells the watch before each run how many
-/// were made, several before each sixteenth of them; and it is closed behind the last.
+/// Runs a program on each input of a scope that counts, as [`explore`] does, by so many workers in threads: each takes a block of the
+/// inputs in their order, and what they find is told as one worker finds it. E11 where an input has more values than the program has cells,
+/// or the precondition; E16 only where memory was refused. Where no thread can be made, blocks are run one after the other. One worker
+/// tells the watch before each input how many were tried, several before each sixteenth of them; and it is closed behind the last.
 pub fn explore_by<R: Threads + Sync, W: Watch>(
     rt: &R,
     alloc: Global,
     program: &Program,
+    specification: &Specification,
     scope: Scope,
     bound: u32,
     workers: u32,
@@ -141,18 +149,27 @@ pub fn explore_by<R: Threads + Sync, W: Watch>(
 ) -> Result<Findings, MeaningRefusal>
     requires some { 0 < workers }
     requires few { length (inputs_of scope) + workers < 2 ^ 64 }
-    ensures found { IfOk result (λ r. found_is r ≡ found program.now bound (inputs_of scope)) }
-    ensures too_long { (result ≡ Err MeaningRefusal.InputTooLong) ↔ (total_size program.now.layout < scope.count) }
+    ensures found { IfOk result (λ r. found_is r ≡ found specification.now program.now bound (inputs_of scope)) }
+    ensures too_long { (result ≡ Err MeaningRefusal.InputTooLong) ↔ (most_values specification.now.precondition program.now < scope.count) }
 {
     if workers == 1 {
-        return explore(alloc, program, scope, bound, watch);
+        return explore(alloc, program, specification, scope, bound, watch);
     }
-    if scope.count > program.layout().cells() {
+    if scope.count > most_values(&specification.precondition, program) {
         return Err(MeaningRefusal::InputTooLong);
     }
     let (rounds, size) = shares(input_count(scope).unwrap_or(0), workers);
     let found = explore_rounds(
-        rt, alloc, program, scope, bound, workers, rounds, size, watch,
+        rt,
+        alloc,
+        program,
+        specification,
+        scope,
+        bound,
+        workers,
+        rounds,
+        size,
+        watch,
     );
     watch.close();
     match found {

@@ -2,13 +2,13 @@ use Rattle.scopes.proofs.Told.{all_told, first_told, occur, told_once}
 use Rattle.scopes.proofs.exploration_laws.the_first_faults_are_told.Goals as goal
 
 pub returns-clause-occur : goal.returns-clause-occur
-returns-clause-occur c = λ p n inputs. occur p n inputs
+returns-clause-occur c = λ s p n inputs. occur s p n inputs
 
 pub returns-clause-all : goal.returns-clause-all
-returns-clause-all c = λ p n inputs input f in' h. all_told p n inputs input f in' h
+returns-clause-all c = λ s p n inputs input f in' h. all_told s p n inputs input f in' h
 
 pub returns-clause-once : goal.returns-clause-once
-returns-clause-once c = λ p n inputs. told_once p n inputs
+returns-clause-once c = λ s p n inputs. told_once s p n inputs
 
 pub returns-clause-first : goal.returns-clause-first
-returns-clause-first c = λ p n before behind input f h none. first_told p n before behind input f h none
+returns-clause-first c = λ s p n before behind input f here h none. first_told s p n before behind input f here h none

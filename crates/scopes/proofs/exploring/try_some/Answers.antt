@@ -7,6 +7,7 @@ use Rattle.scopes.proofs.exploring.try_some.Goals as goal
 
 pub trying-preserved : goal.trying-preserved
 trying-preserved g c =
+    let s = c.args.specification.now in
     let p = c.args.program.now in
     let n = c.args.bound in
     let first = c.args.inputs in
@@ -21,9 +22,10 @@ trying-preserved g c =
     let is : left ≡ here ∷ rest = c.advance.ensures.left ∙ ap (λ (x : List ℤ). x ∷ rest) (sym c.values-next.ensures.values) in
     record {
       same = c.advance.ensures.same ∙ c.trying.invariant.same;
-      so_far = subst (λ (t : Scope). Explored p n whole c.args.most (inputs_left t new.over new.input.items) g) (sym c.advance.ensures.same)
-          (further p n whole c.args.most left rest here f g c.trying.invariant.so_far c.trying-test.true is
-          c.in_ok-try_input.ensures.found);
+      so_far = subst (λ (t : Scope). Explored s p n whole c.args.most (inputs_left t new.over new.input.items) g)
+          (sym c.advance.ensures.same)
+          (further s p n whole c.args.most left rest here f g c.trying.invariant.so_far c.trying-test.true is
+          c.in-Ok.ensures.found);
     }
 
 pub trying-smaller : goal.trying-smaller

@@ -11,12 +11,12 @@ use Rattle.scopes.specs.declared.findings.Findings.{Findings}
 use Rattle.scopes.specs.Found.{found, found_is}
 use Rattle.std.proofs.lemmas.List.{length-drop}
 use Rattle.scopes.proofs.Blocks.{dropped_on, next_is, one_more, room_for}
-use Rattle.scopes.proofs.Shared.{program_sync}
+use Rattle.scopes.proofs.Shared.{program_sync, specification_sync}
 use Rattle.scopes.proofs.side_by_side.explore_blocks.Goals as goal
 
 pub map_indices-requires-sync-F : goal.map_indices-requires-sync-F
 map_indices-requires-sync-F g c κs within =
-    search (program_sync, scope.the_sync, global.the_sync, crosses, sendable) depth 60 fits 20000
+    search (specification_sync, program_sync, scope.the_sync, global.the_sync, crosses, sendable) depth 60 fits 20000
 
 pub append-requires : goal.append-requires
 append-requires g c =
@@ -35,11 +35,12 @@ append-requires g c =
     let from = drop c.args.place (inputs_of c.args.scope) in
     let there : drop (c.args.place + length y * c.args.size) (inputs_of c.args.scope) ≡ drop (length y * c.args.size) from =
     dropped_on c.args.place (length y * c.args.size) (inputs_of c.args.scope) in
-    let told : found_is c.in-Ok.found ≡ found c.args.program.now c.args.bound (take c.args.size (drop (length y * c.args.size) from)) =
-    subst (λ (r : Result Findings MeaningRefusal). IfOk r (λ f. found_is f ≡ found c.args.program.now c.args.bound
+    let told : found_is c.in-Ok.found ≡ found c.args.specification.now c.args.program.now c.args.bound (take c.args.size (drop
+    (length y * c.args.size) from)) =
+    subst (λ (r : Result Findings MeaningRefusal). IfOk r (λ f. found_is f ≡ found c.args.specification.now c.args.program.now c.args.bound
     (take c.args.size (drop (c.args.place + length y * c.args.size) (inputs_of c.args.scope))))) is found_by
-    ∙ ap (λ xs. found c.args.program.now c.args.bound (take c.args.size xs)) there in
-    let room = room_for c.args.program.now c.args.bound from (length y) c.args.size (found_is c.merging.all)
+    ∙ ap (λ xs. found c.args.specification.now c.args.program.now c.args.bound (take c.args.size xs)) there in
+    let room = room_for c.args.specification.now c.args.program.now c.args.bound from (length y) c.args.size (found_is c.merging.all)
     (found_is c.in-Ok.found) c.merging.invariant.so_far told in
     let fewer_left = length-drop c.args.place (inputs_of c.args.scope) in
     let few = c.requires.few in
@@ -64,13 +65,14 @@ merging-preserved g c =
     let from = drop c.args.place (inputs_of c.args.scope) in
     let there : drop (c.args.place + length y * c.args.size) (inputs_of c.args.scope) ≡ drop (length y * c.args.size) from =
     dropped_on c.args.place (length y * c.args.size) (inputs_of c.args.scope) in
-    let told : found_is c.in-Ok.found ≡ found c.args.program.now c.args.bound (take c.args.size (drop (length y * c.args.size) from)) =
-    subst (λ (r : Result Findings MeaningRefusal). IfOk r (λ f. found_is f ≡ found c.args.program.now c.args.bound
+    let told : found_is c.in-Ok.found ≡ found c.args.specification.now c.args.program.now c.args.bound (take c.args.size (drop
+    (length y * c.args.size) from)) =
+    subst (λ (r : Result Findings MeaningRefusal). IfOk r (λ f. found_is f ≡ found c.args.specification.now c.args.program.now c.args.bound
     (take c.args.size (drop (c.args.place + length y * c.args.size) (inputs_of c.args.scope))))) is found_by
-    ∙ ap (λ xs. found c.args.program.now c.args.bound (take c.args.size xs)) there in
+    ∙ ap (λ xs. found c.args.specification.now c.args.program.now c.args.bound (take c.args.size xs)) there in
     record {
       rest = append_assoc y (b ∷ []) left ∙ rest;
-      so_far = one_more c.args.program.now c.args.bound from (length y) (length (y ++ b ∷ [])) c.args.size
+      so_far = one_more c.args.specification.now c.args.program.now c.args.bound from (length y) (length (y ++ b ∷ [])) c.args.size
           (found_is c.merging.all) (found_is c.in-Ok.found) (found_is c.append.new.self) c.merging.invariant.so_far told
           c.in_ok-append.ensures (length-append y (b ∷ []));
     }

@@ -5,6 +5,6 @@ use Rattle.scopes.proofs.side_by_side.explore_rounds.Given as goal
 
 abbrev pub invariant-rounds : goal.invariant-rounds
 invariant-rounds g l = record {
-  so_far : found_is l.all ≡ found l.fn.program l.fn.bound (take (l.round * l.step) (inputs_of l.fn.scope));
+  so_far : found_is l.all ≡ found l.fn.specification l.fn.program l.fn.bound (take (l.round * l.step) (inputs_of l.fn.scope));
   step : l.step ≡ l.fn.workers * l.fn.size;
 }

@@ -1,4 +1,4 @@
-//! The first input on which the run goes on.
+//! The first input of a kind.
 
 ghost use Rattle.std.specs.Prelude.{◌≡◌, OnOk, Some};
 ghost use Rattle.std.specs.Option.{option_map, option_or};
@@ -6,8 +6,8 @@ ghost use Rattle.scopes.specs.Found.{values_of};
 
 use std::alloc::{AllocError, Global};
 
-/// Keeps an input on which the run goes on, where none was kept before.
-pub(crate) fn keep_going_on(
+/// Keeps an input where none was kept before.
+pub(crate) fn keep_input(
     alloc: Global,
     kept: &mut Option<Vec<i64>>,
     input: &[i64],
@@ -23,7 +23,7 @@ pub(crate) fn keep_going_on(
     Ok(())
 }
 
-/// Keeps the first input on which the run goes on: the one before, or else the one behind.
+/// Keeps the first of two inputs: the one before, or else the one behind.
 pub(crate) fn keep_first(kept: &mut Option<Vec<i64>>, behind: Option<Vec<i64>>)
     ensures { option_map values_of kept.new ≡ option_or (option_map values_of kept.old) (option_map values_of behind) }
 {
