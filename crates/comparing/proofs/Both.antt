@@ -1,34 +1,20 @@
 -- Which declarations two programs both have, and where.
-use Rattle.std.proofs.Common.{◌≡◌, ◌≢◌, ◌⊎◌, ℕ, zero, suc, ◌+◌, ◌≤◌, Bool, true, false, ◌&&◌, cond, Option, Some, None, ℤ, List, [], ◌∷◌}
+use Rattle.std.proofs.Common.{◌≡◌, ◌≢◌, ◌⊎◌, ℕ, zero, suc, ◌+◌, ◌≤◌, Bool, true, false, ◌&&◌, cond, Option, Some, None, List, [], ◌∷◌}
 use Rattle.std.proofs.Common.{◌++◌}
 use Rattle.std.proofs.Common.{map, refl, ap, sym, subst, inl, inr, ◌∙◌, arith, zero-add, add_assoc}
-use Rattle.std.proofs.lemmas.Bool.Decides.{Decides-eqb, Decides-int_eq}
 use Rattle.std.proofs.lemmas.List.Elements.{All-cons, All-head, All-map, All-nil, All-tail, All-weaker}
 use Rattle.std.proofs.lemmas.List.Kept.{AllPairs-cons}
 use Rattle.std.specs.List.{All, AllPairs, Any, Contains, cons_option, filter_map, find}
 use Rattle.std.specs.Option.{option_map}
-use Rattle.std.specs.Ordering.{int_eq}
 use Rattle.pram_model.specs.Layout.{SharedEntry, size, total_size}
 use Rattle.pram_model.specs.Names.{same_text}
 use Rattle.pram_model.proofs.Texts.{same_is, same_itself}
+use Rattle.scopes.proofs.Bounds.{both_true, bounds_itself, one_bounds}
 use Rattle.comparing.specs.declared.compared.CommonRange.{CommonRange}
-use Rattle.comparing.specs.Common.{Placed, Shared, StandsAt, both, common, placed, range_of, same_bounds, same_entry, shared, shared_with}
+use Rattle.comparing.specs.Common.{Shared, both, common, range_of, same_entry, shared, shared_with}
+use Rattle.scopes.specs.Handed.{Placed, StandsAt, placed, same_bounds}
 
 -- ---- one declaration
-
-both_true : (a b : Bool) → a && b ≡ true → (a ≡ true) × (b ≡ true)
-both_true true b h = (refl, h)
-both_true false b h = absurd (cc h)
-
-one_bounds : (a b : Option (ℤ × ℤ)) → same_bounds a b ≡ true → a ≡ b
-one_bounds None None h = refl
-one_bounds None (Some b) h = absurd (cc h)
-one_bounds (Some a) None h = absurd (cc h)
-one_bounds (Some (low, high)) (Some (from, to)) h =
-    let parts = both_true (int_eq low from) (int_eq high to) h in
-    let lows = (Decides-int_eq low from).0 parts.0 in
-    let highs = (Decides-int_eq high to).0 parts.1 in
-    λ i. Some (lows i, highs i)
 
 pub one_entry : (e f : SharedEntry) → same_entry e f ≡ true → e ≡ f
 one_entry e f h =
@@ -36,11 +22,6 @@ one_entry e f h =
     let names = same_is e.name f.name parts.0 in
     let bounds = one_bounds e.bounds f.bounds parts.1 in
     λ i. record { name = names i; bounds = bounds i }
-
-bounds_itself : (a : Option (ℤ × ℤ)) → same_bounds a a ≡ true
-bounds_itself None = refl
-bounds_itself (Some (low, high)) =
-    ap (λ (b : Bool). b && int_eq high high) ((Decides-int_eq low low).1 refl) ∙ (Decides-int_eq high high).1 refl
 
 pub entry_itself : (e : SharedEntry) → same_entry e e ≡ true
 entry_itself e = ap (λ (b : Bool). b && same_bounds e.bounds e.bounds) (same_itself e.name) ∙ bounds_itself e.bounds

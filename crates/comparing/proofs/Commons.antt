@@ -8,8 +8,9 @@ use Rattle.std.specs.Prelude.{slice_get}
 use Rattle.pram_model.specs.Layout.{SharedEntry}
 use Rattle.pram_model.specs.Names.{same_text}
 use Rattle.comparing.specs.declared.compared.CommonRange.{CommonRange}
-use Rattle.comparing.specs.Common.{Placed, Shared, both, is_named, range_of, shared_with}
-use Rattle.comparing.proofs.Lists.{chosen_from, chosen_until, find_cons, or_map}
+use Rattle.comparing.specs.Common.{Shared, both, is_named, range_of, shared_with}
+use Rattle.scopes.specs.Handed.{Placed}
+use Rattle.scopes.proofs.Lists.{chosen_from, chosen_until, find_cons, or_map}
 
 -- ---- by a name
 

@@ -3,9 +3,10 @@ use Rattle.std.proofs.Common.{◌≡◌, ℕ, zero, suc, ◌+◌, ◌≤◌, Boo
 use Rattle.std.proofs.Common.{refl, ap, sym, subst, ◌∙◌, arith}
 use Rattle.std.specs.Prelude.{if◌then◌else◌, slice_get}
 use Rattle.pram_model.specs.Layout.{SharedEntry, size, total_size}
-use Rattle.comparing.specs.Common.{IsBeginning, Placed, front, front_cells, placed, same_entry}
+use Rattle.comparing.specs.Common.{IsBeginning, front, front_cells, same_entry}
+use Rattle.scopes.specs.Handed.{Placed, placed}
 use Rattle.comparing.proofs.Both.{entry_itself, one_entry}
-use Rattle.comparing.proofs.Lists.{drop_over}
+use Rattle.scopes.proofs.Lists.{drop_over}
 
 -- ---- the longest beginning
 

@@ -10,7 +10,7 @@ use Rattle.std.specs.Prelude.{◌↔◌, ◌/◌, is_none, min, slice_get}
 use Rattle.pram_check.specs.Checked.{Checked}
 use Rattle.comparing.specs.declared.compared.Compared.{Compared}
 use Rattle.comparing.specs.declared.difference.Difference.{Difference}
-use Rattle.comparing.specs.Found.{Differing, difference_on, differing, found, most_told, same}
+use Rattle.comparing.specs.Found.{Differing, difference_on, differing, found_of_counting, most_told, same}
 use Rattle.comparing.specs.Told.{IsDiffering, IsFirst}
 
 -- ---- how many
@@ -36,9 +36,9 @@ none_taken zero ds some h = absurd (omega (arith, some))
 none_taken (suc m) [] some h = refl
 none_taken (suc m) (d ∷ ds) some h = absurd (cc h)
 
-pub nothing_told : (p q : Checked) (c : Compared) (n most : ℕ) (inputs : List (List ℤ)) → 0 < most →
-    ((found p q c n most inputs).told ≡ []) ↔ ((found p q c n most inputs).same ≡ length inputs)
-nothing_told p q c n most inputs some =
+pub nothing_told : (p q : Checked) (c : Compared) (n most many : ℕ) (inputs : List (List ℤ)) → 0 < most →
+    ((found_of_counting p q c n most many inputs).told ≡ []) ↔ ((found_of_counting p q c n most many inputs).same ≡ length inputs)
+nothing_told p q c n most many inputs some =
     let all = counted p q c n inputs in (
       λ h. let none : length (differing p q c n inputs) ≡ 0 =
           ap (λ (ds : List Differing). length ds) (none_taken most (differing p q c n inputs) some h) in
@@ -46,12 +46,12 @@ nothing_told p q c n most inputs some =
       λ h. ap (take most) (none_left (differing p q c n inputs) (omega (arith, all, h))) ∙ take-nil most,
     )
 
-pub how_many : (p q : Checked) (c : Compared) (n most : ℕ) (inputs : List (List ℤ)) →
-    length (found p q c n most inputs).told ≡ min most (length inputs - (found p q c n most inputs).same)
-how_many p q c n most inputs =
+pub how_many : (p q : Checked) (c : Compared) (n most many : ℕ) (inputs : List (List ℤ)) →
+    length (found_of_counting p q c n most many inputs).told ≡ min most (length inputs - (found_of_counting p q c n most many inputs).same)
+how_many p q c n most many inputs =
     let all = counted p q c n inputs in
-    let many : length (differing p q c n inputs) ≡ length inputs - length (same p q c n inputs) = omega (arith, all) in
-    length-take most (differing p q c n inputs) ∙ ap (min most) many
+    let differ : length (differing p q c n inputs) ≡ length inputs - length (same p q c n inputs) = omega (arith, all) in
+    length-take most (differing p q c n inputs) ∙ ap (min most) differ
 
 at_least_one : (a : ℕ) → 0 < max a 1
 at_least_one a = omega arith

@@ -3,8 +3,6 @@ pub mod Commons
 pub mod Fronts
 pub mod Gone
 pub mod Inputs
-pub mod Lists
-pub mod Places
 pub mod Pushed
 pub mod Runs
 pub mod So

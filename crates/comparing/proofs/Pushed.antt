@@ -1,6 +1,6 @@
 -- What is found with one input more.
 use Rattle.std.proofs.Common.{◌≡◌, ◌<◌, ◌≤◌, ℕ, Bool, true, false, nat_lt, cond, Option, Some, None, ℤ, List, [], ◌∷◌, ◌++◌, length, take}
-use Rattle.std.proofs.Common.{ap, sym, inl, inr, ◌∙◌, arith}
+use Rattle.std.proofs.Common.{ap, refl, sym, inl, inr, ◌+◌, ◌∙◌, arith}
 use Rattle.std.proofs.lemmas.Bool.{cases_lt}
 use Rattle.std.proofs.lemmas.Bool.Decides.{nat_tests}
 use Rattle.std.proofs.lemmas.List.{append-nil, length-take-le, length_push, take-append-le}
@@ -11,8 +11,11 @@ use Rattle.std.specs.Prelude.{if◌then◌else◌, is_none}
 use Rattle.pram_check.specs.Checked.{Checked}
 use Rattle.comparing.specs.declared.compared.Compared.{Compared}
 use Rattle.comparing.specs.declared.difference.Difference.{Difference}
-use Rattle.comparing.specs.Found.{Differing, added, difference_on, differing, differing_on, found, same, with_more}
-use Rattle.comparing.proofs.Lists.{take_over}
+use Rattle.comparing.specs.Found.{Differing, added, difference_on, differing, differing_on, found, found_of_counting, same, skipped}
+use Rattle.comparing.specs.Found.{with_input, with_more}
+use Rattle.scopes.specs.Specified.{counting, counts}
+use Rattle.scopes.proofs.Pushed.{counts_not, counts_too}
+use Rattle.scopes.proofs.Lists.{take_over}
 
 -- ---- one more of those that are told
 
@@ -55,22 +58,40 @@ told p q c n xs x o e =
     ∙ ap (λ (v : Option Difference). differing p q c n xs
     ++ cons_option (option_map (λ (d : Difference). record { input = x; difference = d }) v) []) e
 
-pub added_is : (p q : Checked) (c : Compared) (n most : ℕ) (xs : List (List ℤ)) (x : List ℤ) (o : Option Difference) →
-    difference_on p q c n x ≡ o → found p q c n most (xs ++ x ∷ []) ≡ added most o x (found p q c n most xs)
-added_is p q c n most xs x None e =
+run_added : (p q : Checked) (c : Compared) (n most m k : ℕ) (xs : List (List ℤ)) (x : List ℤ) (o : Option Difference) →
+    difference_on p q c n x ≡ o → k ≡ m + 1 →
+    found_of_counting p q c n most k (xs ++ x ∷ []) ≡ added most o x (found_of_counting p q c n most m xs)
+run_added p q c n most m k xs x None e add =
     let ss = kept p q c n xs x None e in
     let ds = told p q c n xs x None e ∙ append-nil (differing p q c n xs) in
     λ i. record {
-      inputs = (length_push xs x) i;
+      inputs = add i;
+      counting = (length_push xs x) i;
       same = (ap (λ (ys : List (List ℤ)). length ys) ss ∙ length_push (same p q c n xs) x) i;
       told = take most (ds i);
     }
-added_is p q c n most xs x (Some d) e =
+run_added p q c n most m k xs x (Some d) e add =
     let ss = kept p q c n xs x (Some d) e ∙ append-nil (same p q c n xs) in
-    let m : Differing = record { input = x; difference = d } in
+    let one : Differing = record { input = x; difference = d } in
     let ds = told p q c n xs x (Some d) e in
     λ i. record {
-      inputs = (length_push xs x) i;
+      inputs = add i;
+      counting = (length_push xs x) i;
       same = length (ss i);
-      told = (ap (take most) ds ∙ sym (one_more most (differing p q c n xs) m)) i;
+      told = (ap (take most) ds ∙ sym (one_more most (differing p q c n xs) one)) i;
     }
+
+input_step : (w : Option Checked) (p q : Checked) (c : Compared) (n most : ℕ) (xs : List (List ℤ)) (x : List ℤ) (b : Bool) →
+    counts w n x ≡ b → found w p q c n most (xs ++ x ∷ [])
+    ≡ (if b then added most (difference_on p q c n x) x (found w p q c n most xs) else skipped (found w p q c n most xs))
+input_step w p q c n most xs x true e =
+    ap (found_of_counting p q c n most (length (xs ++ x ∷ []))) (counts_too w n xs x e)
+    ∙ run_added p q c n most (length xs) (length (xs ++ x ∷ [])) (counting w n xs) x (difference_on p q c n x) refl (length_push xs x)
+input_step w p q c n most xs x false e =
+    ap (found_of_counting p q c n most (length (xs ++ x ∷ []))) (counts_not w n xs x e)
+    ∙ ap (λ (k : ℕ). found_of_counting p q c n most k (counting w n xs)) (length_push xs x)
+
+-- what is found of inputs and one more
+pub input_added : (w : Option Checked) (p q : Checked) (c : Compared) (n most : ℕ) (xs : List (List ℤ)) (x : List ℤ) →
+    found w p q c n most (xs ++ x ∷ []) ≡ with_input w p q c n most x (found w p q c n most xs)
+input_added w p q c n most xs x = input_step w p q c n most xs x (counts w n x) refl

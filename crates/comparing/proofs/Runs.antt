@@ -19,7 +19,7 @@ use Rattle.comparing.specs.Differences.{exceeded, excesses, first_difference, li
 use Rattle.comparing.specs.Ends.{cell_difference, cell_differences, output_difference, output_differences, range_differences}
 use Rattle.comparing.specs.Told.{AgreeOn, ComeToTheSame, IsAtMost, KeepsTo}
 use Rattle.comparing.specs.Unequal.{unequals}
-use Rattle.comparing.proofs.Lists.{first_none}
+use Rattle.scopes.proofs.Lists.{first_none}
 use Rattle.comparing.proofs.Values.{all_same, none_unequal, one_list}
 
 -- ---- lists

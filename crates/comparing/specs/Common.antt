@@ -1,33 +1,17 @@
 -- What two programs both declare: the declarations of one name with the same bounds, and their cells.
-use Rattle.std.specs.Prelude.{◌≡◌, ℕ, ◌+◌, ℤ, Bool, true, false, ◌&&◌, List, [], ◌∷◌, ◌++◌, Option, Some, None, map, if◌then◌else◌}
+use Rattle.std.specs.Prelude.{◌≡◌, ℕ, Bool, ◌&&◌, List, [], ◌∷◌, ◌++◌, Option, map, if◌then◌else◌}
 use Rattle.std.specs.List.{filter_map, find}
 use Rattle.std.specs.Option.{option_map}
-use Rattle.std.specs.Ordering.{int_eq}
 use Rattle.pram_model.specs.Layout.{SharedEntry, size, total_size}
 use Rattle.pram_model.specs.Names.{same_text}
+use Rattle.scopes.specs.Handed.{Placed, placed, same_bounds}
 use Rattle.comparing.specs.declared.compared.CommonRange.{CommonRange}
 
 -- ---- one declaration
 
-abbrev pub same_bounds : Option (ℤ × ℤ) → Option (ℤ × ℤ) → Bool
-same_bounds None None = true
-same_bounds None (Some b) = false
-same_bounds (Some a) None = false
-same_bounds (Some (low, high)) (Some (from, to)) = int_eq low from && int_eq high to
-
 -- of one name, with the same bounds
 abbrev pub same_entry : SharedEntry → SharedEntry → Bool
 same_entry e f = same_text e.name f.name && same_bounds e.bounds f.bounds
-
--- a declaration, and the number of its first cell
-pub record Placed : Type 0 where
-  pub entry : SharedEntry
-  pub start : ℕ
-
--- those of a program in order, where the cells are numbered on from a number
-abbrev pub placed : ℕ → List SharedEntry → List Placed
-placed start [] = []
-placed start (e ∷ es) = record { entry = e; start = start } ∷ placed (start + size e.bounds) es
 
 -- ---- what both declare
 
@@ -74,10 +58,3 @@ front_cells first second = total_size (front first second)
 
 abbrev pub IsBeginning : (before all : List SharedEntry) → Type 0
 IsBeginning before all = (behind : List SharedEntry) × (all ≡ before ++ behind)
-
--- ---- where a declaration stands
-
--- a program has it, with its cells from that number on
-abbrev pub StandsAt : List SharedEntry → SharedEntry → (start : ℕ) → Type 0
-StandsAt l e start =
-    (before : List SharedEntry) × (behind : List SharedEntry) × (l ≡ before ++ e ∷ behind) × (start ≡ total_size before)

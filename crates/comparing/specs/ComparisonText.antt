@@ -1,6 +1,7 @@
 -- How a comparison is written.
 use Rattle.std.specs.Prelude.{ℕ, ℤ, List, [], ◌∷◌, ◌++◌, Option, Some, None, codes, decimal}
 use Rattle.std.specs.Fmt.{signed_decimal}
+use Rattle.pram_check.specs.Checked.{Checked}
 use Rattle.pram_model.specs.Layout.{SharedEntry}
 use Rattle.program_texts.specs.Shown.{cell_text, fault_text, spaced}
 use Rattle.comparing.specs.declared.difference.Difference.{Difference}
@@ -55,8 +56,19 @@ difference_text first second (differ.Work taken limit) = excess_text (codes "wor
 -- ---- all that is found
 
 -- `inputs 625 same 624`
-abbrev pub counts_line : Found → List ℕ
-counts_line f = codes "inputs " ++ (decimal f.inputs ++ (codes " same " ++ (decimal f.same ++ codes "\n")))
+abbrev pub all_counts : Found → List ℕ
+all_counts f = codes "inputs " ++ (decimal f.inputs ++ (codes " same " ++ (decimal f.same ++ codes "\n")))
+
+-- `inputs 625 counting 24 same 20`
+abbrev pub some_counts : Found → List ℕ
+some_counts f =
+    codes "inputs " ++ (decimal f.inputs ++ (codes " counting " ++ (decimal f.counting ++ (codes " same " ++ (decimal f.same
+    ++ codes "\n")))))
+
+-- the second with a precondition, and else the first
+abbrev pub counts_line : Option Checked → Found → List ℕ
+counts_line None f = all_counts f
+counts_line (Some w) f = some_counts f
 
 -- `cells 8`, how many are drawn, where inputs are
 abbrev pub cells_line : Option ℕ → List ℕ
@@ -75,5 +87,5 @@ first_line first second (d ∷ told) = differing_line first second d
 
 -- how many inputs there are and on how many both come to the same; how many cells are drawn; and the first input on which they don't, if
 -- there is one
-abbrev pub comparison_text : (first second : List SharedEntry) → (cells : Option ℕ) → Found → List ℕ
-comparison_text first second cells f = counts_line f ++ (cells_line cells ++ first_line first second f.told)
+abbrev pub comparison_text : (first second : List SharedEntry) → Option Checked → (cells : Option ℕ) → Found → List ℕ
+comparison_text first second w cells f = counts_line w f ++ (cells_line cells ++ first_line first second f.told)

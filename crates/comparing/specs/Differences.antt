@@ -8,7 +8,7 @@ use Rattle.write_rules.specs.Verdict.{Verdict, Ended, Faulted, GoesOn}
 use Rattle.costs.specs.Cost.{time, work}
 use Rattle.costs.specs.Steps.{run_steps}
 use Rattle.scopes.specs.Firsts.{kind_number}
-use Rattle.scopes.specs.Found.{is_end, verdict_on}
+use Rattle.scopes.specs.Runs.{is_end, verdict_on}
 use Rattle.comparing.specs.declared.compared.CommonRange.{CommonRange}
 use Rattle.comparing.specs.declared.compared.Compared.{Compared}
 use Rattle.comparing.specs.declared.compared.Limits.{Limits}

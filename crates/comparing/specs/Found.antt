@@ -1,5 +1,6 @@
 -- What is found of two programs on inputs.
-use Rattle.std.specs.Prelude.{ℕ, ◌+◌, ◌/◌, max, min, nat_lt, ℤ, if◌then◌else◌, List, [], ◌∷◌, ◌++◌, Option, Some, None, is_none, Vec}
+use Rattle.std.specs.Prelude.{ℕ, ◌+◌, ◌/◌, max, min, nat_lt, Bool, false, ℤ, if◌then◌else◌, List, [], ◌∷◌, ◌++◌, Option, Some, None}
+use Rattle.std.specs.Prelude.{is_none, Vec}
 use Rattle.std.specs.Prelude.{length, map, take}
 use Rattle.std.specs.Global.{Global}
 use Rattle.std.specs.List.{filter, filter_map, fold, range_with_len}
@@ -7,7 +8,8 @@ use Rattle.std.specs.Option.{option_map}
 use Rattle.scopes.specs.Drawn.{drawn}
 use Rattle.pram_model.specs.Layout.{total_size}
 use Rattle.pram_check.specs.Checked.{Checked}
-use Rattle.scopes.specs.Found.{verdict_on}
+use Rattle.scopes.specs.Runs.{verdict_on}
+use Rattle.scopes.specs.Specified.{counting, counts}
 use Rattle.comparing.specs.declared.comparison.Comparison.{Comparison}
 use Rattle.comparing.specs.declared.comparison.FoundDifference.{FoundDifference}
 use Rattle.comparing.specs.declared.compared.Compared.{Compared}
@@ -42,16 +44,26 @@ same p q c n inputs = filter (λ input. is_none (difference_on p q c n input)) i
 
 pub record Found : Type 0 where
   pub inputs : ℕ
+  pub counting : ℕ
   pub same : ℕ
   pub told : List Differing
 
--- how many there are, on how many they come to the same, and the first on which they differ, at most so many
-abbrev pub found : (p q : Checked) → Compared → (n most : ℕ) → List (List ℤ) → Found
-found p q c n most inputs = record {
-  inputs = length inputs;
+-- of these inputs, all of so many that count: on how many they come to the same, and the first on which they differ, at most so many
+abbrev pub found_of_counting : (p q : Checked) → Compared → (n most many : ℕ) → List (List ℤ) → Found
+found_of_counting p q c n most many inputs = record {
+  inputs = many;
+  counting = length inputs;
   same = length (same p q c n inputs);
   told = take most (differing p q c n inputs);
 }
+
+-- of those of these inputs that count by a precondition
+abbrev pub found : Option Checked → (p q : Checked) → Compared → (n most : ℕ) → List (List ℤ) → Found
+found w p q c n most inputs = found_of_counting p q c n most (length inputs) (counting w n inputs)
+
+-- the same, where there are so many inputs
+abbrev pub of_so_many : ℕ → Found → Found
+of_so_many many f = record f { inputs = many }
 
 -- how many of the first on which they differ are told, of so many values each: at most 1,000, and no more than have a million values
 -- together, but one in any case
@@ -64,31 +76,49 @@ abbrev pub differing_is : FoundDifference → Differing
 differing_is f = record { input = f.input.items; difference = f.difference }
 
 abbrev pub found_is : Comparison → Found
-found_is f = record { inputs = f.inputs; same = f.same; told = map differing_is f.told.items }
+found_is f = record { inputs = f.inputs; counting = f.counting; same = f.same; told = map differing_is f.told.items }
 
 -- ---- one input more
 
 -- nothing yet
 abbrev pub nothing : Found
-nothing = record { inputs = 0; same = 0; told = [] }
+nothing = record { inputs = 0; counting = 0; same = 0; told = [] }
 
 -- one more behind others, where there are fewer than so many
 abbrev pub with_more : (most : ℕ) → List Differing → Differing → List Differing
 with_more most ds d = if nat_lt (length ds) most then ds ++ d ∷ [] else ds
 
--- by what differs on it
+-- one that doesn't count
+abbrev pub skipped : Found → Found
+skipped f = record f { inputs = f.inputs + 1 }
+
+-- one that counts, by what differs on it
 abbrev pub added : (most : ℕ) → Option Difference → List ℤ → Found → Found
-added most None input f = record f { inputs = f.inputs + 1; same = f.same + 1 }
+added most None input f = record f { inputs = f.inputs + 1; counting = f.counting + 1; same = f.same + 1 }
 added most (Some d) input f =
-    record f { inputs = f.inputs + 1; told = with_more most f.told (record { input = input; difference = d }) }
+    record f {
+      inputs = f.inputs + 1;
+      counting = f.counting + 1;
+      told = with_more most f.told (record { input = input; difference = d });
+    }
+
+-- one input more
+abbrev pub with_input : Option Checked → (p q : Checked) → Compared → (n most : ℕ) → List ℤ → Found → Found
+with_input w p q c n most input f = if counts w n input then added most (difference_on p q c n input) input f else skipped f
 
 -- ---- inputs that are too long
 
--- of two programs that with fewer cells than so many values, the first before the second
-abbrev pub too_long : (p q : Checked) → ℕ → Option Side
-too_long p q count =
+-- a precondition has fewer cells than so many values
+abbrev pub has_fewer : Option Checked → ℕ → Bool
+has_fewer None count = false
+has_fewer (Some w) count = nat_lt (total_size w.layout) count
+
+-- what has fewer cells than so many values: the first program, or else the second, or else the precondition
+abbrev pub too_long : Option Checked → (p q : Checked) → ℕ → Option Side
+too_long w p q count =
     if nat_lt (total_size p.layout) count then Some side.First
     else if nat_lt (total_size q.layout) count then Some side.Second
+    else if has_fewer w count then Some side.Precondition
     else None
 
 -- the values of an input

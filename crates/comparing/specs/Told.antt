@@ -3,7 +3,7 @@ use Rattle.std.specs.Prelude.{◌≡◌, ◌≢◌, ◌≤◌, ◌<◌, ℕ, ◌
 use Rattle.std.specs.List.{All}
 use Rattle.pram_check.specs.Checked.{Checked}
 use Rattle.write_rules.specs.Verdict.{Verdict, Ended, Faulted, GoesOn}
-use Rattle.scopes.specs.Found.{is_end}
+use Rattle.scopes.specs.Runs.{is_end}
 use Rattle.comparing.specs.declared.compared.CommonRange.{CommonRange}
 use Rattle.comparing.specs.declared.compared.Compared.{Compared}
 use Rattle.comparing.specs.declared.compared.Limits.{Limits}

@@ -6,27 +6,12 @@ ghost use Rattle.std.specs.Option.{option_map};
 ghost use Rattle.pram_model.specs.Layout.{SharedEntry, total_size};
 ghost use Rattle.pram_model.specs.Names.{same_text};
 ghost use Rattle.comparing.specs.Common as spec;
-ghost use Rattle.comparing.specs.Common.{Placed, placed};
+ghost use Rattle.scopes.specs.Handed.{Placed, placed};
 
 use crate::compared::CommonRange;
 use pram_trees::Layout;
+use scopes::{are_same_bounds, is_same_text};
 use std::alloc::{AllocError, Global};
-
-fn is_same_text(text: &[u8], other: &[u8]) -> bool
-    ensures { result ≡ same_text text.now other.now }
-{
-    text == other
-}
-
-fn are_same_bounds(bounds: Option<(i64, i64)>, other: Option<(i64, i64)>) -> bool
-    ensures { result ≡ spec.same_bounds bounds other }
-{
-    match (bounds, other) {
-        (None, None) => true,
-        (Some((low, high)), Some((from, to))) => low == from && high == to,
-        (Some(_), None) | (None, Some(_)) => false,
-    }
-}
 
 // Whether two declarations are of one name, with the same bounds.
 fn is_same_entry(first: &Layout, i: usize, second: &Layout, j: usize) -> bool

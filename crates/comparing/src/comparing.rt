@@ -2,7 +2,7 @@
 
 ghost use Rattle.std.specs.Prelude.{◌≡◌, ◌≢◌, ◌↔◌, ◌+◌, ◌<◌, ◌^◌, [], ◌∷◌, ◌++◌, IfOk, OnOk, Some, length, map, List, ℤ};
 ghost use Rattle.scopes.specs.Scopes.{inputs_of};
-ghost use Rattle.comparing.specs.Found.{difference_on, drawn_inputs, found, found_is, values_of};
+ghost use Rattle.comparing.specs.Found.{added, difference_on, drawn_inputs, found, found_is, values_of, with_input};
 ghost use Rattle.comparing.specs.Found as spec;
 ghost use Rattle.comparing.specs.declared.refusal.Side as rust;
 
@@ -15,7 +15,7 @@ use crate::refusal::{ComparisonRefusal, longest, too_long};
 use costs::time_and_work;
 use pram_check::Program;
 use pram_meaning::reference_run;
-use scopes::{Drawing, Scope, draw, first_input};
+use scopes::{Drawing, Scope, draw, first_input, input_counts};
 use std::alloc::Global;
 
 // What differs first on an input that is not too long for either program.
@@ -40,8 +40,8 @@ fn difference(
     Ok(first_difference(compared, &outcome, &other, time, counted.work))
 }
 
-// Runs both programs on one input more.
-fn try_input(
+// Runs both programs on one input more that counts.
+fn compare_on(
     alloc: Global,
     first: &Program,
     second: &Program,
@@ -52,9 +52,8 @@ fn try_input(
     comparison: &mut Comparison,
 ) -> Result<(), ComparisonRefusal>
     requires room { comparison.old.inputs + 1 < 2 ^ 64 }
-    ensures found { OnOk result ((before : List (List ℤ)) →
-        found_is comparison.old ≡ found first.now second.now compared.now bound most before →
-        found_is comparison.new ≡ found first.now second.now compared.now bound most (before ++ input.now ∷ [])) }
+    ensures found { OnOk result (found_is comparison.new
+        ≡ added most (difference_on first.now second.now compared.now bound input.now) input.now (found_is comparison.old)) }
     ensures memory { (side : rust.Side) → result ≢ Err (ComparisonRefusal.InputTooLong side) }
 {
     let difference = difference(alloc, first, second, compared, input, bound)?;
@@ -64,28 +63,59 @@ fn try_input(
     }
 }
 
-/// Runs two programs on each input of a scope, each run for at most `bound` statements, and says what is found over just these inputs
-/// in their order: on how many the programs come to the same, and the first on which they don't, as many as [`most_told`] says. E11 where
-/// an input has more values than one of the programs has cells; E16 only where memory was refused.
+// Tries one input more: both programs are run on it where it counts.
+fn try_input(
+    alloc: Global,
+    first: &Program,
+    second: &Program,
+    precondition: &Option<Program>,
+    compared: &Compared,
+    input: &[i64],
+    bound: u32,
+    most: usize,
+    comparison: &mut Comparison,
+) -> Result<(), ComparisonRefusal>
+    requires room { comparison.old.inputs + 1 < 2 ^ 64 }
+    ensures found { OnOk result (found_is comparison.new
+        ≡ with_input precondition.now first.now second.now compared.now bound most input.now (found_is comparison.old)) }
+    ensures memory { (side : rust.Side) → result ≢ Err (ComparisonRefusal.InputTooLong side) }
+{
+    match input_counts(alloc, precondition, input, bound) {
+        Ok(true) => compare_on(
+            alloc, first, second, compared, input, bound, most, comparison,
+        ),
+        Ok(false) => {
+            comparison.skip();
+            Ok(())
+        }
+        Err(_) => Err(ComparisonRefusal::OutOfMemory),
+    }
+}
+
+/// Runs two programs on each input of a scope that counts, each run for at most `bound` statements, and says what is found over just these
+/// inputs in their order: how many there are and how many count, on how many of these the programs come to the same, and the first on which
+/// they don't, as many as [`most_told`] says. An input counts where the precondition affirms it within the same bound, and each where there
+/// is none. E11 where an input has more values than one of the programs has cells, or the precondition; E16 only where memory was refused.
 pub fn compare_scope(
     alloc: Global,
     first: &Program,
     second: &Program,
+    precondition: &Option<Program>,
     compared: &Compared,
     scope: Scope,
     bound: u32,
 ) -> Result<Comparison, ComparisonRefusal>
     requires few { length (inputs_of scope) < 2 ^ 64 }
-    // Over just the scope's inputs it tells on how many the programs come to the same, and the first on which they
-    // don't, as many as may be told.
-    ensures found { IfOk result (λ r. found_is r ≡ found first.now second.now compared.now bound (spec.most_told scope.count)
-        (inputs_of scope)) }
-    // The inputs are refused exactly where a program has fewer cells than they have values, the first program before
-    // the second.
+    // It tells on how many of the scope's inputs that count the programs come to the same, and the first on which they
+    // don't, as many as allowed.
+    ensures found { IfOk result (λ r. found_is r ≡ found precondition.now first.now second.now compared.now bound
+        (spec.most_told scope.count) (inputs_of scope)) }
+    // The inputs are refused exactly where a program has fewer cells than they have values: the first before the
+    // second, then the precondition.
     ensures too_long { (side : rust.Side) → (result ≡ Err (ComparisonRefusal.InputTooLong side))
-        ↔ (spec.too_long first.now second.now scope.count ≡ Some side) }
+        ↔ (spec.too_long precondition.now first.now second.now scope.count ≡ Some side) }
 {
-    if let Some(side) = too_long(first, second, scope.count as usize) {
+    if let Some(side) = too_long(first, second, precondition, scope.count as usize) {
         return Err(ComparisonRefusal::InputTooLong(side));
     }
     let Ok(mut inputs) = first_input(alloc, scope) else {
@@ -99,6 +129,7 @@ pub fn compare_scope(
             alloc,
             first,
             second,
+            precondition,
             compared,
             input,
             bound,
@@ -110,26 +141,27 @@ pub fn compare_scope(
     Ok(comparison)
 }
 
-/// The same on each of these inputs. E11 where any of them has more values than one of the programs has cells.
+/// The same on each of these inputs. E11 where any of them has more values than one of the programs has cells, or the precondition.
 pub fn compare_inputs(
     alloc: Global,
     first: &Program,
     second: &Program,
+    precondition: &Option<Program>,
     compared: &Compared,
     inputs: &[Vec<i64>],
     bound: u32,
 ) -> Result<Comparison, ComparisonRefusal>
-    // Over just these inputs it tells on how many the programs come to the same, and the first on which they don't, as
-    // many as may be told.
-    ensures found { IfOk result (λ r. found_is r ≡ found first.now second.now compared.now bound
+    // It tells on how many of these inputs that count the programs come to the same, and the first on which they don't,
+    // as many as allowed.
+    ensures found { IfOk result (λ r. found_is r ≡ found precondition.now first.now second.now compared.now bound
         (spec.most_told (spec.longest (map values_of inputs.now))) (map values_of inputs.now)) }
-    // They are refused exactly where a program has fewer cells than the longest has values, the first program before
-    // the second.
+    // They are refused exactly where a program has fewer cells than the longest has values: the first before the
+    // second, then the precondition.
     ensures too_long { (side : rust.Side) → (result ≡ Err (ComparisonRefusal.InputTooLong side))
-        ↔ (spec.too_long first.now second.now (spec.longest (map values_of inputs.now)) ≡ Some side) }
+        ↔ (spec.too_long precondition.now first.now second.now (spec.longest (map values_of inputs.now)) ≡ Some side) }
 {
     let values = longest(inputs);
-    if let Some(side) = too_long(first, second, values) {
+    if let Some(side) = too_long(first, second, precondition, values) {
         return Err(ComparisonRefusal::InputTooLong(side));
     }
     let most = most_told(values);
@@ -139,6 +171,7 @@ pub fn compare_inputs(
             alloc,
             first,
             second,
+            precondition,
             compared,
             input,
             bound,
@@ -172,11 +205,12 @@ fn draw_input(
 }
 
 /// The same on inputs that are drawn, each of `cells` values: what the seed of the drawing draws, what the next seed draws, and so on, as
-/// many as `count`. E11 where one of the programs has fewer cells.
+/// many as `count`. E11 where one of the programs has fewer cells, or the precondition.
 pub fn compare_drawn(
     alloc: Global,
     first: &Program,
     second: &Program,
+    precondition: &Option<Program>,
     compared: &Compared,
     drawing: Drawing,
     cells: u32,
@@ -184,15 +218,16 @@ pub fn compare_drawn(
     bound: u32,
 ) -> Result<Comparison, ComparisonRefusal>
     requires seeds { drawing.seed + count < 2 ^ 64 }
-    // Over just the inputs that these seeds draw it tells on how many the programs come to the same, and the first on
-    // which they don't, as many as allowed.
-    ensures found { IfOk result (λ r. found_is r ≡ found first.now second.now compared.now bound
+    // It tells on how many of the inputs that these seeds draw, and that count, the programs come to the same, and the
+    // first on which they don't.
+    ensures found { IfOk result (λ r. found_is r ≡ found precondition.now first.now second.now compared.now bound
         (spec.most_told cells) (drawn_inputs drawing.low drawing.high drawing.seed cells count)) }
-    // They are refused exactly where a program has fewer cells than are drawn, the first program before the second.
+    // They are refused exactly where a program has fewer cells than are drawn: the first before the second, then the
+    // precondition.
     ensures too_long { (side : rust.Side) → (result ≡ Err (ComparisonRefusal.InputTooLong side))
-        ↔ (spec.too_long first.now second.now cells ≡ Some side) }
+        ↔ (spec.too_long precondition.now first.now second.now cells ≡ Some side) }
 {
-    if let Some(side) = too_long(first, second, cells as usize) {
+    if let Some(side) = too_long(first, second, precondition, cells as usize) {
         return Err(ComparisonRefusal::InputTooLong(side));
     }
     let most = most_told(cells as usize);
@@ -203,6 +238,7 @@ pub fn compare_drawn(
             alloc,
             first,
             second,
+            precondition,
             compared,
             &input,
             bound,

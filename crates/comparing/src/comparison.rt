@@ -11,12 +11,14 @@ pub struct FoundDifference {
     pub difference: Difference,
 }
 
-/// What is found of two programs on some inputs: how many inputs there are, on how many the programs come to the same, and the first
-/// inputs on which they don't, in order.
+/// What is found of two programs on some inputs: how many inputs there are, how many of them count, on how many of these the programs come
+/// to the same, and the first of these on which they don't, in order.
 #[derive(Drop)]
 pub struct Comparison {
     pub inputs: u64,
+    pub counting: u64,
     pub same: u64,
     pub told: Vec<FoundDifference>,
-    ghost parts: { same ≤ inputs },
+    ghost parts: { same ≤ counting },
+    ghost some: { counting ≤ inputs },
 }

@@ -1,50 +1,67 @@
 //! The laws of this crate: what a comparison says of the runs of two programs.
 
-ghost use Rattle.std.specs.Prelude.{◌≡◌, ◌≢◌, ◌↔◌, ◌<◌, ◌≤◌, ◌+◌, ◌-◌, min, ℕ, ℤ, List, [], Some, None, length, slice_get};
+ghost use Rattle.std.specs.Prelude.{◌≡◌, ◌≢◌, ◌↔◌, ◌<◌, ◌≤◌, ◌+◌, ◌-◌, min, ℕ, ℤ, List, [], Option, Some, None, length, slice_get};
 ghost use Rattle.std.specs.List.{All, AllPairs, Any, Contains};
 ghost use Rattle.pram_check.specs.Checked.{Checked};
 ghost use Rattle.pram_model.specs.Layout.{SharedEntry, size};
 ghost use Rattle.pram_meaning.specs.Outcome.{IsOutcome};
 ghost use Rattle.write_rules.specs.Verdict.{Verdict};
-ghost use Rattle.scopes.specs.Found.{verdict_on};
+ghost use Rattle.scopes.specs.Runs.{verdict_on};
+ghost use Rattle.scopes.specs.Specified.{counting};
 ghost use Rattle.comparing.specs.declared.compared.Compared as rust;
 ghost use Rattle.comparing.specs.declared.difference.Difference as told;
-ghost use Rattle.comparing.specs.Common.{IsBeginning, StandsAt, common, front};
+ghost use Rattle.comparing.specs.Common.{IsBeginning, common, front};
+ghost use Rattle.scopes.specs.Handed.{StandsAt};
 ghost use Rattle.comparing.specs.Differences.{Run, first_difference};
-ghost use Rattle.comparing.specs.Found.{Differing, difference_on, differing, found, most_told};
+ghost use Rattle.comparing.specs.Found.{Differing, difference_on, differing, found, most_told, of_so_many};
 ghost use Rattle.comparing.specs.Told.{ComeToTheSame, IsDiffering, IsFirst, IsSo, KeepsTo};
 
-/// What a run comes to is its outcome; and each input is counted once, as one on which the programs come to the same, or as one on which
-/// they differ.
+/// What a run comes to is its outcome; and each input that counts is counted once, as one on which the programs come to the same, or as one
+/// on which they differ.
 pub fn every_input_is_counted()
     // What is compared of a run is its outcome, and nothing else is.
     ensures outcome { (p : Checked) (n : ℕ) (input : List ℤ) (v : Verdict) → IsOutcome p input n v ↔ (v ≡ verdict_on p n input) }
-    // Each input is counted once, as one on which the programs come to the same or as one on which they differ.
-    ensures once { (p q : Checked) (c : rust.Compared) (n most : ℕ) (inputs : List (List ℤ)) →
-        (found p q c n most inputs).same + length (differing p q c n inputs) ≡ length inputs }
+    // Each input that counts is counted once, as one on which the programs come to the same or as one on which they
+    // differ.
+    ensures once { (w : Option Checked) (p q : Checked) (c : rust.Compared) (n most : ℕ) (inputs : List (List ℤ)) →
+        (found w p q c n most inputs).same + length (differing p q c n (counting w n inputs)) ≡ length (counting w n inputs) }
 {}
 
-/// No input is told exactly where the programs come to the same on all of them. The first that is told is the first on which they don't.
+/// No input is told exactly where the programs come to the same on all that count. The first that is told is the first of these on which
+/// they don't.
 pub fn the_first_input_is_told()
-    // Where any input may be told, none is exactly where the programs come to the same on all of them.
-    ensures none { (p q : Checked) (c : rust.Compared) (n most : ℕ) (inputs : List (List ℤ)) → 0 < most →
-        ((found p q c n most inputs).told ≡ []) ↔ ((found p q c n most inputs).same ≡ length inputs) }
-    // The first input that is told is the first on which they differ, with what differs there first.
-    ensures first { (p q : Checked) (c : rust.Compared) (n most : ℕ) (inputs : List (List ℤ)) (d : Differing) →
-        slice_get (found p q c n most inputs).told 0 ≡ Some d → IsFirst p q c n inputs d }
+    // Where any input may be told, none is exactly where the programs come to the same on all that count.
+    ensures none { (w : Option Checked) (p q : Checked) (c : rust.Compared) (n most : ℕ) (inputs : List (List ℤ)) → 0 < most →
+        ((found w p q c n most inputs).told ≡ []) ↔ ((found w p q c n most inputs).same ≡ length (counting w n inputs)) }
+    // The first input that is told is the first that counts on which they differ, with what differs there first.
+    ensures first { (w : Option Checked) (p q : Checked) (c : rust.Compared) (n most : ℕ) (inputs : List (List ℤ)) (d : Differing) →
+        slice_get (found w p q c n most inputs).told 0 ≡ Some d → IsFirst p q c n (counting w n inputs) d }
 {}
 
-/// As many inputs are told as there are on which the programs differ, or as may be; and each in its place: the one at a place is that of
-/// this number among all on which they differ. At least one may be told.
+/// As many inputs are told as there are that count and on which the programs differ, or as may be; and each in its place: the one at a
+/// place is that of this number among all of these. At least one may be told.
 pub fn the_inputs_that_differ_are_told()
-    // As many inputs are told as there are on which the programs differ, or as may be told.
-    ensures many { (p q : Checked) (c : rust.Compared) (n most : ℕ) (inputs : List (List ℤ)) →
-        length (found p q c n most inputs).told ≡ min most (length inputs - (found p q c n most inputs).same) }
-    // Each input that is told has the place that it has among all on which they differ, with what differs there first.
-    ensures each { (p q : Checked) (c : rust.Compared) (n most : ℕ) (inputs : List (List ℤ)) (number : ℕ) (d : Differing) →
-        slice_get (found p q c n most inputs).told number ≡ Some d → IsDiffering p q c n inputs number d }
+    // As many inputs are told as there are that count and on which the programs differ, or as may be told.
+    ensures many { (w : Option Checked) (p q : Checked) (c : rust.Compared) (n most : ℕ) (inputs : List (List ℤ)) →
+        length (found w p q c n most inputs).told ≡ min most (length (counting w n inputs) - (found w p q c n most inputs).same) }
+    // Each input that is told has the place that it has among all that count on which they differ, with what differs
+    // there first.
+    ensures each { (w : Option Checked) (p q : Checked) (c : rust.Compared) (n most : ℕ) (inputs : List (List ℤ)) (number : ℕ)
+        (d : Differing) → slice_get (found w p q c n most inputs).told number ≡ Some d →
+        IsDiffering p q c n (counting w n inputs) number d }
     // At least one input may be told.
     ensures some { (values : ℕ) → 0 < most_told values }
+{}
+
+/// With a precondition that is found which is found without one of the inputs that count, but for how many inputs there are; and without
+/// one all count.
+pub fn a_precondition_leaves_inputs_out()
+    // What is found is what is found without a precondition of the inputs that count, but for the number of inputs.
+    ensures found { (w : Option Checked) (p q : Checked) (c : rust.Compared) (n most : ℕ) (inputs : List (List ℤ)) →
+        found w p q c n most inputs ≡ of_so_many (length inputs) (found None p q c n most (counting w n inputs)) }
+    // Without a precondition as many inputs count as there are.
+    ensures all { (p q : Checked) (c : rust.Compared) (n most : ℕ) (inputs : List (List ℤ)) →
+        (found None p q c n most inputs).counting ≡ length inputs }
 {}
 
 /// Nothing is told of two runs exactly where they come to the same, and the second keeps to the limits. What is told is so: the two

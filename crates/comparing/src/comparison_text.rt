@@ -8,13 +8,14 @@ ghost use Rattle.comparing.specs.ComparisonText as spec;
 use crate::difference_text::write_difference;
 use crate::{Comparison, FoundDifference};
 use itoa::Buffer;
+use pram_check::Program;
 use pram_trees::Layout;
 use program_texts::write_values;
 use text_out::{Out, WriteFault};
 
 // How many inputs there are, and on how many both programs come to the same.
-fn write_counts<W: Out>(out: &mut W, comparison: &Comparison) -> Result<(), WriteFault>
-    ensures written { Writes (W.Out.state out.old) (W.Out.state out.new) (spec.counts_line (found_is comparison.now)) result }
+fn write_all_counts<W: Out>(out: &mut W, comparison: &Comparison) -> Result<(), WriteFault>
+    ensures written { Writes (W.Out.state out.old) (W.Out.state out.new) (spec.all_counts (found_is comparison.now)) result }
 {
     let mut inputs = Buffer::new();
     let mut same = Buffer::new();
@@ -25,6 +26,39 @@ fn write_counts<W: Out>(out: &mut W, comparison: &Comparison) -> Result<(), Writ
         same.format(comparison.same).as_bytes(),
         b"\n",
     ])
+}
+
+// How many inputs there are, how many count, and on how many of these both programs come to the same.
+fn write_some_counts<W: Out>(out: &mut W, comparison: &Comparison) -> Result<(), WriteFault>
+    ensures written { Writes (W.Out.state out.old) (W.Out.state out.new) (spec.some_counts (found_is comparison.now)) result }
+{
+    let mut inputs = Buffer::new();
+    let mut counting = Buffer::new();
+    let mut same = Buffer::new();
+    out.write_parts(&[
+        b"inputs ",
+        inputs.format(comparison.inputs).as_bytes(),
+        b" counting ",
+        counting.format(comparison.counting).as_bytes(),
+        b" same ",
+        same.format(comparison.same).as_bytes(),
+        b"\n",
+    ])
+}
+
+// The second with a precondition, and else the first.
+fn write_counts<W: Out>(
+    out: &mut W,
+    precondition: &Option<Program>,
+    comparison: &Comparison,
+) -> Result<(), WriteFault>
+    ensures written { Writes (W.Out.state out.old) (W.Out.state out.new)
+        (spec.counts_line precondition.now (found_is comparison.now)) result }
+{
+    match precondition {
+        None => write_all_counts(out, comparison),
+        Some(_) => write_some_counts(out, comparison),
+    }
 }
 
 // How many cells are drawn.
@@ -77,21 +111,23 @@ fn write_first<W: Out>(
     }
 }
 
-/// Writes what is found of two programs: a line as `inputs 625 same 624`; where inputs are drawn, how many cells are, as `cells 8`; and,
-/// where they differ on an input, a line for the first of those, as `input 2 1: output item 1 is 3, and 2`. The layouts are the shared
-/// declarations of the two programs. The error is that the writer failed (E17).
+/// Writes what is found of two programs: a line as `inputs 625 same 624`, and with a precondition `inputs 625 counting 24 same 20`; where
+/// inputs are drawn, how many cells are, as `cells 8`; and, where they differ on an input that counts, a line for the first of those, as
+/// `input 2 1: output item 1 is 3, and 2`. The layouts are the shared declarations of the two programs. The error is that the writer failed
+/// (E17).
 pub fn write_comparison<W: Out>(
     out: &mut W,
     first: &Layout,
     second: &Layout,
+    precondition: &Option<Program>,
     cells: Option<u32>,
     comparison: &Comparison,
 ) -> Result<(), WriteFault>
     // Exactly the text of this comparison is written, or a beginning of it and then a failure.
     ensures written { Writes (W.Out.state out.old) (W.Out.state out.new)
-        (spec.comparison_text first.now second.now cells (found_is comparison.now)) result }
+        (spec.comparison_text first.now second.now precondition.now cells (found_is comparison.now)) result }
 {
-    write_counts(out, comparison)?;
+    write_counts(out, precondition, comparison)?;
     write_cells(out, cells)?;
     write_first(out, first, second, &comparison.told)
 }

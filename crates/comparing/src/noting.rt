@@ -1,7 +1,7 @@
 //! How one input more is noted.
 
 ghost use Rattle.std.specs.Prelude.{◌≡◌, ◌+◌, ◌<◌, ◌^◌, OnOk, map};
-ghost use Rattle.comparing.specs.Found.{added, differing_is, found_is, nothing, with_more};
+ghost use Rattle.comparing.specs.Found.{added, differing_is, found_is, nothing, skipped, with_more};
 
 use crate::comparison::{Comparison, FoundDifference};
 use crate::difference::Difference;
@@ -37,12 +37,21 @@ impl Comparison {
     {
         Comparison {
             inputs: 0,
+            counting: 0,
             same: 0,
             told: Vec::new(alloc),
         }
     }
 
-    /// Notes an input more, and what differs on it, of which at most so many are told.
+    /// Notes an input that doesn't count.
+    pub(crate) fn skip(&mut self)
+        requires room { self.old.inputs + 1 < 2 ^ 64 }
+        ensures { found_is self.new ≡ skipped (found_is self.old) }
+    {
+        self.inputs += 1;
+    }
+
+    /// Notes an input more that counts, and what differs on it, of which at most so many are told.
     pub(crate) fn add(
         &mut self,
         alloc: Global,
@@ -54,6 +63,7 @@ impl Comparison {
         ensures { OnOk result (found_is self.new ≡ added most difference input.now (found_is self.old)) }
     {
         self.inputs += 1;
+        self.counting += 1;
         match difference {
             None => self.same += 1,
             Some(difference) => keep(alloc, &mut self.told, most, difference, input)?,

@@ -2,7 +2,7 @@ use Rattle.std.proofs.Common.{◌∙◌, ◌<◌, arith, length, zero-add}
 use Rattle.pram_model.specs.Layout.{total_size}
 use Rattle.std.proofs.Common.{take}
 use Rattle.comparing.proofs.Fronts.{placed_start}
-use Rattle.comparing.proofs.Lists.{there}
+use Rattle.scopes.proofs.Lists.{there}
 use Rattle.comparing.proofs.common.cells_before.Goals as goal
 
 pub returns-then-number-len : goal.returns-then-number-len

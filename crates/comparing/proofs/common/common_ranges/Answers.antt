@@ -1,10 +1,11 @@
 use Rattle.std.proofs.Common.{◌∙◌, ◌++◌, ◌∷◌, ◌<◌, ◌≤◌, [], Global, List, Vec, ap, arith, length, map, sym}
 use Rattle.std.specs.List.{filter_map}
 use Rattle.comparing.specs.declared.compared.CommonRange.{CommonRange}
-use Rattle.comparing.specs.Common.{Placed, placed, range_of, shared_with}
+use Rattle.comparing.specs.Common.{range_of, shared_with}
+use Rattle.scopes.specs.Handed.{Placed, placed}
 use Rattle.comparing.proofs.Commons.{common_more, common_skip}
-use Rattle.comparing.proofs.Lists.{take_over, there}
-use Rattle.comparing.proofs.Places.{placed_length}
+use Rattle.scopes.proofs.Lists.{take_over, there}
+use Rattle.scopes.proofs.Places.{placed_length}
 use Rattle.comparing.proofs.common.common_ranges.Goals as goal
 use Rattle.comparing.proofs.common.common_ranges.Goals.{in-Some+in_ok-push, in_default}
 

@@ -1,6 +1,7 @@
 use Rattle.std.proofs.Common.{◌≡◌, map, take}
 use Rattle.std.specs.List.{filter_map}
-use Rattle.comparing.specs.Common.{placed, range_of, shared_with}
+use Rattle.comparing.specs.Common.{range_of, shared_with}
+use Rattle.scopes.specs.Handed.{placed}
 use Rattle.comparing.proofs.common.common_ranges.Given as goal
 
 abbrev pub invariant-loop-i : goal.invariant-loop-i

@@ -3,7 +3,7 @@ use Rattle.std.proofs.lemmas.Bool.{cases_lt}
 use Rattle.pram_model.specs.Layout.{total_size}
 use Rattle.comparing.specs.Common.{front_cells, same_entry}
 use Rattle.comparing.proofs.Fronts.{front_ends, front_grows, front_over_first, front_over_second}
-use Rattle.comparing.proofs.Lists.{there}
+use Rattle.scopes.proofs.Lists.{there}
 use Rattle.comparing.proofs.common.front_cells.Goals as goal
 
 pub returns-then-not-is_same_entry : goal.returns-then-not-is_same_entry

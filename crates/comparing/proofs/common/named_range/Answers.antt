@@ -3,10 +3,11 @@ use Rattle.std.specs.List.{filter_map, find}
 use Rattle.std.specs.Option.{option_map, option_or}
 use Rattle.std.specs.Prelude.{is_some}
 use Rattle.comparing.specs.declared.compared.CommonRange.{CommonRange}
-use Rattle.comparing.specs.Common.{Placed, is_named, placed, range_of, shared_with}
+use Rattle.comparing.specs.Common.{is_named, range_of, shared_with}
+use Rattle.scopes.specs.Handed.{Placed, placed}
 use Rattle.comparing.proofs.Commons.{named_from}
-use Rattle.comparing.proofs.Lists.{drop_over, or_none, or_some, there}
-use Rattle.comparing.proofs.Places.{placed_length}
+use Rattle.scopes.proofs.Lists.{drop_over, or_none, or_some, there}
+use Rattle.scopes.proofs.Places.{placed_length}
 use Rattle.comparing.proofs.common.named_range.Goals as goal
 
 pub returns-then-is_some : goal.returns-then-is_some

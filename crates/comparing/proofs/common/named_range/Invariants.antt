@@ -1,7 +1,8 @@
 use Rattle.std.proofs.Common.{◌≡◌, drop}
 use Rattle.std.specs.List.{filter_map, find}
 use Rattle.std.specs.Option.{option_map}
-use Rattle.comparing.specs.Common.{common_named, is_named, placed, range_of, shared_with}
+use Rattle.comparing.specs.Common.{common_named, is_named, range_of, shared_with}
+use Rattle.scopes.specs.Handed.{placed}
 use Rattle.comparing.proofs.common.named_range.Given as goal
 
 abbrev pub invariant-loop-i : goal.invariant-loop-i

@@ -4,9 +4,10 @@ use Rattle.std.specs.Option.{option_map}
 use Rattle.std.specs.Prelude.{IfSome}
 use Rattle.pram_model.specs.Layout.{SharedEntry}
 use Rattle.pram_model.specs.Names.{same_text}
-use Rattle.comparing.specs.Common.{Placed, Shared, placed, range_of, same_entry}
+use Rattle.comparing.specs.Common.{Shared, range_of, same_entry}
+use Rattle.scopes.specs.Handed.{Placed, placed}
 use Rattle.comparing.proofs.Commons.{named_kept, named_left}
-use Rattle.comparing.proofs.Places.{placed_entry}
+use Rattle.scopes.proofs.Places.{placed_entry}
 use Rattle.comparing.proofs.common.named_with.Goals as goal
 
 pub returns-then-is_same_text : goal.returns-then-is_same_text

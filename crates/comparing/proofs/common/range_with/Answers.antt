@@ -3,9 +3,10 @@ use Rattle.std.specs.List.{find}
 use Rattle.std.specs.Option.{option_map}
 use Rattle.std.specs.Prelude.{IfSome}
 use Rattle.pram_model.specs.Layout.{SharedEntry, size}
-use Rattle.comparing.specs.Common.{Placed, both, placed, range_of, same_entry}
-use Rattle.comparing.proofs.Lists.{drop_over, find_behind, find_here, there}
-use Rattle.comparing.proofs.Places.{placed_entry, placed_length}
+use Rattle.comparing.specs.Common.{both, range_of, same_entry}
+use Rattle.scopes.specs.Handed.{Placed, placed}
+use Rattle.scopes.proofs.Lists.{drop_over, find_behind, find_here, there}
+use Rattle.scopes.proofs.Places.{placed_entry, placed_length}
 use Rattle.comparing.proofs.common.range_with.Goals as goal
 
 pub returns-then-is_same_entry : goal.returns-then-is_same_entry

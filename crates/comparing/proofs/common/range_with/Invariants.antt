@@ -1,7 +1,8 @@
 use Rattle.std.proofs.Common.{◌≡◌, Some, drop}
 use Rattle.std.specs.List.{find}
 use Rattle.std.specs.Prelude.{slice_get}
-use Rattle.comparing.specs.Common.{Placed, placed, same_entry}
+use Rattle.comparing.specs.Common.{same_entry}
+use Rattle.scopes.specs.Handed.{Placed, placed}
 use Rattle.comparing.proofs.common.range_with.Given as goal
 
 -- the first of those that are left is the first of all

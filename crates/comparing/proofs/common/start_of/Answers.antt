@@ -1,7 +1,7 @@
 use Rattle.std.proofs.Common.{◌≡◌, Option, subst}
 use Rattle.std.specs.Prelude.{IfSome}
 use Rattle.pram_model.specs.Layout.{SharedEntry, subscripts}
-use Rattle.comparing.proofs.Places.{placed_at}
+use Rattle.scopes.proofs.Places.{placed_at}
 use Rattle.comparing.proofs.common.start_of.Goals as goal
 
 pub returns : goal.returns

@@ -1,6 +1,7 @@
-use Rattle.std.proofs.Common.{◌≡◌, ◌∙◌, ◌+◌, ◌++◌, ◌∷◌, [], ℤ, List, ap, arith, refl, sym}
+use Rattle.std.proofs.Common.{◌≡◌, ◌∙◌, ◌+◌, ℤ, List, ap, arith, refl, sym}
 use Rattle.std.proofs.lemmas.List.FromFn.{length-map-range_with_len, map-range_with_len_more}
-use Rattle.comparing.specs.Found.{Found, drawn_by, drawn_inputs, found}
+use Rattle.comparing.specs.Found.{Found, drawn_by, drawn_inputs, found, found_is, with_input}
+use Rattle.comparing.proofs.Pushed.{input_added}
 use Rattle.comparing.proofs.comparing.compare_drawn.Goals as goal
 
 pub try_input-requires : goal.try_input-requires
@@ -13,6 +14,7 @@ try_input-requires c =
 
 pub loop-turn-preserved : goal.loop-turn-preserved
 loop-turn-preserved c =
+    let w = c.args.precondition.now in
     let p = c.args.first.now in
     let q = c.args.second.now in
     let k = c.args.compared.now in
@@ -24,6 +26,8 @@ loop-turn-preserved c =
     let before = drawn_inputs d.low d.high d.seed cells turn in
     let here : c.deref.result.now ≡ drawn_by d.low d.high cells (d.seed + turn) =
     c.deref.ensures.value ∙ c.in_ok-input.ensures.drawn in
-    c.in_ok-try_input.ensures.found before c.loop-turn.invariant
-    ∙ ap (λ (x : List ℤ). found p q k n m (before ++ x ∷ [])) here
-    ∙ ap (found p q k n m) (sym (map-range_with_len_more (drawn_by d.low d.high cells) d.seed turn (d.seed + turn) refl))
+    c.in_ok-try_input.ensures.found
+    ∙ ap (λ (x : List ℤ). with_input w p q k n m x (found_is c.loop-turn.comparison)) here
+    ∙ ap (with_input w p q k n m (drawn_by d.low d.high cells (d.seed + turn))) c.loop-turn.invariant
+    ∙ sym (input_added w p q k n m before (drawn_by d.low d.high cells (d.seed + turn)))
+    ∙ ap (found w p q k n m) (sym (map-range_with_len_more (drawn_by d.low d.high cells) d.seed turn (d.seed + turn) refl))

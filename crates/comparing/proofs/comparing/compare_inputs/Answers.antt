@@ -15,6 +15,7 @@ loop-input-preserved c =
     at_drop_more (λ (ys : List (Vec ℤ Global)). map values_of ys) xs i x c.loop-input-test.true
     ∙ ap (λ (y : Vec ℤ Global). map values_of (y ∷ drop (i + 1) xs)) (sym c.input-item.is)
     ∙ ap (λ (v : List ℤ). v ∷ rest) (sym c.deref.ensures.value) in
-    further c.args.first.now c.args.second.now c.args.compared.now c.args.bound c.most_told-most.result (map values_of xs)
+    further c.args.precondition.now c.args.first.now c.args.second.now c.args.compared.now c.args.bound c.most_told-most.result
+    (map values_of xs)
     (map values_of (drop i xs)) rest here (found_is c.loop-input.comparison) (found_is c.try_input.new.comparison) c.loop-input.invariant is
     c.in_ok-try_input.ensures.found

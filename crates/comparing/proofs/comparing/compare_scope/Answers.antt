@@ -8,6 +8,7 @@ use Rattle.comparing.proofs.comparing.compare_scope.Goals as goal
 
 pub trying-preserved : goal.trying-preserved
 trying-preserved c =
+    let w = c.args.precondition.now in
     let p = c.args.first.now in
     let q = c.args.second.now in
     let k = c.args.compared.now in
@@ -24,8 +25,8 @@ trying-preserved c =
     let is : left ≡ here ∷ rest = c.advance.ensures.left ∙ ap (λ (x : List ℤ). x ∷ rest) (sym c.values-input.ensures.values) in
     record {
       same = c.advance.ensures.same ∙ c.trying.invariant.same;
-      so_far = subst (λ (t : Scope). Gone p q k n m all (inputs_left t new.over new.input.items) g) (sym c.advance.ensures.same)
-          (further p q k n m all left rest here f g c.trying.invariant.so_far is c.in_ok-try_input.ensures.found);
+      so_far = subst (λ (t : Scope). Gone w p q k n m all (inputs_left t new.over new.input.items) g) (sym c.advance.ensures.same)
+          (further w p q k n m all left rest here f g c.trying.invariant.so_far is c.in_ok-try_input.ensures.found);
     }
 
 pub trying-smaller : goal.trying-smaller

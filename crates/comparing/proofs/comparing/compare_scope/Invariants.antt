@@ -7,7 +7,7 @@ use Rattle.comparing.proofs.comparing.compare_scope.Given as goal
 abbrev pub invariant-trying : goal.invariant-trying
 invariant-trying l = record {
   same : l.inputs.scope ≡ l.fn.scope;
-  so_far : Gone l.fn.first l.fn.second l.fn.compared l.fn.bound l.most (inputs_of l.fn.scope)
+  so_far : Gone l.fn.precondition l.fn.first l.fn.second l.fn.compared l.fn.bound l.most (inputs_of l.fn.scope)
       (inputs_left l.inputs.scope l.inputs.over l.inputs.input.items) (found_is l.comparison);
 }
 

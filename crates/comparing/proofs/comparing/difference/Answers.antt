@@ -3,7 +3,7 @@ use Rattle.pram_meaning.proofs.OneOutcome.{outcome_is_computed}
 use Rattle.costs.specs.Cost.{time}
 use Rattle.costs.specs.Steps.{run_steps}
 use Rattle.write_rules.specs.Verdict.{verdict_of}
-use Rattle.scopes.specs.Found.{verdict_on}
+use Rattle.scopes.specs.Runs.{verdict_on}
 use Rattle.comparing.specs.Differences.{first_difference}
 use Rattle.comparing.proofs.comparing.difference.Goals as goal
 

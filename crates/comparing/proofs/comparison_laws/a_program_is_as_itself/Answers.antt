@@ -1,6 +1,6 @@
 use Rattle.costs.specs.Cost.{time, work}
 use Rattle.costs.specs.Steps.{run_steps}
-use Rattle.scopes.specs.Found.{verdict_on}
+use Rattle.scopes.specs.Runs.{verdict_on}
 use Rattle.comparing.proofs.Runs.{as_itself}
 use Rattle.comparing.proofs.comparison_laws.a_program_is_as_itself.Goals as goal
 

@@ -10,7 +10,7 @@ returns-in_err-write_counts g c =
     let f = found_is c.args.comparison.now in
     let first = first_line c.args.first.now c.args.second.now f.told in
     record {
-      written = breaks_off _ _ _ _ _ (counts_line f) (cells_line c.args.cells ++ first)
+      written = breaks_off _ _ _ _ _ (counts_line c.args.precondition.now f) (cells_line c.args.cells ++ first)
           c.from_residual.result _ c.from_residual.ensures.1 (starts _ _) refl c.in_err-write_counts.ensures.written;
     }
 
@@ -19,7 +19,8 @@ returns-in_err-write_cells g c =
     let f = found_is c.args.comparison.now in
     let cells = cells_line c.args.cells in
     let first = first_line c.args.first.now c.args.second.now f.told in
-    let after_1 = goes_on _ _ _ _ _ (counts_line f) (cells ++ first) (starts _ _) refl c.in_ok-write_counts.ensures.written in
+    let after_1 = goes_on _ _ _ _ _ (counts_line c.args.precondition.now f) (cells ++ first)
+    (starts _ _) refl c.in_ok-write_counts.ensures.written in
     record {
       written = breaks_off _ _ _ _ _ cells first c.from_residual-in_err-write_cells.result _
           c.from_residual-in_err-write_cells.ensures.1 after_1 refl c.in_err-write_cells.ensures.written;
@@ -30,7 +31,8 @@ returns g c =
     let f = found_is c.args.comparison.now in
     let cells = cells_line c.args.cells in
     let line : List FoundDifference → List ℕ = λ told. first_line c.args.first.now c.args.second.now (map differing_is told) in
-    let after_1 = goes_on _ _ _ _ _ (counts_line f) (cells ++ line c.args.comparison.now.told.items) (starts _ _) refl
+    let after_1 = goes_on _ _ _ _ _ (counts_line c.args.precondition.now f) (cells ++ line c.args.comparison.now.told.items)
+    (starts _ _) refl
     c.in_ok-write_counts.ensures.written in
     let after_2 = goes_on _ _ _ _ _ cells (line c.deref.result.now) after_1
     (ap (λ (told : List FoundDifference). cells ++ line told) (sym c.deref.ensures.value)) c.in_ok-write_cells.ensures.written in

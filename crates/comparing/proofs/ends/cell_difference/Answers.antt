@@ -4,7 +4,7 @@ use Rattle.std.specs.Prelude.{is_some, slice_get}
 use Rattle.comparing.specs.declared.compared.CommonRange.{CommonRange}
 use Rattle.comparing.specs.declared.difference.Difference.{Difference}
 use Rattle.comparing.specs.Ends.{cell_differences, range_differences}
-use Rattle.comparing.proofs.Lists.{at_get, first_from, or_none, or_some}
+use Rattle.scopes.proofs.Lists.{at_get, first_from, or_none, or_some}
 use Rattle.comparing.proofs.ends.cell_difference.Goals as goal
 
 pub returns-then-is_some : goal.returns-then-is_some
