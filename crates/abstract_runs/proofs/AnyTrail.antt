@@ -8,7 +8,7 @@ use Rattle.pram_meaning.specs.Attempt.{Attempt, Gives, Fails, Trail, and_then, a
 use Rattle.pram_meaning.specs.Operation.{operate, operate_before}
 use Rattle.pram_meaning.specs.Store.{View}
 use Rattle.intervals.specs.declared.interval.Interval.{Interval}
-use Rattle.all_inputs.specs.declared.faults.Faults.{Faults}
+use Rattle.abstract_runs.specs.declared.findings.Findings.{Findings}
 use Rattle.abstract_runs.specs.Covers.{IsAmong}
 use Rattle.abstract_runs.specs.Tests.{IsValueOf}
 use Rattle.abstract_runs.specs.Tried.{IsTried}
@@ -71,7 +71,7 @@ pub gives_from : (s : View) (e : Expression) (z : ℤ) (t : Trail) → IsValueOf
 gives_from s e z t h = gives_like (attempt s e h.from) (attempt s e t) h.behind z h.gives (attempt_like s e h.from t)
 
 -- so it lies in what is known of an attempt from the start
-pub among_tried : (s : View) (e : Expression) (z : ℤ) (found : Option Interval) (rs : Reaches) (faults : Faults) →
+pub among_tried : (s : View) (e : Expression) (z : ℤ) (found : Option Interval) (rs : Reaches) (faults : Findings) →
     IsTried (IsAmong found) rs faults (attempt s e []) → IsValueOf s e z → IsAmong found z
 among_tried s e z found rs faults tried h =
     let g = gives_from s e z [] h in (subst (IsTried (IsAmong found) rs faults) g.1 tried).0

@@ -16,7 +16,8 @@ use Rattle.pram_meaning.specs.Store as store
 use Rattle.pram_meaning.specs.Store.{State, View, member_of, with_local}
 use Rattle.pram_meaning.specs.Together.{assigned_by, part_of, parts, those, value_in, with_locals}
 use Rattle.abstract_runs.proofs.Made.{AreMade, attempted_made, chosen_hold}
-use Rattle.abstract_runs.proofs.Onward.{Onward, onward_on, onward_then}
+use Rattle.abstract_runs.proofs.Onward.{onward_on, onward_then}
+use Rattle.abstract_runs.specs.Onward.{Onward}
 
 -- one that is none of these
 abbrev pub IsNone : List ℕ → ℕ → Type 0
@@ -63,62 +64,62 @@ fewer : (p : Checked) (a : View → Attempt Effect) (vs : List ℕ) (before : St
 fewer p a vs before xs m way h u none =
     subst (λ xs. IsNone (those way xs) u) (sym h.made) (chosen_hold (λ v. u ≢ v) p m a way vs none)
 
-abbrev pub Stays : List ℕ → State → Unit {0} → State → Type 0
-Stays vs before u m = AreBeside vs before m
+abbrev pub AsBeside : List ℕ → State → Unit {0} → State → Type 0
+AsBeside vs before u m = AreBeside vs before m
 
 module _ (p : Checked) (n line : ℕ) (e : Expression) (body : List ℕ → State → Done)
-    (stays : (vs : List ℕ) (m : State) → Onward (Stays vs m) (body vs m)) where
+    (stays : (vs : List ℕ) (m : State) → Onward (AsBeside vs m) (body vs m)) where
   abbrev pub test_of : View → Attempt Effect
   test_of s = attempt_value s e
 
   -- a turn, where the others stay through the turns behind it
   turn_beside : (k : ℕ) (vs : List ℕ) (m : State) (xs : List Part) (s : State) → AreMade p test_of vs m xs s → (ws : List ℕ) →
-      those true xs ≡ ws → ((z : State) → Onward (Stays ws z) (turns_on k (tested_on p n line e) body ws z)) →
-      Onward (Stays vs m) (unless_none ws (Goes tt s) (then_do (body ws s) (λ u. turns_on k (tested_on p n line e) body ws)))
+      those true xs ≡ ws → ((z : State) → Onward (AsBeside ws z) (turns_on k (tested_on p n line e) body ws z)) →
+      Onward (AsBeside vs m) (unless_none ws (Goes tt s) (then_do (body ws s) (λ u. turns_on k (tested_on p n line e) body ws)))
   turn_beside k vs m xs s h [] is rest = made_beside p test_of vs m xs s h
   turn_beside k vs m xs s h (w ∷ ws) is rest =
       let less : (u : ℕ) → IsNone vs u → IsNone (w ∷ ws) u =
       λ u none. subst (λ ws. IsNone ws u) is (fewer p test_of vs m xs s true h u none) in
-      onward_then (Stays (w ∷ ws) s) (Stays vs m) (body (w ∷ ws) s) (λ u. turns_on k (tested_on p n line e) body (w ∷ ws)) (stays (w ∷ ws) s)
-      (λ u t g. onward_on (Stays (w ∷ ws) t) (Stays vs m) (turns_on k (tested_on p n line e) body (w ∷ ws) t) (rest t)
+      onward_then (AsBeside (w ∷ ws) s) (AsBeside vs m) (body (w ∷ ws) s) (λ u. turns_on k (tested_on p n line e) body (w ∷ ws)) (stays (w ∷ ws) s)
+      (λ u t g. onward_on (AsBeside (w ∷ ws) t) (AsBeside vs m) (turns_on k (tested_on p n line e) body (w ∷ ws) t) (rest t)
       (λ u z f. beside_then vs (w ∷ ws) m s z (made_beside p test_of vs m xs s h)
       (beside_then (w ∷ ws) (w ∷ ws) s t z g f (λ u none. none)) less))
 
-  pub turns_beside : (k : ℕ) (vs : List ℕ) (m : State) → Onward (Stays vs m) (turns_on k (tested_on p n line e) body vs m)
+  pub turns_beside : (k : ℕ) (vs : List ℕ) (m : State) → Onward (AsBeside vs m) (turns_on k (tested_on p n line e) body vs m)
   turns_beside zero vs m = tt
   turns_beside (suc k) vs m =
-      onward_then (AreMade p test_of vs m) (Stays vs m) (tested_on p n line e vs m) _ (attempted_made p n line test_of vs m)
+      onward_then (AreMade p test_of vs m) (AsBeside vs m) (tested_on p n line e vs m) _ (attempted_made p n line test_of vs m)
       (λ xs s h. turn_beside k vs m xs s h (those true xs) refl (λ z. turns_beside k (those true xs) z))
 
 module _ (p : Checked) (n : ℕ) where
   mutual
-    pub step_beside : (s : Step) (vs : List ℕ) (m : State) → Onward (Stays vs m) (perform_on p n s vs m)
+    pub step_beside : (s : Step) (vs : List ℕ) (m : State) → Onward (AsBeside vs m) (perform_on p n s vs m)
     step_beside (step.Assign here x e) vs m =
         let a : View → Attempt Effect = λ s. attempt_step s x e in
-        onward_then (AreMade p a vs m) (Stays vs m) (attempted_on p n here.line a vs m) (λ xs m. Goes tt (assigned_by p x xs m))
+        onward_then (AreMade p a vs m) (AsBeside vs m) (attempted_on p n here.line a vs m) (λ xs m. Goes tt (assigned_by p x xs m))
         (attempted_made p n here.line a vs m) (λ xs s h. assigned_beside p x a vs m xs s h)
     step_beside (step.If' here e q then_part r else_part) vs m =
         let a : View → Attempt Effect = λ s. attempt_value s e in
-        onward_then (AreMade p a vs m) (Stays vs m) (tested_on p n here.line e vs m) _ (attempted_made p n here.line a vs m)
-        (λ xs s h. onward_then (Stays (those true xs) s) (Stays vs m) (perform_row_on p n then_part (those true xs) s) _
+        onward_then (AreMade p a vs m) (AsBeside vs m) (tested_on p n here.line e vs m) _ (attempted_made p n here.line a vs m)
+        (λ xs s h. onward_then (AsBeside (those true xs) s) (AsBeside vs m) (perform_row_on p n then_part (those true xs) s) _
         (row_beside then_part (those true xs) s)
-        (λ u t g. onward_on (Stays (those false xs) t) (Stays vs m) (perform_row_on p n else_part (those false xs) t)
+        (λ u t g. onward_on (AsBeside (those false xs) t) (AsBeside vs m) (perform_row_on p n else_part (those false xs) t)
         (row_beside else_part (those false xs) t)
         (λ u z f. beside_then vs (those false xs) m t z
         (beside_then vs (those true xs) m s t (made_beside p a vs m xs s h) g (fewer p a vs m xs s true h)) f (fewer p a vs m xs s false h))))
     step_beside (step.While' here e q body) vs m =
         turns_beside p n here.line e (perform_row_on p n body) (λ vs m. row_beside body vs m) (n + 1) vs m
 
-    pub row_beside : {k : _} (ss : Row_of-Step k) (vs : List ℕ) (m : State) → Onward (Stays vs m) (perform_row_on p n ss vs m)
+    pub row_beside : {k : _} (ss : Row_of-Step k) (vs : List ℕ) (m : State) → Onward (AsBeside vs m) (perform_row_on p n ss vs m)
     row_beside end_of-Step vs m = λ u none. refl
     row_beside (more_of-Step s ss) vs m =
-        onward_then (Stays vs m) (Stays vs m) (perform_on p n s vs m) _ (step_beside s vs m)
-        (λ u t g. onward_on (Stays vs t) (Stays vs m) (perform_row_on p n ss vs t) (row_beside ss vs t)
+        onward_then (AsBeside vs m) (AsBeside vs m) (perform_on p n s vs m) _ (step_beside s vs m)
+        (λ u t g. onward_on (AsBeside vs t) (AsBeside vs m) (perform_row_on p n ss vs t) (row_beside ss vs t)
         (λ u z f. beside_then vs vs m t z g f (λ u none. none)))
 
-  pub list_beside : (ss : List Step) (vs : List ℕ) (m : State) → Onward (Stays vs m) (perform_list_on p n ss vs m)
+  pub list_beside : (ss : List Step) (vs : List ℕ) (m : State) → Onward (AsBeside vs m) (perform_list_on p n ss vs m)
   list_beside [] vs m = λ u none. refl
   list_beside (s ∷ ss) vs m =
-      onward_then (Stays vs m) (Stays vs m) (perform_on p n s vs m) _ (step_beside s vs m)
-      (λ u t g. onward_on (Stays vs t) (Stays vs m) (perform_list_on p n ss vs t) (list_beside ss vs t)
+      onward_then (AsBeside vs m) (AsBeside vs m) (perform_on p n s vs m) _ (step_beside s vs m)
+      (λ u t g. onward_on (AsBeside vs t) (AsBeside vs m) (perform_list_on p n ss vs t) (list_beside ss vs t)
       (λ u z f. beside_then vs vs m t z g f (λ u none. none)))

@@ -18,10 +18,11 @@ use Rattle.all_inputs.specs.declared.told.Told.{Told}
 use Rattle.abstract_runs.specs.Leads.{Leads}
 use Rattle.abstract_runs.specs.Rows.{AreActive}
 use Rattle.abstract_runs.specs.Standing.{StandsWith}
+use Rattle.abstract_runs.specs.Onward.{Onward}
 use Rattle.all_inputs.specs.Told.{IsKept}
 use Rattle.abstract_runs.proofs.Coming.{Comes, comes_leads, comes_on, then_comes}
 use Rattle.abstract_runs.proofs.Leading.{leads_then, kept_same}
-use Rattle.abstract_runs.proofs.Onward.{Onward, leads_onward}
+use Rattle.abstract_runs.proofs.Onward.{leads_onward}
 
 -- what is known of a set, beside what is known of all
 abbrev pub Inner : Type 1

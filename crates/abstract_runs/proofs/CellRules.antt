@@ -19,14 +19,9 @@ use Rattle.pram_meaning.specs.Together.{overwritten, settled}
 use Rattle.all_inputs.specs.Overall.{Cover}
 use Rattle.abstract_runs.specs.Writing.{MayLeave}
 use Rattle.pram_meaning.proofs.Overwrites.{length_over}
+use Rattle.abstract_runs.proofs.Among.{deeper, first}
 use Rattle.abstract_runs.proofs.CellValues.{at_cell}
 use Rattle.abstract_runs.proofs.CellWrites.{writes_last}
-
-first : (w : Write) (ws : List Write) → Contains (w ∷ ws) w
-first w ws = (0, omega arith, refl)
-
-behind : (w : Write) (ws : List Write) (v : Write) → Contains ws v → Contains (w ∷ ws) v
-behind w ws v c = let l = c.1 in (suc c.0, omega (arith, l), c.2)
 
 -- it stays, or one of the writers may leave it so
 abbrev pub IsLeft : Rule → Interval → ℤ → List Write → ℤ → Type 0
@@ -48,9 +43,9 @@ common_left o x (w ∷ ws) = common_by o x (common_value x ws) (is_equal x w.val
 least_by : (w v x y : Write) (vs : List Write) (b : Bool) → (x ≡ w) ⊎ Contains vs x → (y ≡ v) ⊎ Contains vs y →
     ((if b then x else y) ≡ w) ⊎ Contains (v ∷ vs) (if b then x else y)
 least_by w v x y vs true (inl e) h = inl e
-least_by w v x y vs true (inr c) h = inr (behind v vs x c)
+least_by w v x y vs true (inr c) h = inr (deeper v vs x c)
 least_by w v x y vs false h (inl e) = inr (subst (Contains (v ∷ vs)) (sym e) (first v vs))
-least_by w v x y vs false h (inr c) = inr (behind v vs y c)
+least_by w v x y vs false h (inr c) = inr (deeper v vs y c)
 
 least_among : (w : Write) (ws : List Write) → (least_writer w ws ≡ w) ⊎ Contains ws (least_writer w ws)
 least_among w [] = inl refl
@@ -75,7 +70,7 @@ left Crew sums o (w ∷ ws) h = by_first o _ w ws (only_left o w ws)
 left Common sums o (w ∷ ws) h = by_first o _ w ws (common_left o w.value ws)
 left Priority sums o (w ∷ ws) h = elim (least_among w ws) [
   | inl e ↦ inr (w, first w ws, ap (λ (x : Write). x.value) e)
-  | inr c ↦ inr (least_writer w ws, behind w ws (least_writer w ws) c, refl)
+  | inr c ↦ inr (least_writer w ws, deeper w ws (least_writer w ws) c, refl)
 ]
 left Sum sums o (w ∷ ws) h = elim (sum_left (λ z. IsIn z sums) o (sum_of (w ∷ ws)) (fits (sum_of (w ∷ ws))) refl h) [
   | inl e ↦ inl e

@@ -8,7 +8,7 @@ use Rattle.pram_meaning.specs.Attempt as meant
 use Rattle.pram_meaning.specs.Attempt.{Attempt, Gives, Fails}
 use Rattle.pram_meaning.specs.Conflict.{Part, write_to, writes_by, writes_to}
 use Rattle.abstract_runs.specs.declared.effect.Effect.{Effect}
-use Rattle.all_inputs.specs.declared.faults.Faults.{Faults}
+use Rattle.abstract_runs.specs.declared.findings.Findings.{Findings}
 use Rattle.abstract_runs.specs.declared.reach.Reach.{Reach}
 use Rattle.abstract_runs.specs.declared.row.Row.{Row}
 use Rattle.abstract_runs.specs.Apart.{AreApart, Reaches}
@@ -34,14 +34,15 @@ wrote_to : (e : Effect) (r : Reach) (i : ℤ) (t : meant.Trail) (v : ℤ) (cell 
 wrote_to e r i t v None h k = absurd h
 wrote_to e r i t v (Some c) h k = record { cell = c; value = v; reached = h; among = k; writes = λ d. refl }
 
-wrote_by : (rs : trails.Reaches) (f : Faults) (known : Option Effect) (e : Effect) (r : Reach) (i : ℤ) (a : Attempt meant.Effect) →
+wrote_by : (rs : trails.Reaches) (f : Findings) (known : Option Effect) (e : Effect) (r : Reach) (i : ℤ) (a : Attempt meant.Effect) →
     known ≡ Some e → e.reach ≡ Some r → IsTried (IsGivenBy known) rs f a → IsGiving a → Wrote e r i a
 wrote_by rs f known e r i (Gives t g) is at h giving =
     let k = subst (λ k. IsGivenBy k g) is h.0 in
     wrote_to e r i t g.value g.cell (subst (λ r. IsGoneTo r g.cell) at k.cell) k.value
 wrote_by rs f known e r i (Fails t kind) is at h giving = absurd giving
 
-pub part_wrote : (f : Faults) (row : Row) (e : Effect) (r : Reach) (x : Part) → row.effect ≡ Some e → e.reach ≡ Some r → IsPartBy f row x →
+pub part_wrote : (f : Findings) (row : Row) (e : Effect) (r : Reach) (x : Part) → row.effect ≡ Some e → e.reach ≡ Some r →
+    IsPartBy f row x →
     IsGiving x.attempt → Wrote e r x.processor x.attempt
 part_wrote f row e r x is at p giving = wrote_by row.trail.items f row.effect e r x.processor x.attempt is at p.tried giving
 
@@ -51,14 +52,14 @@ nothing_to : (i v : ℤ) (cell : Option ℕ) (d : ℕ) → IsGoneTo None cell �
 nothing_to i v None d h = refl
 nothing_to i v (Some c) d h = absurd h
 
-nothing_by : (rs : trails.Reaches) (f : Faults) (known : Option Effect) (i : ℤ) (a : Attempt meant.Effect) (d : ℕ) →
+nothing_by : (rs : trails.Reaches) (f : Findings) (known : Option Effect) (i : ℤ) (a : Attempt meant.Effect) (d : ℕ) →
     reach_in known ≡ None → IsTried (IsGivenBy known) rs f a → writes_by d i a ≡ []
 nothing_by rs f known i (Fails t kind) d is h = refl
 nothing_by rs f None i (Gives t g) d is h = absurd h.0
 nothing_by rs f (Some e) i (Gives t g) d is h =
     let k = h.0 in nothing_to i g.value g.cell d (subst (λ r. IsGoneTo r g.cell) is k.cell)
 
-pub part_wrote_nothing : (f : Faults) (row : Row) (x : Part) (d : ℕ) → reach_in row.effect ≡ None → IsPartBy f row x →
+pub part_wrote_nothing : (f : Findings) (row : Row) (x : Part) (d : ℕ) → reach_in row.effect ≡ None → IsPartBy f row x →
     writes_by d x.processor x.attempt ≡ []
 part_wrote_nothing f row x d is p = nothing_by row.trail.items f row.effect x.processor x.attempt d is p.tried
 
@@ -71,7 +72,7 @@ first_reaches : (row : Row) (known : List Row) (r : Reach) (c : ℕ) → reach_i
     Reaches (targets (row ∷ known)) 0 c
 first_reaches row known r c is h = record { reach = r; is = ap Some is; reached = h }
 
-unreached : (f : Faults) (row : Row) (known : List Row) (x : Part) (c : ℕ) (e : Effect) (r : Reach) → row.effect ≡ Some e →
+unreached : (f : Findings) (row : Row) (known : List Row) (x : Part) (c : ℕ) (e : Effect) (r : Reach) → row.effect ≡ Some e →
     e.reach ≡ Some r → ((j : ℕ) → Reaches (targets (row ∷ known)) j c → ⊥) → IsPartBy f row x → IsGiving x.attempt →
     writes_by c x.processor x.attempt ≡ []
 unreached f row known x c e r is at none p giving = w.writes c ∙ by (nat_eq c w.cell) refl
@@ -85,7 +86,7 @@ unreached f row known x c e r is at none p giving = w.writes c ∙ by (nat_eq c 
         absurd (none 0 (first_reaches row known r c (ap reach_in is ∙ at) (subst (λ c. IsReached c r) same w.reached)))
     by false h = elsewhere c w.cell x.processor w.value h
 
-unreached_by : (f : Faults) (row : Row) (known : List Row) (x : Part) (c : ℕ) (effect : Option Effect) (reach : Option Reach) →
+unreached_by : (f : Findings) (row : Row) (known : List Row) (x : Part) (c : ℕ) (effect : Option Effect) (reach : Option Reach) →
     row.effect ≡ effect → reach_in effect ≡ reach → ((j : ℕ) → Reaches (targets (row ∷ known)) j c → ⊥) → IsPartBy f row x →
     IsGiving x.attempt → writes_by c x.processor x.attempt ≡ []
 unreached_by f row known x c None reach is at none p giving = part_wrote_nothing f row x c (ap reach_in is) p
@@ -95,7 +96,7 @@ unreached_by f row known x c (Some e) (Some r) is at none p giving = unreached f
 further : (row : Row) (known : List Row) (j c : ℕ) → Reaches (targets known) j c → Reaches (targets (row ∷ known)) (suc j) c
 further row known j c h = record { reach = h.reach; is = h.is; reached = h.reached }
 
-pub none_written : (f : Faults) (known : List Row) (xs : List Part) (c : ℕ) → ArePartsBy f known xs → AreGiven xs →
+pub none_written : (f : Findings) (known : List Row) (xs : List Part) (c : ℕ) → ArePartsBy f known xs → AreGiven xs →
     ((j : ℕ) → Reaches (targets known) j c → ⊥) → writes_to c xs ≡ []
 none_written f [] xs c (rows.none) g none = refl
 none_written f (row ∷ known) (x ∷ xs) c (rows.takes p h) g none =
@@ -122,7 +123,7 @@ get_here (x ∷ known) zero row d r below is e = ap Some (ap (λ (row : Row). re
 get_here (x ∷ known) (suc k) row d r below is e = get_here known k row d r (omega (arith, below)) is e
 
 -- a cell that one row reaches is written by none before it
-pub none_before : (f : Faults) (all : List Row) (k : ℕ) (row d : Row) (r : Reach) (xs : List Part) (c : ℕ) → AreApart (targets all) →
+pub none_before : (f : Findings) (all : List Row) (k : ℕ) (row d : Row) (r : Reach) (xs : List Part) (c : ℕ) → AreApart (targets all) →
     k < length all → row ≡ get_or all k d → reach_in row.effect ≡ Some r → IsReached c r → ArePartsBy f (take k all) xs → AreGiven xs →
     writes_to c xs ≡ []
 none_before f all k row d r xs c apart below is at reached h g =

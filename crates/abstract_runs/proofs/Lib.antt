@@ -1,4 +1,5 @@
 pub mod AlikeParts
+pub mod Among
 pub mod AnyTrail
 pub mod Assigned
 pub mod Attempted
@@ -20,8 +21,10 @@ pub mod DeclaredCells
 pub mod Each
 pub mod Faultless
 pub mod Following
+pub mod Found
 pub mod Gathered
 pub mod Gifts
+pub mod Halted
 pub mod Leading
 pub mod LocalWrites
 pub mod Made
@@ -53,7 +56,9 @@ pub mod Splitting
 pub mod Standings
 pub mod Stepping
 pub mod SureFaults
+pub mod SureKeys
 pub mod SureMembers
+pub mod SureParts
 pub mod SureReads
 pub mod SureSums
 pub mod TeamLists

@@ -14,8 +14,9 @@ use Rattle.pram_meaning.specs.Together.{on_key, parts, those, together, value_in
 use Rattle.abstract_runs.specs.Given.{AreGiven, IsGiving}
 use Rattle.abstract_runs.specs.Inner.{AreWay}
 use Rattle.abstract_runs.specs.Tests.{ComesTo}
+use Rattle.abstract_runs.specs.Onward.{Onward}
 use Rattle.abstract_runs.proofs.Faultless.{all_given}
-use Rattle.abstract_runs.proofs.Onward.{Onward, onward_on, onward_then}
+use Rattle.abstract_runs.proofs.Onward.{onward_on, onward_then}
 
 -- the parts are those of the state behind the count, none has a fault, and the processors are as they were
 pub record AreMade (p : Checked) (a : View → Attempt Effect) (vs : List ℕ) (before : State) (xs : List Part) (m : State) : Type 0 where

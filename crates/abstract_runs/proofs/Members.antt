@@ -1,5 +1,7 @@
 -- The processors of a pardo, one by one.
-use Rattle.std.proofs.Common.{◌≡◌, ℕ, zero, suc, List, [], ◌∷◌, pos, refl, subst, sym, length, get_or, ◌<◌, ◌≤◌, arith, Bool}
+use Rattle.std.proofs.Common.{◌≡◌, ℕ, zero, suc, List, [], ◌∷◌, pos, refl, subst, sym, length, get_or, ◌<◌, ◌≤◌, arith, Bool, Option, Some, None, IfSome}
+use Rattle.std.proofs.Common.{Bor, Vec, Global}
+use Rattle.std.specs.Option.{option_copied, option_or, unwrap_or}
 use Rattle.std.specs.Prelude.{slice_get}
 use Rattle.std.specs.List.{AllByRecursion}
 use Rattle.pram_meaning.specs.Store as store
@@ -43,6 +45,31 @@ member_read gs known v one below e h = is_known_there (member_of gs v) known v o
 pub known_in : (team : List Member) (vs : List ℕ) (m : store.State) → AreMembersOf m.team team → AreKnownIn team vs m
 known_in team [] m h = tt
 known_in team (v ∷ vs) m h = (known_at m.team team v h, known_in team vs m h)
+
+-- what is known of a set, or else what is known of all
+pub seen_known : (team : List Member) (inner : Option (Bor (Vec Member Global))) (all seen : Bor (Vec Member Global)) →
+    seen ≡ unwrap_or inner all → all.now.items ≡ team → (m : store.State) (vs : List ℕ) → AreMembersOf m.team team →
+    IfSome inner (λ t. AreKnownIn t.now.items vs m) → AreKnownIn seen.now.items vs m
+seen_known team None all seen is same m vs h k =
+    subst (λ (t : Bor (Vec Member Global)). AreKnownIn t.now.items vs m) (sym is)
+    (subst (λ t. AreKnownIn t vs m) (sym same) (known_in team vs m h))
+seen_known team (Some t) all seen is same m vs h k = subst (λ (t : Bor (Vec Member Global)). AreKnownIn t.now.items vs m) (sym is) k
+
+-- what a test left, under a reference
+pub lent_known : (left : Option (Vec Member Global)) (lent : Option (Bor (Vec Member Global))) → option_copied lent ≡ left →
+    (m : store.State) (vs : List ℕ) → IfSome left (λ t. AreKnownIn t.items vs m) → IfSome lent (λ t. AreKnownIn t.now.items vs m)
+lent_known left None is m vs h = tt
+lent_known left (Some t) is m vs h = subst (λ (o : Option (Vec Member Global)). IfSome o (λ t. AreKnownIn t.items vs m)) (sym is) h
+
+-- or else what was known before
+pub sharper_known : (left : Option (Vec Member Global)) (lent inner more : Option (Bor (Vec Member Global))) → option_copied lent ≡ left →
+    more ≡ option_or lent inner → (m : store.State) (vs : List ℕ) → IfSome left (λ t. AreKnownIn t.items vs m) →
+    IfSome inner (λ t. AreKnownIn t.now.items vs m) → IfSome more (λ t. AreKnownIn t.now.items vs m)
+sharper_known left None inner more is same m vs h k =
+    subst (λ (o : Option (Bor (Vec Member Global))). IfSome o (λ t. AreKnownIn t.now.items vs m)) (sym same) k
+sharper_known left (Some t) inner more is same m vs h k =
+    subst (λ (o : Option (Bor (Vec Member Global))). IfSome o (λ t. AreKnownIn t.now.items vs m)) (sym same)
+    (lent_known left (Some t) is m vs h)
 
 pub stands_on_all : (known : Standing) (team : List Member) (vs : List ℕ) (m : store.State) → StandsWith known team m → StandsOn known team vs m
 stands_on_all known team vs m h = record { known_as = h.known_as; members = known_in team vs m h.members }

@@ -4,13 +4,9 @@ use Rattle.pram_meaning.specs.Bounded.{Behaviour, Done, Goes, Stops, Reaches, th
 use Rattle.pram_meaning.specs.Store.{State}
 use Rattle.all_inputs.specs.declared.told.Told.{Told}
 use Rattle.abstract_runs.specs.Leads.{Leads}
+use Rattle.abstract_runs.specs.Onward.{Onward}
 
--- where it goes on it does so
-abbrev pub Onward : {A : Type 0} → (A → State → Type 0) → Behaviour A → Type 0
-Onward P (Goes a m) = P a m
-Onward P (Stops fault output) = Unit {0}
-Onward P (Reaches output) = Unit {0}
-
+-- first the one, then the other
 pub onward_then : {A B : Type 0} (P : A → State → Type 0) (Q : B → State → Type 0) (b : Behaviour A) (f : A → State → Behaviour B) →
     Onward P b → ((a : A) (m : State) → P a m → Onward Q (f a m)) → Onward Q (then_do b f)
 onward_then P Q (Goes a m) f h g = g a m h

@@ -1,5 +1,5 @@
 -- What operations give on members of intervals.
-use Rattle.std.proofs.Common.{◌≡◌, ℤ, ◌++◌, ◌∷◌, [], ◌⊎◌, Bool, true, false, None, Ok, Err, refl, inl, inr, ap, subst, sym, ◌∙◌}
+use Rattle.std.proofs.Common.{◌≡◌, ℤ, length, ◌++◌, ◌∷◌, [], ◌⊎◌, Bool, true, false, None, Ok, Err, refl, inl, inr, ap, subst, sym, ◌∙◌}
 use Rattle.std.proofs.Common.{◌+ℤ◌, ◌-ℤ◌, ◌*ℤ◌, neg_ℤ, if◌then◌else◌}
 use Rattle.pram_values.specs.declared.kind.Kind.{Kind}
 use Rattle.pram_values.specs.declared.kind.Kind.TheVariants.{Overflow, DivideByZero}
@@ -17,11 +17,11 @@ use Rattle.intervals.specs.declared.interval.Interval.{Interval}
 use Rattle.intervals.specs.declared.found.Found.{Found}
 use Rattle.intervals.specs.Intervals.{IsIn}
 use Rattle.intervals.specs.Results.{Tells, Gives}
-use Rattle.all_inputs.specs.declared.faults.Faults.{Faults}
+use Rattle.abstract_runs.specs.declared.findings.Findings.{Findings}
 use Rattle.abstract_runs.specs.Covers.{IsAmong}
-use Rattle.all_inputs.specs.Faulting.{May}
+use Rattle.abstract_runs.specs.Finding.{MayBy}
 use Rattle.abstract_runs.specs.Tried.{GoesThrough, IsTried}
-use Rattle.abstract_runs.proofs.Trails.{Reaches, along_last, through_next}
+use Rattle.abstract_runs.proofs.Trails.{Reaches, ends_last, may_last, through_next}
 
 -- no operation has another fault
 abbrev pub HasFewFaults : Value → Type 0
@@ -73,19 +73,20 @@ pub few_before : (o : Prefix) (x : ℤ) → HasFewFaults (operate_before o x)
 few_before Negate x = few_checked (neg_ℤ x)
 few_before Not x = few_ok _ _ refl
 
-pub settled : (f : ℤ → ℤ → Value) (a b : Interval) (found : Found) (rs more : Reaches) (faults : Faults) (x y : ℤ) (t : Trail) →
-    Tells f a b found → HasFewFaults (f x y) → (found.may_overflow ≡ true → May Overflow faults) →
-    (found.may_divide_by_zero ≡ true → May DivideByZero faults) → more ≡ rs ++ None ∷ [] → IsIn x a → IsIn y b → GoesThrough rs t →
+pub settled : (f : ℤ → ℤ → Value) (a b : Interval) (found : Found) (rs more : Reaches) (faults : Findings) (x y : ℤ) (t : Trail) →
+    Tells f a b found → HasFewFaults (f x y) → (found.may_overflow ≡ true → MayBy Overflow (length more) faults) →
+    (found.may_divide_by_zero ≡ true → MayBy DivideByZero (length more) faults) → more ≡ rs ++ None ∷ [] → IsIn x a → IsIn y b →
+    GoesThrough rs t →
     IsTried (IsAmong found.value) more faults (operation (f x y) t)
 settled f a b found rs more faults x y t tells few over zero m p q h = by (f x y) refl
   where
     by : (v : Value) → f x y ≡ v → IsTried (IsAmong found.value) more faults (operation v t)
     by (Ok v) e = (tells.sound x y v p q e, through_next rs more t None None h tt tt m)
-    by (Err kind) e = (along_last rs more t None None h tt m, either kind e (few kind e))
+    by (Err kind) e = (ends_last rs more t None None h tt m, may_last kind faults rs more t None None h m (either kind e (few kind e)))
       where
         given : (kind other : Kind) → f x y ≡ Err kind → kind ≡ other → Gives f a b (Err other)
         given kind other e o = record { left = x; right = y; left_in = p; right_in = q; gives = e ∙ ap Err o }
 
-        either : (kind : Kind) → f x y ≡ Err kind → (kind ≡ Overflow) ⊎ (kind ≡ DivideByZero) → May kind faults
-        either kind e (inl o) = subst (λ k. May k faults) (sym o) (over (tells.overflow.1 (given kind Overflow e o)))
-        either kind e (inr o) = subst (λ k. May k faults) (sym o) (zero (tells.zero.1 (given kind DivideByZero e o)))
+        either : (kind : Kind) → f x y ≡ Err kind → (kind ≡ Overflow) ⊎ (kind ≡ DivideByZero) → MayBy kind (length more) faults
+        either kind e (inl o) = subst (λ k. MayBy k (length more) faults) (sym o) (over (tells.overflow.1 (given kind Overflow e o)))
+        either kind e (inr o) = subst (λ k. MayBy k (length more) faults) (sym o) (zero (tells.zero.1 (given kind DivideByZero e o)))

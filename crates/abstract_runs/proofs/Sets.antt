@@ -13,6 +13,7 @@ use Rattle.std.specs.List.{AllByRecursion}
 use Rattle.pram_meaning.specs.Store.{View, member_of}
 use Rattle.pram_meaning.specs.Together.{on_key, parts, those, together}
 use Rattle.all_inputs.specs.declared.faults.Faults.{Faults}
+use Rattle.abstract_runs.specs.declared.findings.Findings.{Findings}
 use Rattle.abstract_runs.specs.declared.row.Row.{Row}
 use Rattle.abstract_runs.specs.declared.standing.Member.{Member}
 use Rattle.abstract_runs.specs.declared.standing.Standing.{Standing}
@@ -35,7 +36,7 @@ parts_members p m a [] = refl
 parts_members p m a (v ∷ vs) = ap (λ vs. v ∷ vs) (parts_members p m a vs)
 
 pub leads_attempted : (p : Checked) (n line : ℕ) (a : View → Attempt Effect) (vs : List ℕ) (team : List Member) (known begun : Standing)
-    (mid told : Told) (faults all : Faults) (rows : List Row) (m : store.State) → StandsOn known team vs m →
+    (mid told : Told) (faults : Findings) (all : Faults) (rows : List Row) (m : store.State) → StandsOn known team vs m →
     Leads (λ u s. (true ≡ true) × IsKnownAs begun s × (s.team ≡ m.team)) mid (counted n m) → IsKept mid told →
     ((s : store.State) → StandsOn begun team vs s → ArePartsBy faults rows (parts p s a vs)) →
     ((s : store.State) → ArePartsBy faults rows (parts p s a vs) →
@@ -95,7 +96,7 @@ found_then p found vs R told more Q b f h k g =
 -- those whose test comes out so are in the set that is chosen
 pub goes_way : (p : Checked) (wanted : Bool) (found : Option (Vec Row Global)) (rows : Vec Row Global) (tried : List Row)
     (chosen active : List Active) (vs : List ℕ) (xs : List Part) → found ≡ Some rows → tried ≡ rows.items → active ≡ chosen →
-    ((faults : Faults) (xs : List Part) → ArePartsBy faults tried xs → AreGiven xs → AreActive chosen (those wanted xs)) →
+    ((faults : Findings) (xs : List Part) → ArePartsBy faults tried xs → AreGiven xs → AreActive chosen (those wanted xs)) →
     IsFound p found vs xs → AreActive active (those wanted xs)
 goes_way p wanted found rows tried chosen active vs xs is same named choose h =
     let a = attempted_as p found rows vs xs is h in

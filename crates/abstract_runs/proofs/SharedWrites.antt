@@ -1,6 +1,6 @@
 -- Writes of several processors, and the rows in which they are known.
 use Rattle.std.proofs.Common.{◌≡◌, ◌⊎◌, inl, inr, ℕ, suc, List, [], ◌∷◌, ◌++◌, length, refl, sym, subst, ap, ◌∙◌}
-use Rattle.std.proofs.Common.{Bool, true, false, if◌then◌else◌, Option, Some, None, Ok, Err, ℤ, pos, ◌+ℤ◌, ◌≤ℤ◌, arith, tests}
+use Rattle.std.proofs.Common.{Bool, true, false, if◌then◌else◌, Option, Some, None, IfSome, Ok, Err, ◌≤◌, ℤ, pos, ◌+ℤ◌, ◌≤ℤ◌, arith, tests}
 use Rattle.std.proofs.Common.{nat_eq}
 use Rattle.std.specs.List.{Contains, All, flat_map}
 use Rattle.std.proofs.lemmas.Int.{ints, int_min_is, int_max_is}
@@ -20,19 +20,20 @@ use Rattle.pram_meaning.specs.declared.key.Key.{Key}
 use Rattle.intervals.specs.declared.interval.Interval.{Interval}
 use Rattle.intervals.specs.Intervals.{IsIn}
 use Rattle.abstract_runs.specs.declared.effect as known
-use Rattle.all_inputs.specs.declared.faults.Faults.{Faults}
+use Rattle.abstract_runs.specs.declared.findings.Findings.{Findings}
 use Rattle.abstract_runs.specs.declared.reach.Reach.{Reach}
 use Rattle.abstract_runs.specs.declared.row.Row.{Row}
 use Rattle.abstract_runs.specs.Alike.{AreAlike}
 use Rattle.abstract_runs.specs.Apart.{Reaches, AreApart}
 use Rattle.abstract_runs.specs.Columns.{targets, reach_in, value_in, low_of, high_of, low_sum, high_sum, AreWords, HasWords, IsOnly}
-use Rattle.abstract_runs.specs.Columns.{WritesOnly, NeverClash, kind_under}
+use Rattle.abstract_runs.specs.Columns.{GivesBehind, WritesOnly, NeverClash, kind_under}
 use Rattle.abstract_runs.specs.Covers.{IsReached}
 use Rattle.abstract_runs.specs.Effects.{IsGivenBy, IsGoneTo}
 use Rattle.abstract_runs.specs.Rows.{ArePartsBy, IsPartBy}
 use Rattle.abstract_runs.specs.Rows as rows
 use Rattle.abstract_runs.specs.Tried.{IsTried}
-use Rattle.abstract_runs.proofs.SharedReads.{first_or_rest, none_there, comes_from}
+use Rattle.abstract_runs.proofs.Among.{all_at, comes_from, first_or_rest, none_there}
+use Rattle.abstract_runs.proofs.SharedReads.{row_of}
 
 -- ---- what a row's processor writes to a cell
 
@@ -77,7 +78,7 @@ given_writes c p value (Some reach) (Some d) v i h =
     same_cell c d (Some (record { value = value; reach = Some reach })) (record { processor = p; value = v }) reach value refl refl h i
     (nat_eq c d) refl
 
-pub writes_one : (c : ℕ) (p : ℤ) (e : Option known.Effect.Effect) (rs : List (Option Reach)) (f : Faults) (a : Attempt Effect) →
+pub writes_one : (c : ℕ) (p : ℤ) (e : Option known.Effect.Effect) (rs : List (Option Reach)) (f : Findings) (a : Attempt Effect) →
     IsTried (IsGivenBy e) rs f a → WritesOne c e (writes_by c p a)
 writes_one c p e rs f (Fails t k) h = inl refl
 writes_one c p None rs f (Gives t g) h = absurd h.0
@@ -137,7 +138,40 @@ pub clash_kind : (rule : Rule) (xs : List Part) (key : Key) → Contains (flat_m
     key.kind ≡ kind_under rule
 clash_kind rule xs key h = let one = some_clash rule xs key h in kind_is rule (writes_to one.cell xs) key.kind one.clash
 
-pub never_key : (before : Faults) (rule : Rule) (alike : Bool) (rs : List Row) (xs : List Part) (key : Key) → NeverClash rule alike rs →
+-- ---- where it is told
+
+value_at : (at c : ℕ) (v : Value) (key : Key) → Contains (value_key at c v) key → key.at ≡ at
+value_at at c (Ok v) key h = absurd (none_there key h)
+value_at at c (Err k) key h = elim (first_or_rest _ [] key h) [
+  | inl e ↦ ap (λ (key : Key). key.at) e
+  | inr there ↦ absurd (none_there key there)
+]
+
+cell_at : (rule : Rule) (xs : List Part) (at : ℕ) (cell : Option ℕ) (key : Key) → Contains (cell_conflict rule xs at cell) key → key.at ≡ at
+cell_at rule xs at None key h = absurd (none_there key h)
+cell_at rule xs at (Some c) key h = value_at at c (written rule (pos 0) (writes_to c xs)) key h
+
+given_behind : (at n : ℕ) (e : Option known.Effect.Effect) (g : Effect) → IfSome e (λ e. at ≤ n) → IsGivenBy e g → at ≤ n
+given_behind at n None g h given = absurd given
+given_behind at n (Some e) g h given = h
+
+attempt_behind : (rule : Rule) (xs : List Part) (f : Findings) (row : Row) (at : ℕ) (a : Attempt Effect) (key : Key) → GivesBehind at row →
+    IsTried (IsGivenBy row.effect) row.trail.items f a → Contains (write_conflict rule xs a) key → at ≤ key.at
+attempt_behind rule xs f row at (Gives t g) key h tried c =
+    let here = cell_at rule xs (length t) g.cell key c in
+    let all = tried.1.all in
+    let l = given_behind at (length row.trail.items) row.effect g h tried.0 in omega (arith, here, all, l)
+attempt_behind rule xs f row at (Fails t k) key h tried c = absurd (none_there key c)
+
+-- where each row that gives something does so behind a position, so is each fault of writers
+pub clash_behind : (f : Findings) (rule : Rule) (rs : List Row) (xs : List Part) (key : Key) (at : ℕ) → All (GivesBehind at) rs →
+    ArePartsBy f rs xs → Contains (flat_map (λ x. write_conflict rule xs x.attempt) xs) key → at ≤ key.at
+clash_behind f rule rs xs key at behind parts h =
+    let from = comes_from (λ (x : Part). write_conflict rule xs x.attempt) xs key h in
+    let x = row_of f rs xs from.one parts from.among in
+    attempt_behind rule xs f x.row at from.one.attempt key (all_at (GivesBehind at) rs x.place x.row behind x.is) x.part.tried from.gives
+
+pub never_key : (before : Findings) (rule : Rule) (alike : Bool) (rs : List Row) (xs : List Part) (key : Key) → NeverClash rule alike rs →
     ArePartsBy before rs xs → (alike ≡ true → AreAlike xs) →
     Contains (flat_map (λ x. write_conflict rule xs x.attempt) xs) key → ⊥
 never_key before rule alike rs xs key never parts same h =
@@ -164,7 +198,7 @@ only_one rs row c w apart one j r =
     let same : 0 ≡ suc j = apart 0 (suc j) c (target_at rs row c w one) (target_behind rs row j c r) in
     absurd (omega (arith, same))
 
-none_written : (f : Faults) (rs : List Row) (xs : List Part) (c : ℕ) → ((j : ℕ) → Reaches (targets rs) j c → ⊥) → ArePartsBy f rs xs →
+none_written : (f : Findings) (rs : List Row) (xs : List Part) (c : ℕ) → ((j : ℕ) → Reaches (targets rs) j c → ⊥) → ArePartsBy f rs xs →
     writes_to c xs ≡ []
 none_written f [] [] c none parts = refl
 none_written f [] (x ∷ xs) c none parts = elim parts [ ]
@@ -192,7 +226,7 @@ lone_value (Some j) i v h e x =
     let words = subst (λ i. AreWords (Some i)) same h in
     between_words i.least v i.greatest words.0 words.1 x.least x.greatest
 
-pub lone : (f : Faults) (rs : List Row) (xs : List Part) (c : ℕ) → AreApart (targets rs) → All HasWords rs → ArePartsBy f rs xs →
+pub lone : (f : Findings) (rs : List Row) (xs : List Part) (c : ℕ) → AreApart (targets rs) → All HasWords rs → ArePartsBy f rs xs →
     IsLone (writes_to c xs)
 lone f [] [] c apart words parts = inl refl
 lone f [] (x ∷ xs) c apart words parts = elim parts [ ]
@@ -259,7 +293,7 @@ common_more x w ws e rest =
     let same : is_equal x w.value ≡ true = grind (arith, ints, e) in
     ap (λ b. if b then common_value x ws else Err WriteConflict) same ∙ rest
 
-common_all : (f : Faults) (x : ℤ) (rs : List Row) (xs : List Part) (c : ℕ) → All (WritesOnly x) rs → ArePartsBy f rs xs →
+common_all : (f : Findings) (x : ℤ) (rs : List Row) (xs : List Part) (c : ℕ) → All (WritesOnly x) rs → ArePartsBy f rs xs →
     common_value x (writes_to c xs) ≡ Ok x
 common_all f x [] [] c only parts = refl
 common_all f x [] (y ∷ xs) c only parts = elim parts [ ]
@@ -325,7 +359,7 @@ no_more : (a z b : ℤ) → IsBetween a (pos 0 +ℤ z) b → IsBetween a z b
 no_more a z b h =
     let same : pos 0 +ℤ z ≡ z = grind (arith, ints) in subst (λ z. IsBetween a z b) same h
 
-sum_in : (f : Faults) (rs : List Row) (xs : List Part) (c : ℕ) → ArePartsBy f rs xs →
+sum_in : (f : Findings) (rs : List Row) (xs : List Part) (c : ℕ) → ArePartsBy f rs xs →
     IsBetween (low_sum rs) (sum_of (writes_to c xs)) (high_sum rs)
 sum_in f [] [] c parts = record { least = grind (arith, ints); most = grind (arith, ints) }
 sum_in f [] (x ∷ xs) c parts = elim parts [ ]

@@ -17,7 +17,7 @@ use Rattle.pram_meaning.specs.Attempt as meant
 use Rattle.pram_meaning.specs.Attempt.{Attempt, Gives, Fails}
 use Rattle.pram_meaning.specs.Conflict.{Part, cell_conflict, fault_of, keys, least, read_conflicts, reads_of, value_key, write_conflict}
 use Rattle.pram_meaning.specs.Conflict.{write_to, writes_by, writes_to}
-use Rattle.all_inputs.specs.declared.faults.Faults.{Faults}
+use Rattle.abstract_runs.specs.declared.findings.Findings.{Findings}
 use Rattle.abstract_runs.specs.declared.effect.Effect.{Effect}
 use Rattle.abstract_runs.specs.declared.reach.Reach.{Reach}
 use Rattle.abstract_runs.specs.declared.row.Row.{Row}
@@ -28,24 +28,6 @@ use Rattle.abstract_runs.specs.Rows as rows
 use Rattle.abstract_runs.specs.Sure.{Clash, IsAgainst, WritesSurely}
 use Rattle.abstract_runs.specs.Tried.{IsTried}
 use Rattle.abstract_runs.proofs.Faultless.{all_given, no_keys, none_first, none_last}
-
--- ---- an attempt that always faults
-
-never_gives : (effect : Option Effect) (reaches : List (Option Reach)) (faults : Faults) (a : Attempt meant.Effect) → effect ≡ None →
-    IsTried (IsGivenBy effect) reaches faults a → IsGiving a → ⊥
-never_gives effect reaches faults (Gives t g) e tried given = subst (λ o. IsGivenBy o g) e tried.0
-never_gives effect reaches faults (Fails t kind) e tried given = given
-
-pub never_given : (faults : Faults) (known : List Row) (k : ℕ) (d : Row) (xs : List Part) → k < length known →
-    (get_or known k d).is_sure ≡ true → (get_or known k d).effect ≡ None → ArePartsBy faults known xs → AreGiven xs → ⊥
-never_given faults [] k d xs below sure none parts given = absurd (omega (arith, below))
-never_given faults (row ∷ known) zero d (x ∷ xs) below sure none (rows.takes part parts) given =
-    never_gives row.effect row.trail.items faults x.attempt none part.tried given.0
-never_given faults (row ∷ known) (suc k) d (x ∷ xs) below sure none (rows.takes part parts) given =
-    never_given faults known k d xs (omega (arith, below)) sure none parts given.1
-never_given faults (row ∷ known) zero d xs below sure none (rows.passes unsure parts) given = absurd (cc (sym unsure ∙ sure))
-never_given faults (row ∷ known) (suc k) d xs below sure none (rows.passes unsure parts) given =
-    never_given faults known k d xs (omega (arith, below)) sure none parts given
 
 -- ---- what a row surely writes
 
@@ -78,7 +60,8 @@ given_writes c i values effect e r t g is same goes l m given =
     let k : IsGiven e g = subst (λ o. IsGivenBy o g) is given in
     gone c i g.value e.reach r g.cell values goes l m k.cell (subst (IsIn g.value) same k.value)
 
-pub part_writes : (c : ℕ) (values : Interval) (faults : Faults) (row : Row) (x : Part) → WritesSurely c values row → IsPartBy faults row x →
+pub part_writes : (c : ℕ) (values : Interval) (faults : Findings) (row : Row) (x : Part) → WritesSurely c values row →
+    IsPartBy faults row x →
     IsGiving x.attempt → IsWrite c values (writes_by c x.processor x.attempt)
 part_writes c values faults row x w part given = by x.attempt part.tried given
   where
@@ -106,7 +89,7 @@ holds_first c i ws more w = record {
 holds_more : (i : Interval) (ws more : List Write) → Holds i more → Holds i (ws ++ more)
 holds_more i ws more h = record { write = h.write; among = Contains-append_right ws more h.write h.among; value = h.value }
 
-pub one_holds : (c : ℕ) (i : Interval) (faults : Faults) (known : List Row) (k : ℕ) (d : Row) (xs : List Part) → k < length known →
+pub one_holds : (c : ℕ) (i : Interval) (faults : Findings) (known : List Row) (k : ℕ) (d : Row) (xs : List Part) → k < length known →
     WritesSurely c i (get_or known k d) → ArePartsBy faults known xs → AreGiven xs → Holds i (writes_to c xs)
 one_holds c i faults [] k d xs below w parts given = absurd (omega (arith, below))
 one_holds c i faults (row ∷ known) zero d (x ∷ xs) below w (rows.takes part parts) given =
@@ -145,7 +128,8 @@ both_more i k ws more b =
     let t = b.two in let l = longer ws more in
     record { two = omega (arith, t, l); one_of = holds_more i ws more b.one_of; other = holds_more k ws more b.other }
 
-two_hold : (c : ℕ) (i j : Interval) (faults : Faults) (known : List Row) (m n : ℕ) (d e : Row) (xs : List Part) → m < n → n < length known →
+two_hold : (c : ℕ) (i j : Interval) (faults : Findings) (known : List Row) (m n : ℕ) (d e : Row) (xs : List Part) → m < n →
+    n < length known →
     WritesSurely c i (get_or known m d) → WritesSurely c j (get_or known n e) → ArePartsBy faults known xs → AreGiven xs →
     Both i j (writes_to c xs)
 two_hold c i j faults [] m n d e xs before below v w parts given = absurd (omega (arith, below))
@@ -156,7 +140,8 @@ two_hold c i j faults (row ∷ known) zero (suc n) d e (x ∷ xs) before below v
 two_hold c i j faults (row ∷ known) (suc m) (suc n) d e (x ∷ xs) before below v w (rows.takes part parts) given =
     both_more i j (writes_by c x.processor x.attempt) (writes_to c xs)
     (two_hold c i j faults known m n d e xs (omega (arith, before)) (omega (arith, below)) v w parts given.1)
-two_hold c i j faults (row ∷ known) zero (suc n) d e xs before below v w (rows.passes unsure parts) given = absurd (cc (sym unsure ∙ v.sure))
+two_hold c i j faults (row ∷ known) zero (suc n) d e xs before below v w (rows.passes unsure parts) given = absurd
+    (cc (sym unsure ∙ v.sure))
 two_hold c i j faults (row ∷ known) (suc m) (suc n) d e xs before below v w (rows.passes unsure parts) given =
     two_hold c i j faults known m n d e xs (omega (arith, before)) (omega (arith, below)) v w parts given
 
@@ -181,7 +166,8 @@ only_one : (w : Write) (ws : List Write) (z : ℤ) → 2 ≤ length (w ∷ ws) �
 only_one w [] z two e = omega (arith, two)
 only_one w (v ∷ ws) z two e = cc e
 
-not_written : (rule : Rule) (i k : Interval) (ws : List Write) (z : ℤ) → IsAgainst rule i k → Both i k ws → written rule (pos 0) ws ≡ Ok z → ⊥
+not_written : (rule : Rule) (i k : Interval) (ws : List Write) (z : ℤ) → IsAgainst rule i k → Both i k ws → written rule (pos 0) ws ≡ Ok z →
+    ⊥
 not_written rule i k [] z against b e = let t = b.two in absurd (omega (arith, t))
 not_written Erew i k (w ∷ ws) z against b e = only_one w ws z b.two e
 not_written Crew i k (w ∷ ws) z against b e = only_one w ws z b.two e
@@ -239,11 +225,12 @@ settled_or_none rule c all (x ∷ xs) e given = by x.attempt given.0 e (settled_
     by (Gives t g) here e rest = by_cell t g.cell g.value e rest
     by (Fails t kind) here e rest = absurd here
 
-pub clash_faults : (rule : Rule) (faults : Faults) (known : List Row) (m n : ℕ) (d e : Row) (xs : List Part) → m < n → n < length known →
+pub clash_faults : (rule : Rule) (faults : Findings) (known : List Row) (m n : ℕ) (d e : Row) (xs : List Part) → m < n → n < length known →
     Clash rule (get_or known m d) (get_or known n e) → ArePartsBy faults known xs → least (keys rule xs) ≡ None → ⊥
 clash_faults rule faults known m n d e xs before below clash parts none =
     let given = all_given rule xs none in
-    let b = two_hold clash.cell clash.first clash.second faults known m n d e xs before below clash.one_writes clash.two_writes parts given in
+    let b = two_hold clash.cell clash.first clash.second faults known m n d e xs before below clash.one_writes clash.two_writes parts given
+    in
     let no_writes = none_last (flat_map (λ x. fault_of x.processor x.attempt) xs ++ read_conflicts rule (reads_of xs))
     (flat_map (λ x. write_conflict rule xs x.attempt) xs) (no_keys rule xs none) in
     elim (settled_or_none rule clash.cell xs xs no_writes given) [

@@ -1,127 +1,136 @@
 -- Two processors that surely read one cell at one position.
-use Rattle.std.proofs.Common.{◌≡◌, ◌≢◌, ℕ, zero, suc, ◌+◌, ◌<◌, List, [], ◌∷◌, ◌++◌, length, refl, sym, subst, ap, ◌∙◌}
-use Rattle.std.proofs.Common.{Bool, true, Option, Some, None, ℤ, arith, tests, get_or}
-use Rattle.std.specs.Prelude.{slice_index_or}
-use Rattle.std.specs.List.{Contains, flat_map, list_any}
+use Rattle.std.proofs.Common.{◌≡◌, ◌≢◌, ◌⊎◌, inl, inr, ℕ, zero, suc, ◌+◌, ◌<◌, List, [], ◌∷◌, length, refl, sym, subst, ap}
+use Rattle.std.proofs.Common.{Bool, true, false, nat_lt, Option, Some, None, ℤ, arith, tests, get_or}
+use Rattle.std.specs.Prelude.{slice_get, slice_index_or}
+use Rattle.std.specs.List.{Contains}
 use Rattle.std.proofs.lemmas.Int.{ints}
-use Rattle.std.proofs.lemmas.List.Elements.{Contains-append_left, Contains-append_right}
 use Rattle.pram_model.specs.declared.rule.Rule.TheVariants.{Erew}
+use Rattle.pram_values.specs.declared.kind.Kind.{Kind}
 use Rattle.pram_meaning.specs.Attempt as meant
 use Rattle.pram_meaning.specs.Attempt.{Attempt, Gives, Fails, Trail}
-use Rattle.pram_meaning.specs.Conflict.{Part, conflict_of, fault_of, is_conflict, keys, least, read_conflicts, read_key, reads_of, reads_on}
-use Rattle.pram_meaning.specs.Conflict.{trail_of, write_conflict}
+use Rattle.pram_meaning.specs.Conflict.{Part, conflict_of, is_conflict, keys, read_conflicts, read_key, reads_of, reads_on, trail_of}
 use Rattle.pram_meaning.specs.declared.read.Read.{Read}
-use Rattle.all_inputs.specs.declared.faults.Faults.{Faults}
+use Rattle.abstract_runs.specs.declared.findings.Findings.{Findings}
 use Rattle.abstract_runs.specs.declared.reach.Reach.{Reach}
 use Rattle.abstract_runs.specs.declared.row.Row.{Row}
 use Rattle.abstract_runs.specs.Covers.{IsReached}
 use Rattle.abstract_runs.specs.Effects.{IsGivenBy}
-use Rattle.abstract_runs.specs.Given.{AreGiven, IsGiving}
-use Rattle.abstract_runs.specs.Rows.{ArePartsBy, IsPartBy}
-use Rattle.abstract_runs.specs.Rows as rows
-use Rattle.abstract_runs.specs.Sure.{Meeting, ReadsSurely}
-use Rattle.abstract_runs.specs.Tried.{AreRead, GoesAlong, IsTried}
-use Rattle.abstract_runs.proofs.Faultless.{all_given, no_keys, none_first, none_last}
+use Rattle.abstract_runs.specs.Sure.{HasFaultBy, HaveFaultBy, Meeting, ReadsSurely}
+use Rattle.abstract_runs.specs.Tried.{AreRead, AreReadBefore, GoesAlong, IsRead, IsReadIn, IsTried}
+use Rattle.abstract_runs.proofs.Among.{among_all, any_of, deeper, first}
+use Rattle.abstract_runs.proofs.SureKeys.{failed_by, read_conflict_key}
+use Rattle.abstract_runs.proofs.SureParts.{HasPartBy, sure_part}
+use Rattle.abstract_runs.proofs.Trails.{read_there}
 
--- ---- lists
+-- ---- the read of a trail
 
-deeper : {A : Type 0} (x : A) (xs : List A) (y : A) → Contains xs y → Contains (x ∷ xs) y
-deeper x xs y (k, below, e) = (suc k, omega (arith, below), e)
+-- the trail reads that cell at that position
+abbrev pub Reads : ℕ → ℕ → Trail → Type 0
+Reads p c t = slice_get t p ≡ Some (Some c)
 
-among_all : {A B : Type 0} (f : A → List B) (xs : List A) (x : A) (y : B) → Contains xs x → Contains (f x) y → Contains (flat_map f xs) y
-among_all f [] x y (k, below, e) there = absurd (omega (arith, below))
-among_all f (z ∷ xs) x y (zero, below, e) there =
-    Contains-append_left (f z) (flat_map f xs) y (subst (λ z. Contains (f z) y) (sym e) there)
-among_all f (z ∷ xs) x y (suc k, below, e) there =
-    Contains-append_right (f z) (flat_map f xs) y (among_all f xs x y (k, omega (arith, below), e) there)
+only_cell : (r : Option Reach) (reach : Reach) (c : ℕ) (d : Option ℕ) → r ≡ Some reach → reach.least ≡ c → reach.most ≡ c → IsRead r d →
+    IsReadIn r d → d ≡ Some c
+only_cell None reach c d is l m read in_reach = absurd (cc is)
+only_cell (Some s) reach c None is l m read in_reach = absurd read
+only_cell (Some s) reach c (Some d) is l m read in_reach =
+    let same : s ≡ reach = cc is in
+    let there : IsReached d reach = subst (IsReached d) same in_reach in
+    let low = there.least in let high = there.most in
+    let e : d ≡ c = omega (arith, low, high, l, m) in ap Some e
 
-any_of : {A : Type 0} (test : A → Bool) (xs : List A) (x : A) → Contains xs x → test x ≡ true → list_any test xs ≡ true
-any_of test [] x (k, below, e) h = absurd (omega (arith, below))
-any_of test (z ∷ xs) x (zero, below, e) h = let t : test z ≡ true = ap test e ∙ h in grind (arith, tests, t)
-any_of test (z ∷ xs) x (suc k, below, e) h = let t = any_of test xs x (k, omega (arith, below), e) h in grind (arith, tests, t)
+-- of one that goes through all positions
+through_reads : (rs : List (Option Reach)) (t : Trail) (p : ℕ) (reach : Reach) (c : ℕ) → GoesAlong rs t → AreRead rs t →
+    length t ≡ length rs → slice_index_or rs p None ≡ Some reach → reach.least ≡ c → reach.most ≡ c → Reads p c t
+through_reads [] t p reach c along read all is l m = absurd (cc is)
+through_reads (r ∷ rs) [] p reach c along read all is l m = absurd (omega (arith, all))
+through_reads (r ∷ rs) (d ∷ t) zero reach c along read all is l m =
+    ap Some (only_cell r reach c d is l m (read_there r rs d t read).0 along.0)
+through_reads (r ∷ rs) (d ∷ t) (suc p) reach c along read all is l m =
+    through_reads rs t p reach c along.1 (read_there r rs d t read).1 (omega (arith, all)) is l m
 
-not_empty : {A : Type 0} (xs : List A) (x : A) → Contains xs x → xs ≡ [] → ⊥
-not_empty [] x (k, below, e) none = absurd (omega (arith, below))
-not_empty (y ∷ xs) x c none = cc none
-
--- ---- the read of a row
+-- of one that ends behind it
+ended_reads : (rs : List (Option Reach)) (t : Trail) (p : ℕ) (reach : Reach) (c : ℕ) → GoesAlong rs t → AreReadBefore rs t →
+    p + 1 < length t → slice_index_or rs p None ≡ Some reach → reach.least ≡ c → reach.most ≡ c → Reads p c t
+ended_reads rs [] p reach c along read before is l m = absurd (omega (arith, before))
+ended_reads rs (d ∷ []) p reach c along read before is l m = absurd (omega (arith, before))
+ended_reads [] (d ∷ b ∷ t) p reach c along read before is l m = absurd along
+ended_reads (r ∷ rs) (d ∷ b ∷ t) zero reach c along read before is l m = ap Some (only_cell r reach c d is l m read.0 along.0)
+ended_reads (r ∷ rs) (d ∷ b ∷ t) (suc p) reach c along read before is l m =
+    ended_reads rs (b ∷ t) p reach c along.1 read.1 (omega (arith, before)) is l m
 
 abbrev made : ℤ → ℕ → ℕ → Read
 made i at c = record { processor = i; at = at; cell = c }
 
-read_there : (rs : List (Option Reach)) (t : Trail) (i : ℤ) (at p : ℕ) (reach : Reach) (c : ℕ) → GoesAlong rs t → AreRead rs t →
-    length t ≡ length rs → slice_index_or rs p None ≡ Some reach → reach.least ≡ c → reach.most ≡ c →
-    Contains (reads_on i at t) (made i (at + p + 1) c)
-read_there [] t i at p reach c along read all is l m = absurd (cc is)
-read_there (r ∷ rs) [] i at p reach c along read all is l m = absurd (omega (arith, all))
-read_there (None ∷ rs) (d ∷ t) i at zero reach c along read all is l m = absurd (cc is)
-read_there (Some s ∷ rs) (None ∷ t) i at zero reach c along read all is l m = absurd read
-read_there (Some s ∷ rs) (Some d ∷ t) i at zero reach c along read all is l m =
-    let same : s ≡ reach = cc is in
-    let there : IsReached d reach = subst (IsReached d) same along.0 in
-    let low = there.least in let high = there.most in
-    let e : d ≡ c = omega (arith, low, high, l, m) in
+-- so it is one of the trail's reads
+reads_there : (t : Trail) (i : ℤ) (at p c : ℕ) → Reads p c t → Contains (reads_on i at t) (made i (at + p + 1) c)
+reads_there [] i at p c is = absurd (cc is)
+reads_there (None ∷ t) i at zero c is = absurd (cc is)
+reads_there (Some d ∷ t) i at zero c is =
+    let e : d ≡ c = cc is in
     let n : at + 1 ≡ at + 0 + 1 = omega arith in
-    (0, omega arith, subst (λ n. made i (at + 1) d ≡ made i n c) n (ap (made i (at + 1)) e))
-read_there (None ∷ rs) (None ∷ t) i at (suc p) reach c along read all is l m =
+    subst (λ c. Contains (made i (at + 1) d ∷ reads_on i (at + 1) t) (made i (at + 0 + 1) c)) e
+    (subst (λ n. Contains (made i (at + 1) d ∷ reads_on i (at + 1) t) (made i n d)) n (first (made i (at + 1) d) (reads_on i (at + 1) t)))
+reads_there (None ∷ t) i at (suc p) c is =
     let n : at + 1 + p + 1 ≡ at + suc p + 1 = omega arith in
-    subst (λ n. Contains (reads_on i (at + 1) t) (made i n c)) n
-    (read_there rs t i (at + 1) p reach c along.1 read (omega (arith, all)) is l m)
-read_there (None ∷ rs) (Some d ∷ t) i at (suc p) reach c along read all is l m = absurd along.0
-read_there (Some s ∷ rs) (None ∷ t) i at (suc p) reach c along read all is l m = absurd read
-read_there (Some s ∷ rs) (Some d ∷ t) i at (suc p) reach c along read all is l m =
+    subst (λ n. Contains (reads_on i (at + 1) t) (made i n c)) n (reads_there t i (at + 1) p c is)
+reads_there (Some d ∷ t) i at (suc p) c is =
     let n : at + 1 + p + 1 ≡ at + suc p + 1 = omega arith in
     deeper (made i (at + 1) d) (reads_on i (at + 1) t) (made i (at + suc p + 1) c)
-    (subst (λ n. Contains (reads_on i (at + 1) t) (made i n c)) n
-    (read_there rs t i (at + 1) p reach c along.1 read (omega (arith, all)) is l m))
+    (subst (λ n. Contains (reads_on i (at + 1) t) (made i n c)) n (reads_there t i (at + 1) p c is))
 
-part_reads : (p c : ℕ) (faults : Faults) (row : Row) (x : Part) → ReadsSurely p c row → IsPartBy faults row x → IsGiving x.attempt →
-    Contains (reads_on x.processor 0 (trail_of x.attempt)) (made row.processor (0 + p + 1) c)
-part_reads p c faults row x r part given =
-    subst (λ i. Contains (reads_on x.processor 0 (trail_of x.attempt)) (made i (0 + p + 1) c)) part.processor
-    (by x.attempt part.tried given)
+-- ---- the read of a row
+
+-- a row that surely reads faults by that position, or it reads
+read_or_faults : (p c : ℕ) (faults : Findings) (row : Row) (xs : List Part) → ReadsSurely p c row → HasPartBy faults row xs →
+    HasFaultBy (p + 1) (keys Erew xs) ⊎ Contains (reads_of xs) (made row.processor (0 + p + 1) c)
+read_or_faults p c faults row xs r h = by h.one.attempt refl h.by.tried
   where
-    by : (a : Attempt meant.Effect) → IsTried (IsGivenBy row.effect) row.trail.items faults a → IsGiving a →
-        Contains (reads_on x.processor 0 (trail_of a)) (made x.processor (0 + p + 1) c)
-    by (Gives t g) tried given =
-        read_there row.trail.items t x.processor 0 p r.reach c tried.1.along tried.1.reads tried.1.all r.is r.least r.most
-    by (Fails t kind) tried given = absurd given
+    read : Reads p c (trail_of h.one.attempt) → Contains (reads_of xs) (made row.processor (0 + p + 1) c)
+    read is = subst (λ i. Contains (reads_of xs) (made i (0 + p + 1) c)) h.by.processor
+        (among_all (λ (x : Part). reads_on x.processor 0 (trail_of x.attempt)) xs h.one (made h.one.processor (0 + p + 1) c) h.among
+        (reads_there (trail_of h.one.attempt) h.one.processor 0 p c is))
 
-row_reads : (p c : ℕ) (faults : Faults) (known : List Row) (k : ℕ) (d : Row) (xs : List Part) → k < length known →
-    ReadsSurely p c (get_or known k d) → ArePartsBy faults known xs → AreGiven xs →
-    Contains (reads_of xs) (made (get_or known k d).processor (0 + p + 1) c)
-row_reads p c faults [] k d xs below r parts given = absurd (omega (arith, below))
-row_reads p c faults (row ∷ known) zero d (x ∷ xs) below r (rows.takes part parts) given =
-    Contains-append_left (reads_on x.processor 0 (trail_of x.attempt)) (reads_of xs) (made row.processor (0 + p + 1) c)
-    (part_reads p c faults row x r part given.0)
-row_reads p c faults (row ∷ known) (suc k) d (x ∷ xs) below r (rows.takes part parts) given =
-    Contains-append_right (reads_on x.processor 0 (trail_of x.attempt)) (reads_of xs) (made (get_or known k d).processor (0 + p + 1) c)
-    (row_reads p c faults known k d xs (omega (arith, below)) r parts given.1)
-row_reads p c faults (row ∷ known) zero d xs below r (rows.passes unsure parts) given = absurd (cc (sym unsure ∙ r.sure))
-row_reads p c faults (row ∷ known) (suc k) d xs below r (rows.passes unsure parts) given =
-    row_reads p c faults known k d xs (omega (arith, below)) r parts given
+    late : (t : Trail) (kind : Kind) → h.one.attempt ≡ Fails t kind → GoesAlong row.trail.items t → AreReadBefore row.trail.items t →
+        (b : Bool) → nat_lt (p + 1) (length t) ≡ b →
+        HasFaultBy (p + 1) (keys Erew xs) ⊎ Contains (reads_of xs) (made row.processor (0 + p + 1) c)
+    late t kind is along reads true e =
+        inr (read (subst (λ a. Reads p c (trail_of a)) (sym is)
+        (ended_reads row.trail.items t p r.reach c along reads (grind (arith, tests, e)) r.is r.least r.most)))
+    late t kind is along reads false e = inl (failed_by Erew xs h.one t kind (p + 1) h.among is (grind (arith, tests, e)))
+
+    by : (a : Attempt meant.Effect) → h.one.attempt ≡ a → IsTried (IsGivenBy row.effect) row.trail.items faults a →
+        HasFaultBy (p + 1) (keys Erew xs) ⊎ Contains (reads_of xs) (made row.processor (0 + p + 1) c)
+    by (Gives t g) is tried =
+        inr (read (subst (λ a. Reads p c (trail_of a)) (sym is)
+        (through_reads row.trail.items t p r.reach c tried.1.along tried.1.reads tried.1.all r.is r.least r.most)))
+    by (Fails t kind) is tried = late t kind is tried.0.along tried.0.reads (nat_lt (p + 1) (length t)) refl
 
 -- ---- the conflict
 
 they_meet : (i j : ℤ) (at c : ℕ) → i ≢ j → is_conflict (made i at c) (made j at c) ≡ true
 they_meet i j at c apart = grind (arith, ints, tests, apart)
 
-conflict_there : (rs : List Read) (r q : Read) → Contains rs r → Contains rs q → is_conflict r q ≡ true → read_conflicts Erew rs ≡ [] → ⊥
-conflict_there rs r q here there meets none =
+conflict_there : (rs : List Read) (r q : Read) → Contains rs r → Contains rs q → is_conflict r q ≡ true →
+    Contains (read_conflicts Erew rs) (read_key r)
+conflict_there rs r q here there meets =
     let any = any_of (is_conflict r) rs q there meets in
     let told : conflict_of rs r ≡ read_key r ∷ [] = grind (arith, tests, any) in
-    not_empty (read_conflicts Erew rs) (read_key r)
-    (among_all (conflict_of rs) rs r (read_key r) here (subst (λ ks. Contains ks (read_key r)) (sym told) (0, omega arith, refl))) none
+    among_all (conflict_of rs) rs r (read_key r) here (subst (λ ks. Contains ks (read_key r)) (sym told) (first (read_key r) []))
 
-pub meeting_faults : (p : ℕ) (faults : Faults) (known : List Row) (m n : ℕ) (d e : Row) (xs : List Part) → m < length known →
-    n < length known → Meeting p (get_or known m d) (get_or known n e) → ArePartsBy faults known xs → least (keys Erew xs) ≡ None → ⊥
-meeting_faults p faults known m n d e xs below under meeting parts none =
-    let given = all_given Erew xs none in
-    let one = row_reads p meeting.cell faults known m d xs below meeting.one_reads parts given in
-    let two = row_reads p meeting.cell faults known n e xs under meeting.two_reads parts given in
-    let reads = none_last (flat_map (λ x. fault_of x.processor x.attempt) xs) (read_conflicts Erew (reads_of xs))
-    (none_first (flat_map (λ x. fault_of x.processor x.attempt) xs ++ read_conflicts Erew (reads_of xs))
-    (flat_map (λ x. write_conflict Erew xs x.attempt) xs) (no_keys Erew xs none)) in
-    conflict_there (reads_of xs) (made (get_or known m d).processor (0 + p + 1) meeting.cell)
-    (made (get_or known n e).processor (0 + p + 1) meeting.cell) one two
-    (they_meet (get_or known m d).processor (get_or known n e).processor (0 + p + 1) meeting.cell meeting.apart) reads
+pub meeting_by : (p : ℕ) (known : List Row) (m n : ℕ) (d e : Row) → m < length known → n < length known →
+    Meeting p (get_or known m d) (get_or known n e) → HaveFaultBy Erew known (p + 1)
+meeting_by p known m n d e below under meeting faults xs parts =
+    elim (read_or_faults p meeting.cell faults (get_or known m d) xs meeting.one_reads
+    (sure_part faults known m d xs below meeting.one_reads.sure parts)) [
+      | inl fault ↦ fault
+      | inr one ↦ elim (read_or_faults p meeting.cell faults (get_or known n e) xs meeting.two_reads
+          (sure_part faults known n e xs under meeting.two_reads.sure parts)) [
+            | inl fault ↦ fault
+            | inr two ↦ record {
+              key = read_key (made (get_or known m d).processor (0 + p + 1) meeting.cell);
+              among = read_conflict_key Erew xs _ (conflict_there (reads_of xs) _ _ one two
+                  (they_meet (get_or known m d).processor (get_or known n e).processor (0 + p + 1) meeting.cell meeting.apart));
+              by = omega arith;
+            }
+          ]
+    ]

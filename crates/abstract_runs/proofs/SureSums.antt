@@ -11,7 +11,7 @@ use Rattle.write_rules.specs.Rule.{sum_of, written}
 use Rattle.intervals.specs.declared.interval.Interval.{Interval}
 use Rattle.intervals.specs.Intervals.{IsIn}
 use Rattle.pram_meaning.specs.Conflict.{Part, fault_of, keys, least, read_conflicts, reads_of, write_conflict, writes_by, writes_to}
-use Rattle.all_inputs.specs.declared.faults.Faults.{Faults}
+use Rattle.abstract_runs.specs.declared.findings.Findings.{Findings}
 use Rattle.abstract_runs.specs.declared.effect.Effect.{Effect}
 use Rattle.abstract_runs.specs.declared.reach.Reach.{Reach}
 use Rattle.abstract_runs.specs.declared.row.Row.{Row}
@@ -19,11 +19,11 @@ use Rattle.abstract_runs.specs.Columns.{reach_in, value_in, where_reached}
 use Rattle.abstract_runs.specs.Given.{AreGiven}
 use Rattle.abstract_runs.specs.Rows.{ArePartsBy}
 use Rattle.abstract_runs.specs.Sure.{AddsIn, NeverFits, WritesSurely}
+use Rattle.abstract_runs.proofs.Among.{none_there}
 use Rattle.abstract_runs.proofs.CellSums.{sum_both, zero_behind}
 use Rattle.abstract_runs.proofs.CellWrites.{writes_last}
 use Rattle.abstract_runs.proofs.Faultless.{all_given, no_keys, none_last}
 use Rattle.abstract_runs.proofs.PartLists.{given_first, given_last, parts_all, parts_more, parts_none}
-use Rattle.abstract_runs.proofs.SharedReads.{none_there}
 use Rattle.abstract_runs.proofs.SharedWrites.{IsWriteOf, WritesOne, writes_one}
 use Rattle.abstract_runs.proofs.SureFaults.{one_holds, part_writes, settled_or_none}
 
@@ -82,7 +82,7 @@ no_write c effect w none one = absurd (cc (sym none ∙ one.goes))
 
 -- the sum of what such parts write lies between these
 abbrev pub AreSums : ℕ → ℤ → ℤ → List Row → Type 0
-AreSums c low high rows = (faults : Faults) (xs : List Part) → ArePartsBy faults rows xs → AreGiven xs →
+AreSums c low high rows = (faults : Findings) (xs : List Part) → ArePartsBy faults rows xs → AreGiven xs →
     (low ≤ℤ sum_of (writes_to c xs)) × (sum_of (writes_to c xs) ≤ℤ high)
 
 -- a number between the first two, and then one of the interval
@@ -129,7 +129,7 @@ not_added (v ∷ ws) w z c none value =
     let bad : checked (sum_of (v ∷ ws)) ≡ Err Overflow = ap (λ b. if b then Ok (sum_of (v ∷ ws)) else Err Overflow) none in
     absurd (cc (sym bad ∙ value))
 
-pub sum_faults : (c : ℕ) (i : Interval) (faults : Faults) (known : List Row) (k : ℕ) (d : Row) (xs : List Part) → k < length known →
+pub sum_faults : (c : ℕ) (i : Interval) (faults : Findings) (known : List Row) (k : ℕ) (d : Row) (xs : List Part) → k < length known →
     WritesSurely c i (get_or known k d) → NeverFits c known → ArePartsBy faults known xs → least (keys Sum xs) ≡ None → ⊥
 sum_faults c i faults known k d xs below w never parts none =
     let given = all_given Sum xs none in

@@ -1,5 +1,6 @@
 -- What the rows of a set of processors read and write beside one another.
-use Rattle.std.specs.Prelude.{◌≡◌, Bool, true, ℕ, List, [], ◌∷◌, map, Option, Some, None, Err, ℤ, pos, ◌+ℤ◌, slice_index_or}
+use Rattle.std.specs.Prelude.{◌≡◌, ◌≤◌, ◌<◌, ◌+◌, Bool, true, ℕ, List, [], ◌∷◌, map, Option, Some, None, IfSome, Err, ℤ, pos, ◌+ℤ◌, length}
+use Rattle.std.specs.Prelude.{slice_index_or}
 use Rattle.std.specs.Int.{int_min, int_max}
 use Rattle.pram_model.specs.declared.rule.Rule.{Rule}
 use Rattle.pram_model.specs.declared.rule.Rule.TheVariants.{Erew, Crew, Common, Priority, Sum}
@@ -10,8 +11,9 @@ use Rattle.write_rules.specs.Rule.{written}
 use Rattle.pram_meaning.specs.Conflict.{Part, writes_to}
 use Rattle.intervals.specs.declared.interval.Interval.{Interval}
 use Rattle.abstract_runs.specs.Alike.{AreAlike}
+use Rattle.abstract_runs.specs.Apart.{AreApart}
 use Rattle.abstract_runs.specs.declared.effect.Effect.{Effect}
-use Rattle.all_inputs.specs.declared.faults.Faults.{Faults}
+use Rattle.abstract_runs.specs.declared.findings.Findings.{Findings}
 use Rattle.abstract_runs.specs.declared.reach.Reach.{Reach}
 use Rattle.abstract_runs.specs.declared.row.Row.{Row}
 use Rattle.abstract_runs.specs.Rows.{ArePartsBy}
@@ -19,6 +21,15 @@ use Rattle.abstract_runs.specs.Rows.{ArePartsBy}
 -- what each row may read at the position behind k others
 abbrev pub column : ℕ → List Row → List (Option Reach)
 column k = map (λ row. slice_index_or row.trail.items k None)
+
+-- at each position before that one, or at all where there is none, no two rows read one cell
+abbrev pub AreApartBefore : Option ℕ → List Row → Type 0
+AreApartBefore None rows = (k : ℕ) → AreApart (column k rows)
+AreApartBefore (Some position) rows = (k : ℕ) → k + 1 < position → AreApart (column k rows)
+
+-- where it gives something, that is at this position or behind it
+abbrev pub GivesBehind : ℕ → Row → Type 0
+GivesBehind at row = IfSome row.effect (λ e. at ≤ length row.trail.items)
 
 -- where an attempt may write
 abbrev pub reach_in : Option Effect → Option Reach
@@ -79,7 +90,7 @@ WritesOnly x row = IsOnly x (value_in row.effect)
 
 -- whatever the processors write, all one value where they are alike, the rule has nothing against the writers of a cell
 abbrev pub NeverClash : Rule → Bool → List Row → Type 0
-NeverClash rule alike rows = (before : Faults) (xs : List Part) (c : ℕ) (kind : Kind) → ArePartsBy before rows xs →
+NeverClash rule alike rows = (before : Findings) (xs : List Part) (c : ℕ) (kind : Kind) → ArePartsBy before rows xs →
     (alike ≡ true → AreAlike xs) → written rule (pos 0) (writes_to c xs) ≡ Err kind → ⊥
 
 -- the kind of the faults of a rule that has any

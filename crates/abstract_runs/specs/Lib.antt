@@ -4,13 +4,16 @@ pub mod Columns
 pub mod Covers
 pub mod Decided
 pub mod Effects
+pub mod Finding
 pub mod Following
 pub mod Given
+pub mod Halting
 pub mod Inner
 pub mod Inside
 pub mod Leads
 pub mod Likeness
 pub mod Near
+pub mod Onward
 pub mod Open
 pub mod Placed
 pub mod Rows

@@ -2,19 +2,18 @@
 use Rattle.std.specs.Prelude.{◌≡◌, ℕ, List}
 use Rattle.pram_check.specs.Checked.{Checked}
 use Rattle.pram_names.specs.declared.body.Step.{Step}
-use Rattle.pram_meaning.specs.Bounded.{Behaviour, Goes, Stops, Reaches, perform_list_on, perform_on}
+use Rattle.pram_meaning.specs.Bounded.{perform_list_on, perform_on}
 use Rattle.pram_meaning.specs.Store.{State}
+use Rattle.abstract_runs.specs.Onward.{Onward}
 
--- where the run goes on, they are
-abbrev pub Stays : {A : Type 0} → State → Behaviour A → Type 0
-Stays before (Goes a m) = m.team ≡ before.team
-Stays before (Stops fault output) = Unit {0}
-Stays before (Reaches output) = Unit {0}
+-- the processors are those of before
+abbrev pub AsBefore : {A : Type 0} → State → A → State → Type 0
+AsBefore before a m = m.team ≡ before.team
 
--- the statement leaves each set's processors as they were, in each state
+-- the statement leaves each set's processors as they were, in each state from which the run goes on
 abbrev pub IsStaying : Step → Type 0
-IsStaying s = (p : Checked) (n : ℕ) (vs : List ℕ) (m : State) → Stays m (perform_on p n s vs m)
+IsStaying s = (p : Checked) (n : ℕ) (vs : List ℕ) (m : State) → Onward (AsBefore m) (perform_on p n s vs m)
 
 -- the statements in order do
 abbrev pub AreStaying : List Step → Type 0
-AreStaying ss = (p : Checked) (n : ℕ) (vs : List ℕ) (m : State) → Stays m (perform_list_on p n ss vs m)
+AreStaying ss = (p : Checked) (n : ℕ) (vs : List ℕ) (m : State) → Onward (AsBefore m) (perform_list_on p n ss vs m)

@@ -1,13 +1,15 @@
 -- What attempts of a set surely do.
-use Rattle.std.specs.Prelude.{◌≡◌, ◌≢◌, ◌⊎◌, ℕ, List, pos, ◌<ℤ◌, Some, None, true, false, slice_index_or}
+use Rattle.std.specs.Prelude.{◌≡◌, ◌≢◌, ◌⊎◌, ◌≤◌, ℕ, List, length, pos, ◌<ℤ◌, Some, None, true, false, slice_index_or}
 use Rattle.pram_model.specs.declared.rule.Rule.{Rule}
 use Rattle.pram_model.specs.declared.rule.Rule.TheVariants.{Erew, Crew, Common, Priority, Sum}
 use Rattle.pram_values.specs.Value.{fits}
 use Rattle.write_rules.specs.Rule.{sum_of}
 use Rattle.intervals.specs.declared.interval.Interval.{Interval}
 use Rattle.intervals.specs.Intervals.{IsIn}
-use Rattle.pram_meaning.specs.Conflict.{Part, writes_by, writes_to}
-use Rattle.all_inputs.specs.declared.faults.Faults.{Faults}
+use Rattle.std.specs.List.{Contains}
+use Rattle.pram_meaning.specs.Conflict.{Part, keys, writes_by, writes_to}
+use Rattle.pram_meaning.specs.declared.key.Key.{Key}
+use Rattle.abstract_runs.specs.declared.findings.Findings.{Findings}
 use Rattle.abstract_runs.specs.declared.effect.Effect.{Effect}
 use Rattle.abstract_runs.specs.declared.reach.Reach.{Reach}
 use Rattle.abstract_runs.specs.declared.row.Row.{Row}
@@ -32,6 +34,22 @@ pub record ReadsSurely (p c : ℕ) (row : Row) : Type 0 where
   pub is : slice_index_or row.trail.items p None ≡ Some reach
   pub least : reach.least ≡ c
   pub most : reach.most ≡ c
+
+-- it takes place, and always faults, at this position or before it
+pub record FaultsSurely (at : ℕ) (row : Row) : Type 0 where
+  pub sure : row.is_sure ≡ true
+  pub nothing : row.effect ≡ None
+  pub last : length row.trail.items ≡ at
+
+-- one of the faults is at that position or before it
+pub record HasFaultBy (at : ℕ) (ks : List Key) : Type 0 where
+  pub key : Key
+  pub among : Contains ks key
+  pub by : key.at ≤ at
+
+-- whatever parts of this kind come to, one of their faults is
+abbrev pub HaveFaultBy : Rule → List Row → ℕ → Type 0
+HaveFaultBy rule rows at = (faults : Findings) (xs : List Part) → ArePartsBy faults rows xs → HasFaultBy at (keys rule xs)
 
 -- two processors read one cell at one position
 pub record Meeting (p : ℕ) (one two : Row) : Type 0 where
@@ -59,10 +77,10 @@ pub record Clash (rule : Rule) (one two : Row) : Type 0 where
 
 -- what a row's processor adds to a cell's sum unless it faults lies in these, and so does 0 where it may take no part
 pub record AddsIn (c : ℕ) (added : Interval) (row : Row) : Type 0 where
-  pub taken : (faults : Faults) (x : Part) → IsPartBy faults row x → IsGiving x.attempt →
+  pub taken : (faults : Findings) (x : Part) → IsPartBy faults row x → IsGiving x.attempt →
       IsIn (sum_of (writes_by c x.processor x.attempt)) added
   pub passed : row.is_sure ≡ false → IsIn (pos 0) added
 
 -- where no processor faults, the sum of what they write to the cell is no number of 64 bits
 abbrev pub NeverFits : ℕ → List Row → Type 0
-NeverFits c rows = (faults : Faults) (xs : List Part) → ArePartsBy faults rows xs → AreGiven xs → fits (sum_of (writes_to c xs)) ≡ false
+NeverFits c rows = (faults : Findings) (xs : List Part) → ArePartsBy faults rows xs → AreGiven xs → fits (sum_of (writes_to c xs)) ≡ false

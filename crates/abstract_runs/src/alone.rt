@@ -1,12 +1,14 @@
 //! What the one processor outside pardo evaluates.
 
-ghost use Rattle.std.specs.Prelude.{◌≡◌, ◌≤◌, ◌<◌, [], ℤ, true, IfOk, IfSome, IsSomeAnd, OnOk};
+ghost use Rattle.std.specs.Prelude.{◌≡◌, ◌≤◌, ◌<◌, [], ℤ, true, IfOk, IfErr, IfSome, IsSomeAnd, OnOk};
 ghost use Rattle.pram_meaning.specs.Attempt.{attempt, attempt_assign, attempt_bounds};
 ghost use Rattle.pram_meaning.specs.Bounded.{evaluated, found};
 ghost use Rattle.pram_meaning.specs.Store.{State, seen};
 ghost use Rattle.abstract_runs.specs.Covers.{IsAmong, Shows};
 ghost use Rattle.abstract_runs.specs.Effects.{IsGivenBy};
 ghost use Rattle.abstract_runs.specs.Following.{Follows};
+ghost use Rattle.all_inputs.specs.declared.undecided.Undecided.TheVariants.{OpenBounds};
+ghost use Rattle.abstract_runs.specs.Halting.{AreOpen, Halts};
 ghost use Rattle.abstract_runs.specs.Leads.{Leads};
 ghost use Rattle.abstract_runs.specs.Standing.{IsKnownAs, StandsFor};
 ghost use Rattle.abstract_runs.specs.Tests.{IsValueOf};
@@ -16,11 +18,12 @@ use crate::assigning::assignment;
 use crate::attempt::value_of;
 use crate::bounds::bounds;
 use crate::effect::Effect;
+use crate::findings::Findings;
 use crate::halt::Halt;
 use crate::outlook::Outlook;
 use crate::standing::Standing;
 use crate::survey::Survey;
-use all_inputs::{Faults, Told};
+use all_inputs::Told;
 use intervals::Interval;
 use pram_check::{Expression, Program, Target};
 use std::alloc::AllocError;
@@ -68,10 +71,10 @@ impl<'a> Survey<'a> {
         }
         let no_locals: Vec<Interval> = Vec::new(self.alloc);
         let mut trail = Vec::new(self.alloc);
-        let mut faults = Faults::none();
+        let mut faults = Findings::none();
         let seen = outlook_of(self.program, known, &no_locals);
         let value = value_of(&seen, e, &mut trail, &mut faults)?;
-        told.note(line, faults)?;
+        told.note(line, faults.within(None))?;
         Ok(value)
     }
 
@@ -99,10 +102,10 @@ impl<'a> Survey<'a> {
         }
         let no_locals: Vec<Interval> = Vec::new(self.alloc);
         let mut trail = Vec::new(self.alloc);
-        let mut faults = Faults::none();
+        let mut faults = Findings::none();
         let seen = outlook_of(self.program, known, &no_locals);
         let effect = assignment(&seen, target, e, &mut trail, &mut faults)?;
-        told.note(line, faults)?;
+        told.note(line, faults.within(None))?;
         Ok(effect)
     }
 
@@ -119,6 +122,8 @@ impl<'a> Survey<'a> {
         ensures leads { IfOk result (λ found. (m : State) → StandsFor known.old m →
             Leads (λ r n. IsSomeAnd found (λ q. r ≡ (q.0, q.1)) × StandsFor known.new n) told.new
             (evaluated self.now.bound line (λ m. attempt_bounds (seen self.now.program.now m) low.now high.now) m)) }
+        // It halts for want of memory, or since one of the bounds isn't written as a number.
+        ensures halts { IfErr result (Halts (λ u. (u ≡ OpenBounds line) × AreOpen low.now high.now)) }
         ensures follows { Follows known.old known.new }
         ensures kept { IsKept told.old told.new }
     {
@@ -127,10 +132,10 @@ impl<'a> Survey<'a> {
         }
         let no_locals: Vec<Interval> = Vec::new(self.alloc);
         let mut trail = Vec::new(self.alloc);
-        let mut faults = Faults::none();
+        let mut faults = Findings::none();
         let seen = outlook_of(self.program, known, &no_locals);
         let found = bounds(&seen, line, low, high, &mut trail, &mut faults)?;
-        told.note(line, faults)?;
+        told.note(line, faults.within(None))?;
         Ok(found)
     }
 }

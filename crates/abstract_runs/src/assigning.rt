@@ -7,16 +7,17 @@ ghost use Rattle.pram_meaning.specs.Store.{View};
 ghost use Rattle.pram_meaning.specs.Attempt.{Trail, and_then, attempt, attempt_assign, attempt_step, attempt_value, write};
 ghost use Rattle.abstract_runs.specs.Covers.{Shows};
 ghost use Rattle.abstract_runs.specs.Effects.{IsGivenBy};
-ghost use Rattle.all_inputs.specs.Faulting.{AreKept};
+ghost use Rattle.abstract_runs.specs.Finding.{AreKept};
 ghost use Rattle.abstract_runs.specs.Tried.{GoesThrough, IsTried, IsLonger};
 
 use crate::attempt::value_of;
 use crate::effect::Effect;
+use crate::findings::Findings;
 use crate::operating::note_if;
 use crate::outlook::Outlook;
 use crate::placing::cells_at;
 use crate::reach::Reach;
-use all_inputs::{Faults, Reason};
+use all_inputs::Reason;
 use intervals::Interval;
 use pram_check::{Expression, StepTarget, Target};
 use pram_values::Kind;
@@ -29,7 +30,7 @@ fn write_at(
     subscript: Interval,
     value: Interval,
     trail: &mut Vec<Option<Reach>>,
-    faults: &mut Faults,
+    faults: &mut Findings,
 ) -> Result<Option<Effect>, AllocError>
     ensures tried { IfOk result (λ effect. (s : View) (t : Trail) (z v : ℤ) → Shows known.now s → IsIn z subscript → IsIn v value →
         GoesThrough trail.old.items t → IsTried (IsGivenBy effect) trail.new.items faults.new
@@ -38,13 +39,14 @@ fn write_at(
     ensures kept { AreKept faults.old faults.new }
 {
     let place = cells_at(known.layout, entry, subscript);
+    trail.push(None)?;
     note_if(
         place.may_be_outside,
         Kind::OutOfRange,
+        trail.len(),
         Reason::Subscript { entry, subscript },
         faults,
     );
-    trail.push(None)?;
     match place.reach {
         Some(reach) => Ok(Some(Effect {
             value,
@@ -59,7 +61,7 @@ pub fn value_alone(
     known: &Outlook,
     e: &Expression,
     trail: &mut Vec<Option<Reach>>,
-    faults: &mut Faults,
+    faults: &mut Findings,
 ) -> Result<Option<Effect>, AllocError>
     requires { trail.old.items ≡ [] }
     // The attempt of each that sees what is known gives such a value or fails by a fault that may come.
@@ -81,7 +83,7 @@ fn value_written(
     subscript: Interval,
     e: &Expression,
     trail: &mut Vec<Option<Reach>>,
-    faults: &mut Faults,
+    faults: &mut Findings,
 ) -> Result<Option<Effect>, AllocError>
     ensures tried { IfOk result (λ effect. (s : View) (t : Trail) (z : ℤ) → Shows known.now s → IsIn z subscript →
         GoesThrough trail.old.items t → IsTried (IsGivenBy effect) trail.new.items faults.new
@@ -105,7 +107,7 @@ fn element_written(
     subscript: &Expression,
     e: &Expression,
     trail: &mut Vec<Option<Reach>>,
-    faults: &mut Faults,
+    faults: &mut Findings,
 ) -> Result<Option<Effect>, AllocError>
     requires { trail.old.items ≡ [] }
     ensures tried { IfOk result (λ effect. (s : View) → Shows known.now s → IsTried (IsGivenBy effect) trail.new.items faults.new
@@ -127,7 +129,7 @@ pub fn step_assignment(
     target: &StepTarget,
     e: &Expression,
     trail: &mut Vec<Option<Reach>>,
-    faults: &mut Faults,
+    faults: &mut Findings,
 ) -> Result<Option<Effect>, AllocError>
     requires { trail.old.items ≡ [] }
     // The attempt of each that sees what is known reads along the trail, and gives such a value for such a cell or fails by
@@ -152,7 +154,7 @@ pub fn assignment(
     target: &Target,
     e: &Expression,
     trail: &mut Vec<Option<Reach>>,
-    faults: &mut Faults,
+    faults: &mut Findings,
 ) -> Result<Option<Effect>, AllocError>
     requires { trail.old.items ≡ [] }
     // The attempt of each that sees what is known reads along the trail, and gives such a value for such a cell or fails by

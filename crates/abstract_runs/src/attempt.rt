@@ -1,19 +1,21 @@
 //! Attempts at expressions, of all that see what is known.
 
-ghost use Rattle.std.specs.Prelude.{ℤ, IfOk, OnOk};
-ghost use Rattle.intervals.specs.Intervals.{IsIn};
+ghost use Rattle.std.specs.Prelude.{◌≡◌, ℤ, IfOk, IfSome, OnOk};
+ghost use Rattle.intervals.specs.Intervals.{IsIn, IsPoint};
+ghost use Rattle.pram_names.specs.declared.body.Expression.{Number};
 ghost use Rattle.pram_model.specs.Layout.{cell_of};
 ghost use Rattle.pram_meaning.specs.Store.{View};
 ghost use Rattle.pram_meaning.specs.Attempt.{Trail, attempt, read};
 ghost use Rattle.abstract_runs.specs.Covers.{IsAmong, Shows};
-ghost use Rattle.all_inputs.specs.Faulting.{AreKept};
+ghost use Rattle.abstract_runs.specs.Finding.{AreKept};
 ghost use Rattle.abstract_runs.specs.Tried.{GoesThrough, IsTried, IsLonger};
 
+use crate::findings::Findings;
 use crate::operating::{note_if, operate, operate_before};
 use crate::outlook::{Outlook, interval_at};
 use crate::placing::cells_at;
 use crate::reach::{Reach, read_cells};
-use all_inputs::{Faults, Reason};
+use all_inputs::Reason;
 use intervals::Interval;
 use pram_check::Expression;
 use pram_values::Kind;
@@ -25,7 +27,7 @@ fn read_at(
     entry: usize,
     subscript: Interval,
     trail: &mut Vec<Option<Reach>>,
-    faults: &mut Faults,
+    faults: &mut Findings,
 ) -> Result<Option<Interval>, AllocError>
     ensures tried { IfOk result (λ value. (s : View) (t : Trail) (z : ℤ) → Shows known.now s → IsIn z subscript →
         GoesThrough trail.old.items t → IsTried (IsAmong value) trail.new.items faults.new
@@ -34,13 +36,14 @@ fn read_at(
     ensures kept { AreKept faults.old faults.new }
 {
     let place = cells_at(known.layout, entry, subscript);
+    trail.push(place.reach)?;
     note_if(
         place.may_be_outside,
         Kind::OutOfRange,
+        trail.len(),
         Reason::Subscript { entry, subscript },
         faults,
     );
-    trail.push(place.reach)?;
     match place.reach {
         Some(reach) => Ok(Some(read_cells(known.cells, reach))),
         None => Ok(None),
@@ -52,12 +55,14 @@ pub fn value_of(
     known: &Outlook,
     e: &Expression,
     trail: &mut Vec<Option<Reach>>,
-    faults: &mut Faults,
+    faults: &mut Findings,
 ) -> Result<Option<Interval>, AllocError>
     // The attempt of each that sees what is known reads along the trail, and gives a value of the interval or fails by a
     // fault that may come.
     ensures tried { IfOk result (λ value. (s : View) (t : Trail) → Shows known.now s → GoesThrough trail.old.items t →
         IsTried (IsAmong value) trail.new.items faults.new (attempt s e.now t)) }
+    // A number gives itself.
+    ensures number { (n : ℤ) → e.now ≡ Number n → IfOk result (λ value. IfSome value (IsPoint n)) }
     // The positions of before stay the first ones.
     ensures longer { OnOk result (IsLonger trail.old.items trail.new.items) }
     // Each fault that might come before may come still.

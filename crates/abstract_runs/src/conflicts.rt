@@ -1,24 +1,23 @@
 //! Conflicts that may come between the processors of a set.
 
-ghost use Rattle.std.specs.Prelude.{◌≡◌, ◌≤◌, ℕ, List, true, false, None, Some, IfOk, IfErr, OnOk, length, slice_index_or};
+ghost use Rattle.std.specs.Prelude.{◌≡◌, ◌≤◌, ℕ, List, true, false, None, Some, IfOk, OnOk, length, slice_index_or};
 ghost use Rattle.std.specs.List.{All, Contains, flat_map};
 ghost use Rattle.pram_values.specs.Value.{fits};
 ghost use Rattle.write_rules.specs.Rule.{shares_reads as shares_by};
-ghost use Rattle.pram_check.specs.Checked.{Checked};
-ghost use Rattle.pram_meaning.specs.Conflict.{Part, read_conflicts, reads_of, write_conflict};
-ghost use Rattle.pram_meaning.specs.Together.{together};
+ghost use Rattle.pram_meaning.specs.Conflict.{Part, keys, read_conflicts, reads_of, write_conflict};
 ghost use Rattle.pram_meaning.specs.declared.key.Key.{Key};
-ghost use Rattle.all_inputs.specs.declared.faults.Faults as spec;
+ghost use Rattle.abstract_runs.specs.declared.findings.Findings as spec;
 ghost use Rattle.abstract_runs.specs.Alike.{AreAlike};
-ghost use Rattle.abstract_runs.specs.Apart.{AreApart};
-ghost use Rattle.abstract_runs.specs.Columns.{column as column_of, value_in, low_sum, high_sum, WritesOnly, NeverClash, kind_under};
-ghost use Rattle.all_inputs.specs.Faulting.{May, AreKept};
+ghost use Rattle.abstract_runs.specs.Columns.{AreApartBefore, GivesBehind, column as column_of, value_in, low_sum, high_sum};
+ghost use Rattle.abstract_runs.specs.Columns.{WritesOnly, NeverClash, kind_under};
+ghost use Rattle.abstract_runs.specs.Finding.{MayBy, AreKept};
 ghost use Rattle.abstract_runs.specs.Rows.{ArePartsBy};
 
 use crate::apart::are_apart;
+use crate::findings::Findings;
 use crate::reach::Reach;
 use crate::row::{Row, targets};
-use all_inputs::{Faults, Reason};
+use all_inputs::Reason;
 use intervals::Interval;
 use pram_model::Rule;
 use pram_values::Kind;
@@ -65,19 +64,19 @@ pub(crate) fn longest(rows: &[Row]) -> usize
     most
 }
 
-// Whether no two rows read one cell at the same position: `true` says so.
-fn are_reads_apart(alloc: Global, cells: usize, rows: &[Row]) -> Result<bool, AllocError>
-    ensures { IfOk result (λ apart. apart ≡ true → (k : ℕ) → AreApart (column_of k rows.now)) }
+// The first position at which two rows may read one cell, if there is one.
+fn first_shared(alloc: Global, cells: usize, rows: &[Row]) -> Result<Option<usize>, AllocError>
+    ensures { IfOk result (λ first. AreApartBefore first rows.now) }
 {
     let most = longest(rows);
     for k in 0..most {
         let reaches = column(alloc, rows, k)?;
         let apart = are_apart(alloc, cells, &reaches)?;
         if !apart {
-            return Ok(false);
+            return Ok(Some(k + 1));
         }
     }
-    Ok(true)
+    Ok(None)
 }
 
 /// Notes a read conflict, if two processors may read one cell at the same position and the rule forbids it.
@@ -86,21 +85,21 @@ pub fn note_read_conflicts(
     rule: Rule,
     cells: usize,
     rows: &[Row],
-    faults: &mut Faults,
+    faults: &mut Findings,
 ) -> Result<(), AllocError>
     // Each read conflict of parts of this kind is one that may come.
-    ensures noted { OnOk result ((before : spec.Faults) (xs : List Part) (key : Key) → ArePartsBy before rows.now xs →
-        Contains (read_conflicts rule (reads_of xs)) key → May key.kind faults.new) }
+    ensures noted { OnOk result ((before : spec.Findings) (xs : List Part) (key : Key) → ArePartsBy before rows.now xs →
+        Contains (read_conflicts rule (reads_of xs)) key → MayBy key.kind key.at faults.new) }
     // What might come before may come still.
     ensures kept { AreKept faults.old faults.new }
 {
     if shares_reads(rule) {
         return Ok(());
     }
-    let apart = are_reads_apart(alloc, cells, rows)?;
-    if !apart {
-        faults.note(Kind::ReadConflict, Reason::Shared);
-    }
+    let Some(position) = first_shared(alloc, cells, rows)? else {
+        return Ok(());
+    };
+    faults.note(Kind::ReadConflict, position, Reason::Shared);
     Ok(())
 }
 
@@ -213,6 +212,19 @@ fn never_clash(
     Ok(is_shared_well(rule, alike, rows))
 }
 
+// A position that no row's write comes before.
+fn shortest(rows: &[Row]) -> usize
+    ensures { All (GivesBehind result) rows.now }
+{
+    let mut least = longest(rows);
+    for k in 0..rows.len() {
+        if rows[k].effect.is_some() {
+            least = least.min(rows[k].trail.len());
+        }
+    }
+    least
+}
+
 // The kind of the faults of a rule that has something against writers.
 fn clash_kind(rule: Rule) -> Kind
     ensures { result ≡ kind_under rule }
@@ -230,17 +242,17 @@ pub fn note_write_conflicts(
     cells: usize,
     alike: bool,
     rows: &[Row],
-    faults: &mut Faults,
+    faults: &mut Findings,
 ) -> Result<(), AllocError>
     // Each fault of the writers of a cell, by parts of this kind, alike where that is said, is one that may come.
-    ensures noted { OnOk result ((before : spec.Faults) (xs : List Part) (key : Key) → ArePartsBy before rows.now xs →
-        (alike ≡ true → AreAlike xs) → Contains (flat_map (λ x. write_conflict rule xs x.attempt) xs) key → May key.kind faults.new) }
+    ensures noted { OnOk result ((before : spec.Findings) (xs : List Part) (key : Key) → ArePartsBy before rows.now xs →
+        (alike ≡ true → AreAlike xs) → Contains (flat_map (λ x. write_conflict rule xs x.attempt) xs) key → MayBy key.kind key.at faults.new) }
     // What might come before may come still.
     ensures kept { AreKept faults.old faults.new }
 {
     let never = never_clash(alloc, rule, cells, alike, rows)?;
     if !never {
-        faults.note(clash_kind(rule), Reason::Shared);
+        faults.note(clash_kind(rule), shortest(rows), Reason::Shared);
     }
     Ok(())
 }
@@ -254,12 +266,11 @@ pub fn note_conflicts(
     cells: usize,
     alike: bool,
     rows: &[Row],
-    faults: &mut Faults,
+    faults: &mut Findings,
 ) -> Result<(), AllocError>
-    // The fault of a statement on parts of this kind, alike where that is said, is one that may come, if the parts' own are.
-    ensures told { OnOk result ((before : spec.Faults) (xs : List Part) (line : ℕ) (p : Checked) → p.rule ≡ rule →
-        ArePartsBy before rows.now xs → (alike ≡ true → AreAlike xs) → AreKept before faults.new →
-        IfErr (together p line xs) (λ fault. May fault.kind faults.new × (fault.line ≡ line))) }
+    // Each fault of a statement on parts of this kind, alike where that is said, is one that may come, if the parts' own are.
+    ensures noted { OnOk result ((before : spec.Findings) (xs : List Part) (key : Key) → ArePartsBy before rows.now xs →
+        (alike ≡ true → AreAlike xs) → AreKept before faults.new → Contains (keys rule xs) key → MayBy key.kind key.at faults.new) }
     // What might come before may come still.
     ensures kept { AreKept faults.old faults.new }
 {

@@ -1,11 +1,14 @@
 //! Statements inside pardo.
 
-ghost use Rattle.std.specs.Prelude.{◌≡◌, ◌≤◌, ◌<◌, ◌+◌, ℕ, List, true, IfOk, IfSome, IsSomeAnd, OnOk};
+ghost use Rattle.std.specs.Prelude.{◌≡◌, ◌≤◌, ◌<◌, ◌+◌, ◌⊎◌, ℕ, List, true, IfOk, IfErr, IfSome, IsSomeAnd, OnOk};
 ghost use Rattle.pram_meaning.specs.Bounded as spec;
 ghost use Rattle.pram_meaning.specs.Conflict.{Part};
 ghost use Rattle.pram_meaning.specs.Store.{State};
 ghost use Rattle.pram_meaning.specs.Together.{assigned_by};
 ghost use Rattle.abstract_runs.specs.Following.{Follows};
+ghost use Rattle.all_inputs.specs.declared.undecided.Undecided.TheVariants.{Restless};
+ghost use Rattle.abstract_runs.specs.declared.halt.Halt.TheVariants.{OutOfMemory};
+ghost use Rattle.abstract_runs.specs.Halting.{Halts, HasStep, HaveStep, IsOpenOn};
 ghost use Rattle.abstract_runs.specs.Inner.{AreKnownIn, AreWay};
 ghost use Rattle.abstract_runs.specs.Inside.{IsAttempted};
 ghost use Rattle.abstract_runs.specs.Leads.{Leads};
@@ -17,7 +20,7 @@ ghost use Rattle.all_inputs.specs.Told.{IsKept};
 
 use crate::active::Active;
 use crate::halt::Halt;
-use crate::inner::{known_behind, known_of, sharper};
+use crate::inner::known_behind;
 use crate::narrowing_members::narrowed_team;
 use crate::resting::{MOST_ROUNDS, is_all_within, widen_at, widen_team_at};
 use crate::row::Row;
@@ -89,11 +92,12 @@ impl<'a> Survey<'a> {
             IfSome inner.entry (λ t. AreKnownIn t.now.items vs m) → AreActive active.now vs →
             Leads (λ u n. (on ≡ true) × StandsWith known.new team.new.items n) told.new
             (spec.assign_on self.now.program.now self.now.bound line target.now e.now vs m)) }
+        ensures halts { IfErr result (λ h. h ≡ OutOfMemory) }
         ensures follows { OnOk result (Follows known.old known.new) }
         ensures like { OnOk result (AreLike team.old.items team.new.items) }
         ensures kept { IsKept told.old told.new }
     {
-        let seen = known_of(team, inner);
+        let seen = inner.unwrap_or(team);
         let Some(rows) = self.attempt_on(known, told, seen, active, line, target, e)? else {
             return Ok(false);
         };
@@ -122,7 +126,7 @@ impl<'a> Survey<'a> {
         ensures kept { IsKept told.old told.new }
     {
         let target = StepTarget::Local(0);
-        let seen = known_of(team, inner);
+        let seen = inner.unwrap_or(team);
         let rows = self.attempt_on(known, told, seen, active, line, &target, e)?;
         Ok(rows)
     }
@@ -143,6 +147,8 @@ impl<'a> Survey<'a> {
             IfSome inner.entry (λ t. AreKnownIn t.now.items vs m) → AreActive active.now vs →
             Leads (λ u n. (on ≡ true) × StandsWith known.new team.new.items n) told.new
             (spec.perform_list_on self.now.program.now self.now.bound body.now.items vs m)) }
+        // It halts for want of memory, or at a loop of the block.
+        ensures halts { IfErr result (Halts (λ u. HaveStep (IsOpenOn u) body.now.items)) }
         ensures follows { OnOk result (Follows known.old known.new) }
         // They are the same processors.
         ensures like { OnOk result (AreLike team.old.items team.new.items) }
@@ -174,6 +180,7 @@ impl<'a> Survey<'a> {
             IfSome inner.entry (λ t. AreKnownIn t.now.items vs m) → AreActive active.now vs →
             Leads (λ u n. (on ≡ true) × StandsWith known.new team.new.items n) told.new
             (spec.perform_on self.now.program.now self.now.bound s.now vs m)) }
+        ensures halts { IfErr result (Halts (λ u. HasStep (IsOpenOn u) s.now)) }
         ensures follows { OnOk result (Follows known.old known.new) }
         ensures like { OnOk result (AreLike team.old.items team.new.items) }
         ensures kept { IsKept told.old told.new }
@@ -216,14 +223,14 @@ impl<'a> Survey<'a> {
                 };
                 let chosen = select(self.alloc, true, &rows)?;
                 let others = select(self.alloc, false, &rows)?;
-                let left = self.left_of(known, known_of(team, inner), test, true)?;
-                let rest = self.left_of(known, known_of(team, inner), test, false)?;
-                let more = sharper(&left, inner);
+                let left = self.left_of(known, inner.unwrap_or(team), test, true)?;
+                let rest = self.left_of(known, inner.unwrap_or(team), test, false)?;
+                let more = left.as_ref().or(inner);
                 let on = self.run_block_on(known, told, team, more, &chosen, then_part)?;
                 if !on {
                     return Ok(false);
                 }
-                let more = sharper(&rest, inner);
+                let more = rest.as_ref().or(inner);
                 let off = self.run_block_on(known, told, team, more, &others, else_part)?;
                 Ok(off)
             }
@@ -245,6 +252,7 @@ impl<'a> Survey<'a> {
             Leads (λ u n. (on ≡ true) × StandsWith known.new team.new.items n) told.new
             (spec.turns_on (self.now.bound + 1) (spec.tested_on self.now.program.now self.now.bound line e.now)
             (spec.perform_list_on self.now.program.now self.now.bound body.now.items) vs m)) }
+        ensures halts { IfErr result (Halts (λ u. (u ≡ Restless line) ⊎ HaveStep (IsOpenOn u) body.now.items)) }
         ensures follows { OnOk result (Follows known.old known.new) }
         ensures like { OnOk result (AreLike team.old.items team.new.items) }
         ensures kept { IsKept told.old told.new }
@@ -265,7 +273,7 @@ impl<'a> Survey<'a> {
                 return Ok(on);
             }
             let left = self.left_of(known, team, e, true)?;
-            let more = sharper(&left, None);
+            let more = left.as_ref();
             let on = self.run_block_on(known, told, team, more, &chosen, body)?;
             if !on {
                 return Ok(false);
@@ -291,6 +299,7 @@ impl<'a> Survey<'a> {
             AreWay self.now.program.now e.now true vs m → AreActive active.now vs →
             Leads (λ u n. (on ≡ true) × StandsWith known.new team.new.items n) told.new
             (after_test_on self.now.program.now self.now.bound line e.now body.now.items k vs m)) }
+        ensures halts { IfErr result (Halts (λ u. (u ≡ Restless line) ⊎ HaveStep (IsOpenOn u) body.now.items)) }
         ensures follows { OnOk result (Follows known.old known.new) }
         ensures like { OnOk result (AreLike team.old.items team.new.items) }
         ensures kept { IsKept told.old told.new }
@@ -300,7 +309,7 @@ impl<'a> Survey<'a> {
             let mut inside = known.copied(self.alloc)?;
             let mut members = copied_team(self.alloc, team)?;
             let left = self.left_of(known, team, e, true)?;
-            let more = sharper(&left, None);
+            let more = left.as_ref();
             let on = self.run_block_on(&mut inside, told, &mut members, more, active, body)?;
             if !on {
                 return Ok(true);

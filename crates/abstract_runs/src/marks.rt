@@ -180,9 +180,14 @@ fn order(marks: &mut Vec<i64>)
     marks.dedup();
 }
 
-/// The numbers to which intervals grow: the program's constants, the bounds of its arrays, the ends of the scope and 0, each with those
-/// beside it; they ascend.
-pub fn marks_of(alloc: Global, program: &Program, scope: Interval) -> Result<Vec<i64>, AllocError>
+/// The numbers to which intervals grow: the program's constants, the bounds of its arrays, the ends of the scope, 0 and the bound on
+/// statements, as far as a counter comes in a run, each with those beside it; they ascend.
+pub fn marks_of(
+    alloc: Global,
+    program: &Program,
+    scope: Interval,
+    bound: u32,
+) -> Result<Vec<i64>, AllocError>
     // Each number is less than the next.
     ensures { IfOk result (λ marks. IsStrictlySortedBy int_cmp marks.items) }
 {
@@ -190,6 +195,7 @@ pub fn marks_of(alloc: Global, program: &Program, scope: Interval) -> Result<Vec
     note(&mut marks, 0)?;
     note(&mut marks, scope.least())?;
     note(&mut marks, scope.greatest())?;
+    note(&mut marks, i64::from(bound))?;
     note_arrays(&mut marks, program.layout())?;
     for s in program.body() {
         note_statement(&mut marks, s)?;

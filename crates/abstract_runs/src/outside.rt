@@ -1,11 +1,14 @@
 //! Statements outside pardo.
 
-ghost use Rattle.std.specs.Prelude.{◌≡◌, ℕ, Bool, ◌≤◌, ◌<◌, ◌+◌, true, false, IfOk, IfSome, OnOk};
+ghost use Rattle.std.specs.Prelude.{◌≡◌, ℕ, Bool, ◌≤◌, ◌<◌, ◌+◌, ◌⊎◌, true, false, IfOk, IfErr, IfSome, OnOk};
 ghost use Rattle.pram_model.specs.Layout.{width};
 ghost use Rattle.pram_meaning.specs.Bounded as spec;
 ghost use Rattle.pram_meaning.specs.Bounded.{for_turns, perform, perform_list, tested, turns};
 ghost use Rattle.pram_meaning.specs.Store.{State, seen};
 ghost use Rattle.abstract_runs.specs.Following.{Follows};
+ghost use Rattle.all_inputs.specs.declared.undecided.Undecided.TheVariants.{Restless};
+ghost use Rattle.abstract_runs.specs.declared.halt.Halt.TheVariants.{OutOfMemory};
+ghost use Rattle.abstract_runs.specs.Halting.{Halts, HasStatement, HaveStatement, IsOpenAt};
 ghost use Rattle.abstract_runs.specs.Leads.{Leads};
 ghost use Rattle.abstract_runs.specs.Open.{after_test};
 ghost use Rattle.abstract_runs.specs.Standing.{StandsFor};
@@ -37,6 +40,7 @@ impl<'a> Survey<'a> {
     ) -> Result<bool, Halt>
         ensures leads { IfOk result (λ on. (m : State) → StandsFor known.old m → Leads (λ u n. (on ≡ true) × StandsFor known.new n) told.new
             (spec.assign self.now.program.now self.now.bound line target.now e.now m)) }
+        ensures halts { IfErr result (λ h. h ≡ OutOfMemory) }
         ensures follows { OnOk result (Follows known.old known.new) }
         ensures kept { IsKept told.old told.new }
     {
@@ -59,6 +63,7 @@ impl<'a> Survey<'a> {
     ) -> Result<bool, Halt>
         ensures leads { IfOk result (λ on. (m : State) → StandsFor known.old m → Leads (λ u n. (on ≡ true) × StandsFor known.new n) told.new
             (spec.print self.now.program.now self.now.bound line e.now m)) }
+        ensures halts { IfErr result (λ h. h ≡ OutOfMemory) }
         ensures follows { OnOk result (Follows known.old known.new) }
         ensures kept { IsKept told.old told.new }
     {
@@ -81,6 +86,7 @@ impl<'a> Survey<'a> {
             (tested self.now.program.now self.now.bound line e.now m)) }
         ensures bound { OnOk result (self.now.bound ≤ known.old.most → told.new.may_go_on ≡ true) }
         ensures more { IfOk result (λ out. IfSome out (λ d. (known.old.least < known.new.least) × (known.old.least < self.now.bound))) }
+        ensures halts { IfErr result (λ h. h ≡ OutOfMemory) }
         ensures follows { OnOk result (Follows known.old known.new) }
         ensures kept { IsKept told.old told.new }
     {
@@ -94,6 +100,7 @@ impl<'a> Survey<'a> {
     fn leave(&self, known: &mut Standing, e: &Expression) -> Result<bool, Halt>
         ensures kept { IfOk result (λ on. (m : State) → StandsFor known.old m → ComesTo (seen self.now.program.now m) e.now false →
             (on ≡ true) × StandsFor known.new m) }
+        ensures halts { IfErr result (λ h. h ≡ OutOfMemory) }
         ensures follows { OnOk result (Follows known.old known.new) }
     {
         let on = narrow(self.alloc, self.program, known, e, false)?;
@@ -110,6 +117,7 @@ impl<'a> Survey<'a> {
     ) -> Result<bool, Halt>
         ensures leads { IfOk result (λ on. (m : State) → StandsFor known.old m → Leads (λ u n. (on ≡ true) × StandsFor known.new n) told.new
             (perform_list self.now.program.now self.now.bound body.now.items m)) }
+        ensures halts { IfErr result (Halts (λ u. HaveStatement (IsOpenAt u) body.now.items)) }
         ensures follows { OnOk result (Follows known.old known.new) }
         ensures kept { IsKept told.old told.new }
     {
@@ -132,6 +140,7 @@ impl<'a> Survey<'a> {
     ) -> Result<bool, Halt>
         ensures leads { IfOk result (λ on. (m : State) → StandsFor known.old m → Leads (λ u n. (on ≡ true) × StandsFor known.new n) told.new
             (perform self.now.program.now self.now.bound s.now m)) }
+        ensures halts { IfErr result (Halts (λ u. HasStatement (IsOpenAt u) s.now)) }
         ensures follows { OnOk result (Follows known.old known.new) }
         ensures kept { IsKept told.old told.new }
     {
@@ -218,6 +227,7 @@ impl<'a> Survey<'a> {
         ensures leads { IfOk result (λ on. (m : State) → StandsFor known.old m → ComesTo (seen self.now.program.now m) e.now way →
             Leads (λ u n. (on ≡ true) × StandsFor known.new n) told.new
             (perform_list self.now.program.now self.now.bound body.now.items m)) }
+        ensures halts { IfErr result (Halts (λ u. HaveStatement (IsOpenAt u) body.now.items)) }
         ensures follows { OnOk result (Follows known.old known.new) }
         ensures kept { IsKept told.old told.new }
     {
@@ -240,6 +250,7 @@ impl<'a> Survey<'a> {
         ensures leads { IfOk result (λ on. (m : State) → StandsFor known.old m → Leads (λ u n. (on ≡ true) × StandsFor known.new n) told.new
             (turns (self.now.bound + 1) (tested self.now.program.now self.now.bound line e.now)
             (perform_list self.now.program.now self.now.bound body.now.items) m)) }
+        ensures halts { IfErr result (Halts (λ u. (u ≡ Restless line) ⊎ HaveStatement (IsOpenAt u) body.now.items)) }
         ensures follows { OnOk result (Follows known.old known.new) }
         ensures kept { IsKept told.old told.new }
     {
@@ -273,6 +284,7 @@ impl<'a> Survey<'a> {
         ensures leads { IfOk result (λ on. (k : ℕ) (b : Bool) (m : State) → StandsFor known.old m →
             ComesTo (seen self.now.program.now m) e.now b → Leads (λ u n. (on ≡ true) × StandsFor known.new n) told.new
             (after_test self.now.program.now self.now.bound line e.now body.now.items k b m)) }
+        ensures halts { IfErr result (Halts (λ u. (u ≡ Restless line) ⊎ HaveStatement (IsOpenAt u) body.now.items)) }
         ensures follows { OnOk result (Follows known.old known.new) }
         ensures kept { IsKept told.old told.new }
     {
@@ -310,6 +322,7 @@ impl<'a> Survey<'a> {
         ensures leads { IfOk result (λ on. (m : State) → StandsFor known.old m → Leads (λ u n. (on ≡ true) × StandsFor known.new n) told.new
             (for_turns self.now.bound (width numbers.now.next numbers.now.last) variable numbers.now.next
             (perform_list self.now.program.now self.now.bound body.now.items) m)) }
+        ensures halts { IfErr result (Halts (λ u. HaveStatement (IsOpenAt u) body.now.items)) }
         ensures follows { OnOk result (Follows known.old known.new) }
         ensures kept { IsKept told.old told.new }
     {

@@ -1,6 +1,6 @@
 //! One run for all inputs of a scope.
 
-ghost use Rattle.std.specs.Prelude.{◌≡◌, ◌≤◌, ◌++◌, ◌-◌, ℤ, pos, List, length, replicate, true, IfOk, OnOk};
+ghost use Rattle.std.specs.Prelude.{◌≡◌, ◌≤◌, ◌++◌, ◌-◌, ℤ, pos, List, length, replicate, true, IfOk, IfErr, OnOk};
 ghost use Rattle.write_rules.specs.Verdict.{Verdict};
 ghost use Rattle.pram_meaning.specs.Bounded.{perform_list};
 ghost use Rattle.pram_meaning.specs.Store.{State};
@@ -8,6 +8,7 @@ ghost use Rattle.pram_meaning.specs.Outcome as meant;
 ghost use Rattle.pram_meaning.specs.Outcome.{Body, IsOutcome};
 ghost use Rattle.pram_meaning.specs.Meaning.{Ends};
 ghost use Rattle.all_inputs.specs.Overall.{Cover, Hold, IsInScope, IsToldOf, MayEndBehind};
+ghost use Rattle.abstract_runs.specs.Halting.{Halts, HaveStatement, IsOpenAt};
 ghost use Rattle.abstract_runs.specs.Leads.{Leads};
 ghost use Rattle.abstract_runs.specs.Standing.{StandsFor};
 
@@ -59,6 +60,7 @@ fn opening(alloc: Global, program: &Program, scope: Scope) -> Result<Standing, A
 fn run_body(survey: &Survey, known: &mut Standing, told: &mut Told) -> Result<bool, Halt>
     ensures leads { IfOk result (λ on. (m : State) → StandsFor known.old m → Leads (λ u n. (on ≡ true) × StandsFor known.new n) told.new
         (perform_list survey.now.program.now survey.now.bound survey.now.program.now.body m)) }
+    ensures halts { IfErr result (Halts (λ u. HaveStatement (IsOpenAt u) survey.now.program.now.body)) }
 {
     let body = survey.program.body();
     for k in 0..body.len() {
@@ -99,8 +101,10 @@ pub fn run_for_all(
     // A run that ends has as many statements as is told.
     ensures time { IfOk result (λ overall. (input : List ℤ) (m : State) → IsInScope scope input →
         Body program.now input (Ends tt m) → m.count ≤ bound → MayEndBehind overall m.count) }
+    // It is undecided only at a loop of the program, or at a `for` or a pardo whose bounds aren't both written as numbers.
+    ensures undecided { IfErr result (Halts (λ u. HaveStatement (IsOpenAt u) program.now.body)) }
 {
-    let marks = marks_of(alloc, program, scope.of)?;
+    let marks = marks_of(alloc, program, scope.of, bound)?;
     let mut known = opening(alloc, program, scope)?;
     let mut told = Told::nothing(alloc);
     let survey = Survey {

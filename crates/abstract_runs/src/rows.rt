@@ -5,18 +5,18 @@ ghost use Rattle.pram_meaning.specs.Attempt.{attempt_step};
 ghost use Rattle.pram_meaning.specs.Store.{State, member_of, seen_by};
 ghost use Rattle.abstract_runs.specs.Covers.{Shows};
 ghost use Rattle.pram_meaning.specs.Together.{part_of, parts};
-ghost use Rattle.all_inputs.specs.Faulting.{AreKept};
+ghost use Rattle.abstract_runs.specs.Finding.{AreKept};
 ghost use Rattle.abstract_runs.specs.Rows.{AreActive, ArePartsBy, IsPartBy};
 ghost use Rattle.abstract_runs.specs.Inner.{IsKnownAt, StandsOn};
 ghost use Rattle.abstract_runs.specs.Standing.{IsKnownAs};
 
 use crate::active::Active;
 use crate::assigning::step_assignment;
+use crate::findings::Findings;
 use crate::outlook::Outlook;
 use crate::row::Row;
 use crate::standing::{Member, Standing};
 use crate::survey::Survey;
-use all_inputs::Faults;
 use intervals::Interval;
 use pram_check::{Expression, Program, StepTarget};
 use std::alloc::AllocError;
@@ -60,7 +60,7 @@ impl<'a> Survey<'a> {
         active: Active,
         target: &StepTarget,
         e: &Expression,
-        faults: &mut Faults,
+        faults: &mut Findings,
     ) -> Result<Row, AllocError>
         ensures part { IfOk result (λ row. (m : State) → IsKnownAs known.now m →
             IsKnownAt (slice_get team.now.items active.member) (member_of m.team active.member) → IsPartBy faults.new row
@@ -90,7 +90,7 @@ impl<'a> Survey<'a> {
         active: &[Active],
         target: &StepTarget,
         e: &Expression,
-        faults: &mut Faults,
+        faults: &mut Findings,
     ) -> Result<Vec<Row>, AllocError>
         // For each set of members that may be active, the parts are of this kind.
         ensures parts { IfOk result (λ rows. (m : State) (vs : List ℕ) → StandsOn known.now team.now.items vs m → AreActive active.now vs →

@@ -4,7 +4,7 @@ ghost use Rattle.std.specs.Prelude.{◌≡◌, ℕ, List, [], ◌∷◌, ℤ, tr
 ghost use Rattle.pram_meaning.specs.Conflict.{Part};
 ghost use Rattle.pram_meaning.specs.Together.{those, those_of};
 ghost use Rattle.pram_values.specs.Truth.{is_nonzero};
-ghost use Rattle.all_inputs.specs.declared.faults.Faults.{Faults};
+ghost use Rattle.abstract_runs.specs.declared.findings.Findings.{Findings};
 ghost use Rattle.abstract_runs.specs.Decided.{ComesOut};
 ghost use Rattle.abstract_runs.specs.Given.{AreGiven, IsGiving};
 ghost use Rattle.abstract_runs.specs.Rows.{AreActive, ArePartsBy, IsPartBy};
@@ -28,7 +28,7 @@ fn goes(decided: Decided, wanted: bool) -> Option<bool>
 
 // The processor of a row, if its test may come out so.
 fn choice(row: &Row, wanted: bool) -> Option<Active>
-    ensures chosen { (faults : Faults) (x : Part) → IsPartBy faults row.now x → IsGiving x.attempt →
+    ensures chosen { (faults : Findings) (x : Part) → IsPartBy faults row.now x → IsGiving x.attempt →
         MatchOption result (those_of wanted x ≡ []) (λ one. AreActive (one ∷ []) (those_of wanted x)) }
     ensures unsure { IfSome result (λ one. row.now.is_sure ≡ false → one.is_sure ≡ false) }
 {
@@ -47,7 +47,7 @@ fn choice(row: &Row, wanted: bool) -> Option<Active>
 /// Those whose test may come out so.
 pub fn select(alloc: Global, wanted: bool, rows: &[Row]) -> Result<Vec<Active>, AllocError>
     // Where each attempt gives something, the members whose test comes out so are such a set.
-    ensures chosen { IfOk result (λ chosen. (faults : Faults) (xs : List Part) → ArePartsBy faults rows.now xs → AreGiven xs →
+    ensures chosen { IfOk result (λ chosen. (faults : Findings) (xs : List Part) → ArePartsBy faults rows.now xs → AreGiven xs →
         AreActive chosen.items (those wanted xs)) }
 {
     let mut chosen = Vec::new(alloc);

@@ -9,9 +9,9 @@ ghost use Rattle.abstract_runs.specs.Covers.{IsAmong, Shows};
 ghost use Rattle.abstract_runs.specs.Tests.{IsValueOf, value_at};
 
 use crate::attempt::value_of;
+use crate::findings::Findings;
 use crate::outlook::Outlook;
 use crate::placing::cells_at;
-use all_inputs::Faults;
 use intervals::Interval;
 use pram_check::Expression;
 use pram_trees::Layout;
@@ -34,7 +34,7 @@ pub(crate) fn value_seen(
     ensures { IfOk result (λ value. (s : View) (z : ℤ) → Shows known.now s → IsValueOf s e.now z → IsAmong value z) }
 {
     let mut trail = Vec::new(alloc);
-    let mut faults = Faults::none();
+    let mut faults = Findings::none();
     let value = value_of(known, e, &mut trail, &mut faults)?;
     Ok(value)
 }

@@ -1,39 +1,41 @@
 //! Whether each run of a set of processors faults.
 
 ghost use Rattle.std.specs.Prelude.{◌≡◌, ℕ, List, true, None, IfOk, IfSome};
+ghost use Rattle.pram_model.specs.declared.rule.Rule as spec_rule;
 ghost use Rattle.pram_meaning.specs.Conflict.{Part, keys, least};
-ghost use Rattle.all_inputs.specs.declared.faults.Faults as spec;
-ghost use Rattle.abstract_runs.specs.Given.{AreGiven};
+ghost use Rattle.abstract_runs.specs.declared.findings.Findings as spec;
 ghost use Rattle.abstract_runs.specs.Rows.{ArePartsBy};
-ghost use Rattle.abstract_runs.specs.Sure.{Clash, IsAgainst, WritesSurely};
+ghost use Rattle.abstract_runs.specs.Sure.{Clash, FaultsSurely, HaveFaultBy, IsAgainst, WritesSurely};
 
+use crate::findings::Findings;
 use crate::first_rows::first_before;
 use crate::row::Row;
+use crate::sooner::sooner;
 use crate::sure_meetings::surely_meet;
 use crate::sure_sums::surely_overflows;
-use all_inputs::Faults;
 use intervals::Interval;
 use pram_model::Rule;
-use pram_values::Kind;
 use std::alloc::{AllocError, Global};
 
-// Whether an attempt surely takes place and always faults.
-fn always_faults(row: &Row) -> bool
-    ensures { result ≡ true → (row.now.is_sure ≡ true) × (row.now.effect ≡ None) }
+// The position at which an attempt faults at the latest, if it surely takes place and always faults.
+fn fault_position(row: &Row) -> Option<usize>
+    ensures { IfSome result (λ at. FaultsSurely at row.now) }
 {
-    row.is_sure && row.effect.is_none()
+    if !row.is_sure || row.effect.is_some() {
+        return None;
+    }
+    Some(row.trail.len())
 }
 
-// Whether one of the attempts does: `true` says so.
-fn one_faults(rows: &[Row]) -> bool
-    ensures { result ≡ true → (faults : spec.Faults) (xs : List Part) → ArePartsBy faults rows.now xs → AreGiven xs → ⊥ }
+// The least position at which one of the attempts surely faults.
+fn first_fault(rows: &[Row]) -> Option<usize>
+    ensures { IfSome result (λ at. (rule : spec_rule.Rule) → HaveFaultBy rule rows.now at) }
 {
+    let mut first = None;
     for k in 0..rows.len() {
-        if always_faults(&rows[k]) {
-            return true;
-        }
+        first = sooner(first, fault_position(&rows[k]));
     }
-    false
+    first
 }
 
 /// The one cell to which a row surely writes, and what it writes there.
@@ -78,7 +80,7 @@ fn clash(rule: Rule, one: &Row, two: &Row) -> bool
 
 // Whether a row clashes with the first one that surely writes to the same cell: `true` says that some two clash.
 fn some_clash(alloc: Global, rule: Rule, cells: usize, rows: &[Row]) -> Result<bool, AllocError>
-    ensures { IfOk result (λ sure. sure ≡ true → (faults : spec.Faults) (xs : List Part) → ArePartsBy faults rows.now xs →
+    ensures { IfOk result (λ sure. sure ≡ true → (faults : spec.Findings) (xs : List Part) → ArePartsBy faults rows.now xs →
         least (keys rule xs) ≡ None → ⊥) }
 {
     let mut first = vec![in alloc; rows.len(); cells]?;
@@ -96,34 +98,44 @@ fn some_clash(alloc: Global, rule: Rule, cells: usize, rows: &[Row]) -> Result<b
     Ok(false)
 }
 
-/// Whether each run has a fault in a statement on parts of this kind, of which these faults may come: `true` says so.
-pub(crate) fn surely_faults(
+/// The least position at which each run has a fault in a statement on parts of this kind, but for what the rule has against writers.
+pub(crate) fn sure_position(
     alloc: Global,
     rule: Rule,
     cells: usize,
     rows: &[Row],
-    faults: &Faults,
+    faults: &Findings,
+) -> Result<Option<usize>, AllocError>
+    // Where there is one, parts of this kind have a fault at it or before.
+    ensures { IfOk result (λ sure. IfSome sure (HaveFaultBy rule rows.now)) }
+{
+    let first = first_fault(rows);
+    if faults.read_conflict.is_none() {
+        return Ok(first);
+    }
+    let meets = surely_meet(alloc, rule, cells, rows)?;
+    Ok(sooner(first, meets))
+}
+
+/// Whether the rule surely has something against the writers of a cell, in a statement of which these faults may come: `true` says so.
+pub(crate) fn surely_clash(
+    alloc: Global,
+    rule: Rule,
+    cells: usize,
+    rows: &[Row],
+    faults: &Findings,
 ) -> Result<bool, AllocError>
     // Where it says so, no parts of this kind are without a fault.
-    ensures { IfOk result (λ sure. sure ≡ true → (faults : spec.Faults) (xs : List Part) → ArePartsBy faults rows.now xs →
+    ensures { IfOk result (λ sure. sure ≡ true → (faults : spec.Findings) (xs : List Part) → ArePartsBy faults rows.now xs →
         least (keys rule xs) ≡ None → ⊥) }
 {
-    if one_faults(rows) {
-        return Ok(true);
-    }
-    if faults.reason(Kind::ReadConflict).is_some() {
-        let meets = surely_meet(alloc, rule, cells, rows)?;
-        if meets {
-            return Ok(true);
-        }
-    }
-    if faults.reason(Kind::WriteConflict).is_some() {
+    if faults.write_conflict.is_some() {
         let clashes = some_clash(alloc, rule, cells, rows)?;
         if clashes {
             return Ok(true);
         }
     }
-    if faults.reason(Kind::Overflow).is_none() {
+    if faults.overflow.is_none() {
         return Ok(false);
     }
     Ok(surely_overflows(rule, rows))

@@ -1,10 +1,7 @@
 //! Whether processors surely meet where they read.
 
-ghost use Rattle.std.specs.Prelude.{◌≡◌, ℕ, List, true, None, IfOk, IfSome};
-ghost use Rattle.pram_meaning.specs.Conflict.{Part, keys, least};
-ghost use Rattle.all_inputs.specs.declared.faults.Faults as spec;
-ghost use Rattle.abstract_runs.specs.Rows.{ArePartsBy};
-ghost use Rattle.abstract_runs.specs.Sure.{Meeting, ReadsSurely};
+ghost use Rattle.std.specs.Prelude.{◌≡◌, ◌+◌, true, IfOk, IfSome};
+ghost use Rattle.abstract_runs.specs.Sure.{HaveFaultBy, Meeting, ReadsSurely};
 
 use crate::conflicts::{longest, reach_at};
 use crate::first_rows::first_before;
@@ -40,8 +37,7 @@ fn meet(p: usize, one: &Row, two: &Row) -> bool
 
 // Whether a row meets the first one that surely reads the same cell at the position: `true` says that some two meet.
 fn some_meet_at(alloc: Global, cells: usize, p: usize, rows: &[Row]) -> Result<bool, AllocError>
-    ensures { IfOk result (λ sure. sure ≡ true → (faults : spec.Faults) (xs : List Part) → ArePartsBy faults rows.now xs →
-        least (keys Rule.Erew xs) ≡ None → ⊥) }
+    ensures { IfOk result (λ sure. sure ≡ true → HaveFaultBy Rule.Erew rows.now (p + 1)) }
 {
     let mut first = vec![in alloc; rows.len(); cells]?;
     for k in 0..rows.len() {
@@ -58,35 +54,33 @@ fn some_meet_at(alloc: Global, cells: usize, p: usize, rows: &[Row]) -> Result<b
     Ok(false)
 }
 
-// The same at any position.
-fn some_meet(alloc: Global, cells: usize, rows: &[Row]) -> Result<bool, AllocError>
-    ensures { IfOk result (λ sure. sure ≡ true → (faults : spec.Faults) (xs : List Part) → ArePartsBy faults rows.now xs →
-        least (keys Rule.Erew xs) ≡ None → ⊥) }
+// The first position at which some two meet.
+fn first_meeting(alloc: Global, cells: usize, rows: &[Row]) -> Result<Option<usize>, AllocError>
+    ensures { IfOk result (λ sure. IfSome sure (HaveFaultBy Rule.Erew rows.now)) }
 {
     for p in 0..longest(rows) {
         if some_meet_at(alloc, cells, p, rows)? {
-            return Ok(true);
+            return Ok(Some(p + 1));
         }
     }
-    Ok(false)
+    Ok(None)
 }
 
-/// Whether two processors surely read one cell at one position where the rule forbids it: `true` says so.
+/// The first position at which two processors surely read one cell, unless one faults before, where the rule forbids it.
 pub(crate) fn surely_meet(
     alloc: Global,
     rule: Rule,
     cells: usize,
     rows: &[Row],
-) -> Result<bool, AllocError>
-    // Where it says so, no parts of this kind are without a fault.
-    ensures { IfOk result (λ sure. sure ≡ true → (faults : spec.Faults) (xs : List Part) → ArePartsBy faults rows.now xs →
-        least (keys rule xs) ≡ None → ⊥) }
+) -> Result<Option<usize>, AllocError>
+    // Where there is one, parts of this kind have a fault at it or before.
+    ensures { IfOk result (λ sure. IfSome sure (HaveFaultBy rule rows.now)) }
 {
     match rule {
         Rule::Erew => {
-            let sure = some_meet(alloc, cells, rows)?;
+            let sure = first_meeting(alloc, cells, rows)?;
             Ok(sure)
         }
-        Rule::Crew | Rule::Common | Rule::Priority | Rule::Sum => Ok(false),
+        Rule::Crew | Rule::Common | Rule::Priority | Rule::Sum => Ok(None),
     }
 }

@@ -3,7 +3,7 @@
 ghost use Rattle.std.specs.Prelude.{◌≡◌, ◌≤ℤ◌, ℕ, ℤ, List, true, false, None};
 ghost use Rattle.pram_values.specs.Value.{fits};
 ghost use Rattle.pram_meaning.specs.Conflict.{Part, keys, least};
-ghost use Rattle.all_inputs.specs.declared.faults.Faults as spec;
+ghost use Rattle.abstract_runs.specs.declared.findings.Findings as spec;
 ghost use Rattle.abstract_runs.specs.Rows.{ArePartsBy};
 ghost use Rattle.abstract_runs.specs.Sure.{AddsIn, NeverFits};
 
@@ -61,7 +61,7 @@ fn never_fits(c: u32, rows: &[Row]) -> bool
 
 // Whether that is so of the cell of the first row that surely writes to just one.
 fn some_sum_overflows(rows: &[Row]) -> bool
-    ensures { result ≡ true → (faults : spec.Faults) (xs : List Part) → ArePartsBy faults rows.now xs →
+    ensures { result ≡ true → (faults : spec.Findings) (xs : List Part) → ArePartsBy faults rows.now xs →
         least (keys Rule.Sum xs) ≡ None → ⊥ }
 {
     for k in 0..rows.len() {
@@ -75,7 +75,7 @@ fn some_sum_overflows(rows: &[Row]) -> bool
 /// Whether what is written to a cell surely overflows where the rule adds it up: `true` says so.
 pub(crate) fn surely_overflows(rule: Rule, rows: &[Row]) -> bool
     // Where it says so, no parts of this kind are without a fault.
-    ensures { result ≡ true → (faults : spec.Faults) (xs : List Part) → ArePartsBy faults rows.now xs →
+    ensures { result ≡ true → (faults : spec.Findings) (xs : List Part) → ArePartsBy faults rows.now xs →
         least (keys rule xs) ≡ None → ⊥ }
 {
     match rule {

@@ -10,16 +10,18 @@ ghost use Rattle.abstract_runs.specs.Inside.{IsAttempted};
 ghost use Rattle.abstract_runs.specs.Leads.{Leads};
 ghost use Rattle.abstract_runs.specs.Rows.{AreActive};
 ghost use Rattle.abstract_runs.specs.Inner.{IsStill, StandsOn};
+ghost use Rattle.abstract_runs.specs.Sure.{HaveFaultBy};
 ghost use Rattle.all_inputs.specs.Told.{IsKept};
 
 use crate::active::Active;
 use crate::alike::is_alike;
 use crate::conflicts::note_conflicts;
+use crate::findings::Findings;
 use crate::row::Row;
 use crate::standing::{Member, Standing};
-use crate::sure_faults::surely_faults;
+use crate::sure_faults::{sure_position, surely_clash};
 use crate::survey::Survey;
-use all_inputs::{Faults, Told};
+use all_inputs::Told;
 use pram_check::{Expression, StepTarget};
 use std::alloc::AllocError;
 
@@ -29,14 +31,19 @@ impl<'a> Survey<'a> {
         &self,
         known: &Standing,
         rows: Vec<Row>,
-        faults: &Faults,
+        sure: Option<usize>,
+        faults: &Findings,
     ) -> Result<Option<Vec<Row>>, AllocError>
+        requires { IfSome sure (HaveFaultBy self.now.program.now.rule rows.items) }
         ensures { IfOk result (λ found. (vs : List ℕ) (xs : List Part) → IsAttempted self.now.program.now rows.items vs xs →
             IsSomeAnd found (λ rows. IsAttempted self.now.program.now rows.items vs xs)) }
     {
+        if sure.is_some() {
+            return Ok(None);
+        }
         let rule = self.program.rule();
-        let sure = surely_faults(self.alloc, rule, known.cells.len(), &rows, faults)?;
-        if sure {
+        let clash = surely_clash(self.alloc, rule, known.cells.len(), &rows, faults)?;
+        if clash {
             return Ok(None);
         }
         Ok(Some(rows))
@@ -67,18 +74,14 @@ impl<'a> Survey<'a> {
         if !self.begin(known, told) {
             return Ok(None);
         }
-        let mut faults = Faults::none();
+        let mut faults = Findings::none();
         let rows = self.rows_of(known, team, active, target, e, &mut faults)?;
-        note_conflicts(
-            self.alloc,
-            self.program.rule(),
-            known.cells.len(),
-            is_alike(e),
-            &rows,
-            &mut faults,
-        )?;
-        told.note(line, faults)?;
-        let found = self.faultless(known, rows, &faults)?;
+        let rule = self.program.rule();
+        let cells = known.cells.len();
+        note_conflicts(self.alloc, rule, cells, is_alike(e), &rows, &mut faults)?;
+        let sure = sure_position(self.alloc, rule, cells, &rows, &faults)?;
+        told.note(line, faults.within(sure))?;
+        let found = self.faultless(known, rows, sure, &faults)?;
         Ok(found)
     }
 }

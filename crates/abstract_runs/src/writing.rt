@@ -7,7 +7,7 @@ ghost use Rattle.pram_values.specs.Value.{fits};
 ghost use Rattle.pram_meaning.specs.Conflict.{Part, keys, least};
 ghost use Rattle.pram_meaning.specs.Store.{Member as AnyMember, with_local};
 ghost use Rattle.pram_meaning.specs.Together.{overwritten, with_locals};
-ghost use Rattle.all_inputs.specs.declared.faults.Faults.{Faults};
+ghost use Rattle.abstract_runs.specs.declared.findings.Findings.{Findings};
 ghost use Rattle.abstract_runs.specs.Apart.{AreApart};
 ghost use Rattle.abstract_runs.specs.Columns.{targets as targets_of};
 ghost use Rattle.all_inputs.specs.Overall.{Cover};
@@ -49,7 +49,7 @@ fn write_local(team: &mut Vec<Member>, member: u32, place: usize, value: Interva
 /// The local of each processor becomes its value.
 pub fn write_locals(rows: &[Row], place: usize, team: &mut Vec<Member>)
     // Where each attempt gives something, the processors behind the assignment are known so.
-    ensures covers { (faults : Faults) (xs : List Part) (gs : List AnyMember) → ArePartsBy faults rows.now xs → AreGiven xs →
+    ensures covers { (faults : Findings) (xs : List Part) (gs : List AnyMember) → ArePartsBy faults rows.now xs → AreGiven xs →
         AreMembersOf gs team.old.items → AreMembersOf (with_locals place xs gs) team.new.items }
     // They are the same processors.
     ensures like { AreLike team.old.items team.new.items }
@@ -93,7 +93,7 @@ fn set_cell(cells: &mut Vec<Interval>, reach: Reach, value: Interval, is_sure: b
 // The cells behind an assignment in which no two rows can write one.
 fn write_apart(rows: &[Row], cells: &mut Vec<Interval>)
     requires { AreApart (targets_of rows.now) }
-    ensures covers { (rule : AnyRule) (faults : Faults) (xs : List Part) (zs : List ℤ) → ArePartsBy faults rows.now xs → AreGiven xs →
+    ensures covers { (rule : AnyRule) (faults : Findings) (xs : List Part) (zs : List ℤ) → ArePartsBy faults rows.now xs → AreGiven xs →
         Cover cells.old.items zs → Cover cells.new.items (overwritten rule xs 0 zs) }
     ensures length { length cells.new.items ≡ length cells.old.items }
 {
@@ -151,7 +151,7 @@ fn left_by(rule: Rule, sums: Interval, value: Interval) -> Interval
 // The cells behind an assignment in which several rows may write one.
 fn write_beside(rule: Rule, sums: Interval, rows: &[Row], cells: &mut Vec<Interval>)
     requires { HoldSums rows.now sums }
-    ensures covers { (faults : Faults) (xs : List Part) (zs : List ℤ) → ArePartsBy faults rows.now xs → AreGiven xs →
+    ensures covers { (faults : Findings) (xs : List Part) (zs : List ℤ) → ArePartsBy faults rows.now xs → AreGiven xs →
         Cover cells.old.items zs → Cover cells.new.items (overwritten rule xs 0 zs) }
     ensures length { length cells.new.items ≡ length cells.old.items }
 {
@@ -175,7 +175,7 @@ pub fn write_cells(
     cells: &mut Vec<Interval>,
 ) -> Result<(), AllocError>
     // Where the statement has no fault, the cells behind it are known so.
-    ensures covers { OnOk result ((faults : Faults) (xs : List Part) (zs : List ℤ) → ArePartsBy faults rows.now xs →
+    ensures covers { OnOk result ((faults : Findings) (xs : List Part) (zs : List ℤ) → ArePartsBy faults rows.now xs →
         least (keys rule xs) ≡ None → Cover cells.old.items zs → Cover cells.new.items (overwritten rule xs 0 zs)) }
     // There are as many as before.
     ensures length { OnOk result (length cells.new.items ≡ length cells.old.items) }

@@ -43,7 +43,8 @@ loop-link-preserved t c = (
       c.in_ok-given-in-Chain.ensures.longer c.in_ok-given-in-Chain.ensures.kept),
   longer_then _ _ _ (longer_then _ _ _ c.loop-link.invariant.1 c.in_ok-operand-in-Chain.ensures.longer)
       c.in_ok-given-in-Chain.ensures.longer,
-  λ kind may. c.in_ok-given-in-Chain.ensures.kept kind (c.in_ok-operand-in-Chain.ensures.kept kind (c.loop-link.invariant.2 kind may)),
+  λ kind at may. c.in_ok-given-in-Chain.ensures.kept kind at
+      (c.in_ok-operand-in-Chain.ensures.kept kind at (c.loop-link.invariant.2 kind at may)),
 )
 
 pub returns-in_default-3-clause-tried : goal.returns-in_default-3-clause-tried

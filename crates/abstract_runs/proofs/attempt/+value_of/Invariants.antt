@@ -1,5 +1,5 @@
 use Rattle.std.proofs.Common.{drop}
-use Rattle.all_inputs.specs.Faulting.{AreKept}
+use Rattle.abstract_runs.specs.Finding.{AreKept}
 use Rattle.abstract_runs.specs.Tried.{IsLonger}
 use Rattle.abstract_runs.proofs.Chains.{IsOnWay}
 use Rattle.abstract_runs.proofs.attempt.+value_of.Given as goal

@@ -11,5 +11,5 @@ returns-clause-tried c = λ x y t p q h.
     subst (λ v. IsTried (IsAmong v) c.settle.new.trail.items c.settle.new.faults (operation (spec.operate c.args.operator x y) t))
     (sym c.in_ok-value.ensures.value)
     (settled (spec.operate c.args.operator) c.args.left c.args.right c.operate-found.result c.args.trail.now.items c.settle.new.trail.items
-    c.settle.new.faults x y t c.operate-found.ensures.told (few_operate c.args.operator x y) c.settle.ensures.overflow c.settle.ensures.zero
+    c.settle.new.faults x y t c.operate-found.ensures.told (few_operate c.args.operator x y) c.in_ok-value.ensures.overflow c.in_ok-value.ensures.zero
     c.in_ok-value.ensures.trail p q h)

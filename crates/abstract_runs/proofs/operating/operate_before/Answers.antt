@@ -12,6 +12,6 @@ returns-clause-tried c = λ x t p h.
     (sym c.in_ok-value.ensures.value)
     (settled (λ x y. spec.operate_before c.args.operator x) c.args.operand c.args.operand c.operate_before-found.result
     c.args.trail.now.items c.settle.new.trail.items
-    c.settle.new.faults x x t c.operate_before-found.ensures.told (few_before c.args.operator x) c.settle.ensures.overflow
-    c.settle.ensures.zero
+    c.settle.new.faults x x t c.operate_before-found.ensures.told (few_before c.args.operator x) c.in_ok-value.ensures.overflow
+    c.in_ok-value.ensures.zero
     c.in_ok-value.ensures.trail p p h)

@@ -11,6 +11,7 @@ returns-then-not-on c = record {
       c.loop-k.known c.run_statement.new.known c.loop-k.told c.run_statement.new.told c.in_ok-on.on
       (λ u s. (false ≡ true) × StandsFor c.run_statement.new.known s) c.loop-k.invariant c.loop-k-test.true
       c.index-body-k.is c.in_ok-on.ensures.kept c.in_ok-on.ensures.leads c.if-not-on.true);
+  halts = tt;
 }
 
 pub loop-k-preserved : goal.loop-k-preserved

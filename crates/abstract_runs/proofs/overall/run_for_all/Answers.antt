@@ -34,4 +34,5 @@ returns c = record {
         (c.in_ok-end.ensures.counts m stands).1,
       ))
       m body few;
+  undecided = tt;
 }

@@ -28,7 +28,8 @@ invariant-run_open-loop-round l = ((m : State) → StandsFor l.fn.known m → St
 
 -- the turns that are left do
 abbrev pub invariant-run_for-turns : goal.invariant-run_for-turns
-invariant-run_for-turns l = InFor l.self.program.now l.self.bound l.variable l.body.items l.numbers.next l.numbers.last l.left.next l.left.last
+invariant-run_for-turns l = InFor l.self.program.now l.self.bound l.variable l.body.items l.numbers.next l.numbers.last l.left.next
+    l.left.last
     l.fn.known l.known l.told × Follows l.fn.known l.known × IsKept l.fn.told l.told
 
 abbrev pub decreases-run_for-turns : goal.decreases-run_for-turns

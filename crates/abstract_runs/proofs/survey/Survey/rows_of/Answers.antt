@@ -7,14 +7,14 @@ loop-k-init c = (
   let p = c.in_ok-rows.ensures in subst
       (AreRowsFor c.args.self.now.program.now c.args.known.now c.args.team.now.items c.args.target.now c.args.e.now c.args.faults.now [])
       (sym p.items) tt,
-  λ kind may. may,
+  λ kind at may. may,
 )
 
 pub returns-in_err-row-clause-kept : goal.returns-in_err-row-clause-kept
-returns-in_err-row-clause-kept c = λ kind may. c.row_of.ensures.kept kind (c.loop-k.invariant.1 kind may)
+returns-in_err-row-clause-kept c = λ kind at may. c.row_of.ensures.kept kind at (c.loop-k.invariant.1 kind at may)
 
 pub returns-in_err-push-clause-kept : goal.returns-in_err-push-clause-kept
-returns-in_err-push-clause-kept c = λ kind may. c.row_of.ensures.kept kind (c.loop-k.invariant.1 kind may)
+returns-in_err-push-clause-kept c = λ kind at may. c.row_of.ensures.kept kind at (c.loop-k.invariant.1 kind at may)
 
 pub loop-k-preserved : goal.loop-k-preserved
 loop-k-preserved c = (
@@ -23,7 +23,7 @@ loop-k-preserved c = (
       c.loop-k.invariant.0 c.row_of.ensures.kept c.loop-k-test.true refl
       (record { member = c.in_ok-row.ensures.member; sure = c.in_ok-row.ensures.sure; part = c.in_ok-row.ensures.part })
       c.in_ok-push.ensures.items,
-  λ kind may. c.row_of.ensures.kept kind (c.loop-k.invariant.1 kind may),
+  λ kind at may. c.row_of.ensures.kept kind at (c.loop-k.invariant.1 kind at may),
 )
 
 pub returns-clause-parts : goal.returns-clause-parts

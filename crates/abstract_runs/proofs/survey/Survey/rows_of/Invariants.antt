@@ -1,5 +1,5 @@
 use Rattle.std.proofs.Common.{take}
-use Rattle.all_inputs.specs.Faulting.{AreKept}
+use Rattle.abstract_runs.specs.Finding.{AreKept}
 use Rattle.abstract_runs.proofs.RowLists.{AreRowsFor}
 use Rattle.abstract_runs.proofs.survey.Survey.rows_of.Given as goal
 

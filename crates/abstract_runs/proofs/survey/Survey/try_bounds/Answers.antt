@@ -1,9 +1,11 @@
 use Rattle.std.proofs.Common.{◌≡◌, ℤ, IsSomeAnd}
 use Rattle.pram_meaning.specs.Store.{seen}
-use Rattle.abstract_runs.proofs.Leading.{leads_evaluated}
+use Rattle.abstract_runs.proofs.Leading.{leads_evaluated, told_all}
 use Rattle.abstract_runs.proofs.survey.Survey.try_bounds.Goals as goal
 
 pub returns-clause-leads : goal.returns-clause-leads
 returns-clause-leads c = λ m h.
-    leads_evaluated (λ (r : ℤ × ℤ). IsSomeAnd c.in_ok-found.found (λ (q : ℤ × ℤ). r ≡ (q.0, q.1))) _ _ _ _ _ _ _ _ m (c.if-not-begin.ensures.leads m h.known_as) c.in_ok-note.ensures.kept
-    (λ s k. c.in_ok-found.ensures.tried (seen c.args.self.now.program.now s) (c.outlook_of-seen.ensures s k)) c.in_ok-note.ensures.noted h.team
+    leads_evaluated (λ (r : ℤ × ℤ). IsSomeAnd c.in_ok-found.found (λ (q : ℤ × ℤ). r ≡ (q.0, q.1))) _ _ _ _ _ _ _ _ m
+    (c.if-not-begin.ensures.leads m h.known_as) c.in_ok-note.ensures.kept
+    (λ s k. c.in_ok-found.ensures.tried (seen c.args.self.now.program.now s) (c.outlook_of-seen.ensures s k))
+    (told_all _ _ _ _ c.within.ensures c.in_ok-note.ensures.noted) h.team

@@ -1,7 +1,7 @@
 use Rattle.std.proofs.Common.{subst, ◌∙◌}
 use Rattle.abstract_runs.specs.Apart.{AreApart}
 use Rattle.abstract_runs.proofs.SharedReads.{position_more, all_positions}
-use Rattle.abstract_runs.proofs.conflicts.are_reads_apart.Goals as goal
+use Rattle.abstract_runs.proofs.conflicts.first_shared.Goals as goal
 
 pub loop-k-preserved : goal.loop-k-preserved
 loop-k-preserved c =
@@ -9,5 +9,4 @@ loop-k-preserved c =
     (subst AreApart (c.deref.ensures.value ∙ c.in_ok-reaches.ensures) (c.in_ok-apart.ensures c.if-not-apart.false))
 
 pub returns : goal.returns
-returns c =
-    λ e. all_positions c.args.rows.now c.longest-most.result c.loop-k.k c.loop-k.invariant c.longest-most.ensures c.loop-k-test.false
+returns c = all_positions c.args.rows.now c.longest-most.result c.loop-k.k c.loop-k.invariant c.longest-most.ensures c.loop-k-test.false
