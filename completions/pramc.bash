@@ -10,7 +10,7 @@ _pramc() {
     else
         case $before in
         # made by gate/editors.py --write: values
-        --input | --memory | --listing) ;;
+        --input | --memory | --where | --ensure | --listing) ;;
         --map) words="identity affine:" ;;
         --under) words="erew crew common priority sum" ;;
         --format) words="text json csv gnu" ;;
@@ -27,9 +27,9 @@ _pramc() {
             rules) words="--bound --input --memory --random --seed --size --format --explain --help" ;;
             run) words="--bound --input --memory --random --seed --workers --map --reserve --show --quiet --size --format --explain --help" ;;
             trace) words="--bound --input --memory --random --seed --workers --map --reserve --svg --outcome --lines --bsp --size --format --explain --help" ;;
-            explore) words="--cells --values --permutations --bound --under --workers --size --format --explain --help" ;;
+            explore) words="--cells --values --permutations --where --ensure --bound --under --workers --size --format --explain --help" ;;
             always) words="--cells --values --bound --under --size --format --explain --help" ;;
-            compare) words="--cells --values --permutations --bound --input --random --count --seed --only --time-at-most --work-at-most --size --format --explain --help" ;;
+            compare) words="--cells --values --permutations --where --bound --input --random --count --seed --only --time-at-most --work-at-most --size --format --explain --help" ;;
             expand) words="--size --explain --help" ;;
             export) words="--listing --size --explain --help" ;;
             exec) words="--bound --input --memory --random --seed --workers --map --reserve --show --quiet --format --explain --help" ;;

@@ -18,7 +18,7 @@ use Rattle.command_requests.specs.declared.request.SizeWord.{SizeWord}
 use Rattle.command_facts.specs.declared.loaded.Loaded.{Loaded}
 use Rattle.command_facts.specs.Found.{IsLoaded, IsOpening}
 use Rattle.command_facts.specs.Held.{IsAtFile, IsAtMemory, IsAtProgram, IsAtText, IsExpansionIn, IsNoFile, IsOfInput, StopsAtProgram}
-use Rattle.command_facts.specs.Refused.{IsProgramIn, IsProgramOfText, StopsAtOpening}
+use Rattle.command_facts.specs.Refused.{IsProgramIn, IsProgramOfText, IsProgramWhereNamed, StopsAtOpening, StopsWhereNamed}
 
 -- ---- files
 
@@ -121,6 +121,18 @@ module _ (now before : List ℕ → Option (List ℕ) → Type 0) (same : IsSame
       (before file.name.now) file h
   program_stops file h (inl stops) = inl (at_text file h.stop h.about stops)
   program_stops file h (inr stops) = inr (at_program file h.stop h.about stops)
+
+  -- ---- programs of files that may be named
+
+  pub named_held : (file : Option ProgramFile) (program : Option Checked) → IsProgramWhereNamed now file program → IsProgramWhereNamed
+      before file program
+  named_held None program h = h
+  named_held (Some file) None h = h
+  named_held (Some file) (Some program) h = program_held file program h
+
+  pub named_stops : (file : Option ProgramFile) (h : Halted) → StopsWhereNamed now file h → StopsWhereNamed before file h
+  named_stops None h stops = stops
+  named_stops (Some file) h stops = program_stops file h stops
 
 -- the same as what is the same
 pub same_through : (first then last : List ℕ → Option (List ℕ) → Type 0) → IsSame last then → IsSame then first → IsSame last first

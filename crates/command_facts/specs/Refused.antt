@@ -1,5 +1,5 @@
 -- Why a call finds nothing.
-use Rattle.std.specs.Prelude.{◌≡◌, ℕ, List, Option, Some}
+use Rattle.std.specs.Prelude.{◌≡◌, ℕ, List, Option, Some, None}
 use Rattle.pram_model.specs.Layout.{SharedEntry}
 use Rattle.pram_check.specs.Checked.{Checked}
 use Rattle.program_texts.specs.Report.{IsProgramOf}
@@ -14,7 +14,7 @@ use Rattle.command_requests.specs.declared.opening.Opening.{Opening}
 use Rattle.command_requests.specs.declared.opening.Opening.TheVariants as opening
 use Rattle.command_requests.specs.declared.request.ProgramFile.{ProgramFile}
 use Rattle.command_requests.specs.Expanded.{IsExpandedBy}
-use Rattle.command_facts.specs.Held.{IsExpansionIn, StopsAtInput, StopsAtMemory}
+use Rattle.command_facts.specs.Held.{IsExpansionIn, StopsAtInput, StopsAtMemory, StopsAtProgram}
 
 -- ---- what is told of a run that is refused
 
@@ -43,6 +43,17 @@ pub record IsProgramOfText (holds : List ℕ → Option (List ℕ) → Type 0) (
   pub expansion : Expansion
   pub is_expansion : IsExpandedBy file.sizes.items text expansion
   pub is_program : IsProgramOf expansion.text program
+
+-- the program of a file, where one is named; none where none is
+abbrev pub IsProgramWhereNamed : (List ℕ → Option (List ℕ) → Type 0) → Option ProgramFile → Option Checked → Type 0
+IsProgramWhereNamed holds None program = program ≡ None
+IsProgramWhereNamed holds (Some file) None = ⊥
+IsProgramWhereNamed holds (Some file) (Some program) = IsProgramIn holds file program
+
+-- the call stops at that file
+abbrev pub StopsWhereNamed : (List ℕ → Option (List ℕ) → Type 0) → Option ProgramFile → Halted → Type 0
+StopsWhereNamed holds None h = ⊥
+StopsWhereNamed holds (Some file) h = StopsAtProgram (holds file.name.now) file h
 
 -- ---- what cells hold
 

@@ -1,5 +1,5 @@
 -- The exit statuses of what calls find.
-use Rattle.std.specs.Prelude.{ℕ, nat_lt, Bool, true, false, if◌then◌else◌, List, [], ◌∷◌, Result, Ok, Err}
+use Rattle.std.specs.Prelude.{ℕ, nat_lt, ◌||◌, Bool, true, false, if◌then◌else◌, List, [], ◌∷◌, Result, Ok, Err}
 use Rattle.std.specs.List.{list_any}
 use Rattle.program_texts.specs.Status.{status_of}
 use Rattle.program_texts.specs.declared.status.Status.{Status}
@@ -34,9 +34,10 @@ status_of_rows rows =
     if list_any (λ r. is_bad r.ending) rows then status.Faulted
     else (if list_any (λ r. is_going_on r.ending) rows then status.GoesOn else status.Done)
 
--- That of runs on every input of a scope: some fault; or none does, and some go on; or all end.
-abbrev pub status_of_findings : (faulted go_on : ℕ) → Status
-status_of_findings faulted go_on = if nat_lt 0 faulted then status.Faulted else (if nat_lt 0 go_on then status.GoesOn else status.Done)
+-- That of runs on inputs of a scope: some fault, or end and fail; or none does, and some go on; or all end, and none fails.
+abbrev pub status_of_findings : (faulted failed go_on : ℕ) → Status
+status_of_findings faulted failed go_on =
+    if nat_lt 0 faulted || nat_lt 0 failed then status.Faulted else (if nat_lt 0 go_on then status.GoesOn else status.Done)
 
 -- That of one run for all inputs: some line may fault; or none may, and a run may go on; or all end. Where too little is known some may fault.
 abbrev pub status_of_lines : List LineFaults → (may_go_on : Bool) → Status
@@ -62,7 +63,7 @@ status_of_found (settled.Costed r told costs) = status_of r.outcome
 status_of_found (settled.Traced r told exchanges) = status_of r.outcome
 status_of_found (settled.Executed c) = status_of c.outcome
 status_of_found (settled.Swept s) = status_of_rows s.rows.items
-status_of_found (settled.Explored f) = status_of_findings f.findings.faulted f.findings.go_on
+status_of_found (settled.Explored f) = status_of_findings f.findings.faulted f.findings.failed f.findings.go_on
 status_of_found (settled.Surveyed f) = status_of_overall f.told
 status_of_found (settled.Paired f) = status_of_pair (comparisons.found_is f.comparison)
 status_of_found _ = status.Done

@@ -14,7 +14,7 @@ use exchange_counts::Counts;
 use help::Subject;
 use memory_texts::Choice;
 use pram_check::Program;
-use scopes::Findings;
+use scopes::{Findings, Specification};
 use sized_texts::Sweep;
 use sweeps::{Growths, SizeRow};
 use write_rules::Outcome;
@@ -76,10 +76,12 @@ pub struct FoundSweep {
     pub form: SweepForm,
 }
 
-/// The runs of a program on every input of a scope: the program as it was run, and what is found of it.
+/// The runs of a program on the inputs of a scope: the program as it was run, which inputs count and which results are right, and what is
+/// found of it.
 #[derive(Drop)]
 pub struct FoundScope {
     pub program: Program,
+    pub specification: Specification,
     pub findings: Findings,
 }
 
@@ -92,11 +94,13 @@ pub struct FoundOverall {
     pub told: Result<Overall, Undecided>,
 }
 
-/// Two programs, how many cells are drawn of each input, where inputs are, and what is found of their runs on the same inputs.
+/// Two programs, the one that says which inputs count, if there is one, how many cells are drawn of each input, where inputs are, and what
+/// is found of their runs on the same inputs.
 #[derive(Drop)]
 pub struct FoundPair {
     pub first: Program,
     pub second: Program,
+    pub precondition: Option<Program>,
     pub drawn: Option<u32>,
     pub comparison: Comparison,
 }
@@ -126,7 +130,7 @@ pub enum Settled<'a> {
     Traced(FoundRun<'a>, TraceWords, FoundTrace),
     /// A program was run at several sizes.
     Swept(FoundSweep),
-    /// A program was run on every input of a scope.
+    /// A program was run on the inputs of a scope that count.
     Explored(FoundScope),
     /// A program was run once for all inputs of a scope.
     Surveyed(FoundOverall),

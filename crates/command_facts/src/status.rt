@@ -73,11 +73,11 @@ fn status_of_rows(rows: &[SizeRow]) -> Status
     }
 }
 
-// The exit status of runs on every input of a scope.
+// The exit status of runs on inputs of a scope.
 fn status_of_findings(findings: &Findings) -> Status
-    ensures { result ≡ spec.status_of_findings findings.now.faulted findings.now.go_on }
+    ensures { result ≡ spec.status_of_findings findings.now.faulted findings.now.failed findings.now.go_on }
 {
-    if findings.faulted > 0 {
+    if findings.faulted > 0 || findings.failed > 0 {
         Status::Faulted
     } else if findings.go_on > 0 {
         Status::GoesOn

@@ -52,9 +52,9 @@ AreFactsOf (settled.Run r shown) told = told ≡ chosen_facts shown r.loaded.pro
 AreFactsOf (settled.Costed r w c) told = told ≡ cost_facts r.loaded.program.layout (verdict_of r.outcome) c w.schedule w.lines ∷ []
 AreFactsOf (settled.Traced r w t) told =
     told ≡ trace_facts t.lines.items w.outcome r.loaded.program.layout (cost_asked w.rates t.counts) t.counts (verdict_of r.outcome)
-AreFactsOf (settled.Explored f) told = told ≡ exploration_facts f.program.layout (found_is f.findings) ∷ []
+AreFactsOf (settled.Explored f) told = told ≡ exploration_facts f.program.layout f.specification (found_is f.findings) ∷ []
 AreFactsOf (settled.Surveyed f) told = told ≡ survey_facts f.program.layout f.scope f.told ∷ []
-AreFactsOf (settled.Paired p) told = told ≡ pair_facts p.first.layout p.second.layout p.drawn (pairs.found_is p.comparison)
+AreFactsOf (settled.Paired p) told = told ≡ pair_facts p.first.layout p.second.layout p.precondition p.drawn (pairs.found_is p.comparison)
 AreFactsOf (settled.Swept s) told = told ≡ sweep_facts s.sweep.name s.rows.items s.growths
 AreFactsOf (settled.Executed c) told = told ≡ code_facts c ∷ []
 AreFactsOf _ told = ⊥

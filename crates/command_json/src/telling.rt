@@ -119,12 +119,17 @@ fn sweep_text(alloc: Global, swept: &FoundSweep) -> Result<String, AllocError>
     )
 }
 
-// What is found on every input of a scope.
+// What is found on the inputs of a scope.
 fn scope_text(alloc: Global, found: &FoundScope) -> Result<String, AllocError>
-    ensures told { IfOk result (λ text. IsJson (exploration_facts found.now.program.layout (found_is found.now.findings) ∷ [])
-        (string_bytes text)) }
+    ensures told { IfOk result (λ text. IsJson (exploration_facts found.now.program.layout found.now.specification
+        (found_is found.now.findings) ∷ []) (string_bytes text)) }
 {
-    json_exploration(alloc, found.program.layout(), &found.findings)
+    json_exploration(
+        alloc,
+        found.program.layout(),
+        &found.specification,
+        &found.findings,
+    )
 }
 
 // What is told of all inputs of a scope together.
@@ -141,10 +146,18 @@ fn survey_text(alloc: Global, found: &FoundOverall) -> Result<String, AllocError
 // What is found of two programs on the same inputs.
 fn pair_text(alloc: Global, pair: &FoundPair) -> Result<String, AllocError>
     ensures told { IfOk result (λ text. IsJson
-        (pair_facts pair.now.first.layout pair.now.second.layout pair.now.drawn (pairs.found_is pair.now.comparison)) (string_bytes text)) }
+        (pair_facts pair.now.first.layout pair.now.second.layout pair.now.precondition pair.now.drawn (pairs.found_is pair.now.comparison))
+        (string_bytes text)) }
 {
     let (first, second) = (pair.first.layout(), pair.second.layout());
-    json_pair(alloc, first, second, pair.drawn, &pair.comparison)
+    json_pair(
+        alloc,
+        first,
+        second,
+        &pair.precondition,
+        pair.drawn,
+        &pair.comparison,
+    )
 }
 
 // The lines of what was found.

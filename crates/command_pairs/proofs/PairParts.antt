@@ -1,8 +1,8 @@
 -- The names of what is compared, one by one.
-use Rattle.std.proofs.Common.{◌≡◌, ◌∙◌, ◌<◌, ◌+◌, ◌++◌, [], Bool, List, ℕ, Option, Some, None, ap, drop, get_or, length, refl, sym}
-use Rattle.std.proofs.lemmas.List.{append_assoc, at_drop_more}
+use Rattle.std.proofs.Common.{◌≡◌, ◌∙◌, ◌<◌, ◌+◌, Bool, List, ℕ, Some, ap, drop, get_or, length, sym}
+use Rattle.std.proofs.lemmas.List.{at_drop_more}
 use Rattle.std.specs.Bool.{if◌then◌else◌}
-use Rattle.std.specs.List.{cons_option, filter_map, find}
+use Rattle.std.specs.List.{find}
 
 -- the name at i
 module _ (ps : List (List ℕ)) (i : ℕ) (part : List ℕ) (here : (i < length ps) × (part ≡ get_or ps i part)) where

@@ -30,7 +30,7 @@ use Rattle.command_facts.specs.declared.found.FoundPair.{FoundPair}
 use Rattle.diagnoses.specs.declared.halted.Halted.{Halted}
 use Rattle.command_facts.specs.Held.{IsInputIn, StopsAtInput, StopsAtProgram}
 use Rattle.command_pairs.specs.Limits.{AreLimits, HaveNoLimits}
-use Rattle.command_facts.specs.Refused.{AreNumbers, IsProgramIn, IsProgramOfText}
+use Rattle.command_facts.specs.Refused.{AreNumbers, IsProgramIn, IsProgramOfText, IsProgramWhereNamed, StopsWhereNamed}
 
 -- ---- what is compared
 
@@ -91,25 +91,28 @@ most_values (inputs.Scope few) p q is = few.scope.count
 most_values (inputs.Files files) p q is = longest is
 most_values (inputs.Drawn d) p q is = cells_drawn d p q
 
--- Over just these inputs, within so many statements each, none of which is too long for either program; told are as many of those on which
--- they differ as there may be of so many values.
-pub record IsFoundBy (p q : Checked) (c : Compared) (bound values : ℕ) (is : List (List ℤ)) (f : Comparison) : Type 0 where
-  pub fit : too_long p q values ≡ None
-  pub found : found_is f ≡ found p q c bound (most_told values) is
+-- Over just those of these inputs that count by the precondition, within so many statements each, none of which is too long for a program;
+-- told are as many of those on which they differ as there may be of so many values.
+pub record IsFoundBy (w : Option Checked) (p q : Checked) (c : Compared) (bound values : ℕ) (is : List (List ℤ)) (f : Comparison) :
+    Type 0 where
+  pub fit : too_long w p q values ≡ None
+  pub found : found_is f ≡ found w p q c bound (most_told values) is
 
-abbrev pub IsFoundOn : (List ℕ → Option (List ℕ) → Type 0) → (p q : Checked) → Compared → InputWords → (bound : ℕ) → Comparison → Type 0
-IsFoundOn holds p q c words bound f =
-    (is : List (List ℤ)) × AreInputs holds words p q is × IsFoundBy p q c bound (most_values words p q is) is f
+abbrev pub IsFoundOn : (List ℕ → Option (List ℕ) → Type 0) → Option Checked → (p q : Checked) → Compared → InputWords → (bound : ℕ)
+    → Comparison → Type 0
+IsFoundOn holds w p q c words bound f =
+    (is : List (List ℤ)) × AreInputs holds words p q is × IsFoundBy w p q c bound (most_values words p q is) is f
 
--- of the programs of the two files, by the text of the second one
+-- of the programs of the two files, by the text of the second one, and by the precondition, where a file is named for it
 pub record IsPaired (holds : List ℕ → Option (List ℕ) → Type 0) (words : PairWords) (f : FoundPair) : Type 0 where
   pub first : IsProgramIn holds words.first f.first
   pub text : List ℕ
   pub second : IsProgramOfText holds words.second text f.second
+  pub precondition : IsProgramWhereNamed holds words.precondition f.precondition
   pub drawn : f.drawn ≡ drawn_of words.inputs f.first f.second
   pub compared : Compared
   pub is_compared : IsCompared words f.first.layout f.second.layout text compared
-  pub found : IsFoundOn holds f.first f.second compared words.inputs words.bound f.comparison
+  pub found : IsFoundOn holds f.precondition f.first f.second compared words.inputs words.bound f.comparison
 
 -- ---- why nothing is
 
@@ -140,38 +143,48 @@ AreMost holds (inputs.Scope few) p q n = n ≡ few.scope.count
 AreMost holds (inputs.Files files) p q n = AreMostIn holds files.items n
 AreMost holds (inputs.Drawn d) p q n = n ≡ cells_drawn d p q
 
--- the cells of one of two programs
-abbrev pub cells_of : (p q : Checked) → Side → ℕ
-cells_of p q side.First = total_size p.layout
-cells_of p q side.Second = total_size q.layout
+-- those of a precondition, if there is one
+abbrev pub cells_where : Option Checked → ℕ
+cells_where None = 0
+cells_where (Some w) = total_size w.layout
 
--- those are more than one of the programs has cells, the first before the second, which is told with both numbers; or memory was refused
-abbrev pub IsTooLong : (p q : Checked) → (values : ℕ) → Stop → About → Type 0
-IsTooLong p q values (stop.Refused refusal.InputTooLong) a =
-    (of : Side) × (too_long p q values ≡ Some of) × AreNumbers a values (cells_of p q of)
-IsTooLong p q values (stop.Refused refusal.OutOfMemory) a = a ≡ about.Nothing
-IsTooLong p q values _ a = ⊥
+-- the cells of one of two programs, or of the precondition
+abbrev pub cells_of : Option Checked → (p q : Checked) → Side → ℕ
+cells_of w p q side.First = total_size p.layout
+cells_of w p q side.Second = total_size q.layout
+cells_of w p q side.Precondition = cells_where w
+
+-- those are more than one of the programs has cells, the first before the second before the precondition, which is told with both numbers;
+-- or memory was refused
+abbrev pub IsTooLong : Option Checked → (p q : Checked) → (values : ℕ) → Stop → About → Type 0
+IsTooLong w p q values (stop.Refused refusal.InputTooLong) a =
+    (of : Side) × (too_long w p q values ≡ Some of) × AreNumbers a values (cells_of w p q of)
+IsTooLong w p q values (stop.Refused refusal.OutOfMemory) a = a ≡ about.Nothing
+IsTooLong w p q values _ a = ⊥
 
 -- the runs are refused
-abbrev pub IsRefusedPair : (List ℕ → Option (List ℕ) → Type 0) → InputWords → (p q : Checked) → Halted → Type 0
-IsRefusedPair holds words p q h =
-    StopsAtWords holds words h ⊎ ((values : ℕ) × AreMost holds words p q values × IsTooLong p q values h.stop h.about)
+abbrev pub IsRefusedPair : (List ℕ → Option (List ℕ) → Type 0) → InputWords → Option Checked → (p q : Checked) → Halted → Type 0
+IsRefusedPair holds words w p q h =
+    StopsAtWords holds words h ⊎ ((values : ℕ) × AreMost holds words p q values × IsTooLong w p q values h.stop h.about)
 
 -- a limit has no number by the text of the second program
 abbrev pub StopsAtLimits : (List ℕ → Option (List ℕ) → Type 0) → PairWords → Halted → Type 0
 StopsAtLimits holds words h = (text : List ℕ) × holds words.second.name.now (Some text) × HaveNoLimits words text h
 
--- behind both files: at what is to be compared, at a limit, at an input, or at the runs
-pub record StopsBehindBoth (holds : List ℕ → Option (List ℕ) → Type 0) (words : PairWords) (h : Halted) : Type 0 where
+-- behind all files of programs: at what is to be compared, at a limit, at an input, or at the runs
+pub record StopsBehindAll (holds : List ℕ → Option (List ℕ) → Type 0) (words : PairWords) (h : Halted) : Type 0 where
   pub first : Checked
   pub second : Checked
   pub is_first : IsProgramIn holds words.first first
   pub is_second : IsProgramIn holds words.second second
+  pub precondition : Option Checked
+  pub is_precondition : IsProgramWhereNamed holds words.precondition precondition
   pub refused : IsUncommonIn words first.layout second.layout h.stop h.about
-      ⊎ (StopsAtLimits holds words h ⊎ IsRefusedPair holds words.inputs first second h)
+      ⊎ (StopsAtLimits holds words h ⊎ IsRefusedPair holds words.inputs precondition first second h)
 
--- why nothing is found: for the first file, for the second, or behind both
+-- why nothing is found: for the first file, for the second, for that of the precondition, or behind all
 abbrev pub StopsAtPair : (List ℕ → Option (List ℕ) → Type 0) → PairWords → Halted → Type 0
 StopsAtPair holds words h =
     StopsAtProgram (holds words.first.name.now) words.first h
-    ⊎ (StopsAtProgram (holds words.second.name.now) words.second h ⊎ StopsBehindBoth holds words h)
+    ⊎ (StopsAtProgram (holds words.second.name.now) words.second h
+    ⊎ (StopsWhereNamed holds words.precondition h ⊎ StopsBehindAll holds words h))

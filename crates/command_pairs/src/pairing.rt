@@ -18,7 +18,7 @@ ghost use Rattle.command_facts.specs.Refused.{IsProgramIn, IsProgramOfText};
 
 use crate::limiting::limits_of;
 use crate::pair_inputs::load_inputs;
-use command_facts::{FoundPair, load_program};
+use command_facts::{FoundPair, load_program, load_where_named};
 use command_requests::{DrawnWords, FewInputs, InputFile, InputWords, PairWords, ProgramFile};
 use comparing::{
     CommonRange, Compared, Comparison, ComparisonRefusal, Side, common_ranges, compare_drawn,
@@ -171,12 +171,23 @@ fn compared_of<'a>(
     })
 }
 
-fn cells_of(first: &Program, second: &Program, side: Side) -> u32
-    ensures { result ≡ spec.cells_of first.now second.now side }
+// The cells of a precondition, if there is one.
+fn cells_where(precondition: &Option<Program>) -> u32
+    ensures { result ≡ spec.cells_where precondition.now }
+{
+    match precondition {
+        None => 0,
+        Some(program) => program.layout().cells(),
+    }
+}
+
+fn cells_of(first: &Program, second: &Program, precondition: &Option<Program>, side: Side) -> u32
+    ensures { result ≡ spec.cells_of precondition.now first.now second.now side }
 {
     match side {
         Side::First => first.layout().cells(),
         Side::Second => second.layout().cells(),
+        Side::Precondition => cells_where(precondition),
     }
 }
 
@@ -186,17 +197,18 @@ fn halted<'a>(
     values: usize,
     first: &Program,
     second: &Program,
+    precondition: &Option<Program>,
 ) -> Halted<'a>
     requires too_long { (side : rust.Side) → why ≡ ComparisonRefusal.InputTooLong side
-        → pairs.too_long first.now second.now values ≡ Some side }
-    ensures { spec.IsTooLong first.now second.now values result.stop result.about }
+        → pairs.too_long precondition.now first.now second.now values ≡ Some side }
+    ensures { spec.IsTooLong precondition.now first.now second.now values result.stop result.about }
 {
     match why {
         ComparisonRefusal::InputTooLong(side) => Halted {
             stop: Stop::Refused(Refusal::InputTooLong),
             about: About::Values {
                 values,
-                cells: cells_of(first, second, side),
+                cells: cells_of(first, second, precondition, side),
             },
         },
         ComparisonRefusal::OutOfMemory => Halted {
@@ -211,16 +223,26 @@ fn on_scope<'a>(
     alloc: Global,
     first: &Program,
     second: &Program,
+    precondition: &Option<Program>,
     compared: &Compared,
     few: FewInputs,
     bound: u32,
 ) -> Result<Comparison, Halted<'a>>
-    ensures found { IfOk result (spec.IsFoundBy first.now second.now compared.now bound few.scope.count (inputs_of few.scope)) }
-    ensures refused { IfErr result (λ h. spec.IsTooLong first.now second.now few.scope.count h.stop h.about) }
+    ensures found { IfOk result (spec.IsFoundBy precondition.now first.now second.now compared.now bound few.scope.count
+        (inputs_of few.scope)) }
+    ensures refused { IfErr result (λ h. spec.IsTooLong precondition.now first.now second.now few.scope.count h.stop h.about) }
 {
-    match compare_scope(alloc, first, second, compared, few.scope, bound) {
+    match compare_scope(
+        alloc,
+        first,
+        second,
+        precondition,
+        compared,
+        few.scope,
+        bound,
+    ) {
         Ok(comparison) => Ok(comparison),
-        Err(why) => Err(halted(why, few.scope.count as usize, first, second)),
+        Err(why) => Err(halted(why, few.scope.count as usize, first, second, precondition)),
     }
 }
 
@@ -229,21 +251,22 @@ fn on_files<'a, S: Sources>(
     alloc: Global,
     first: &Program,
     second: &Program,
+    precondition: &Option<Program>,
     compared: &Compared,
     files: &[InputFile<'a>],
     bound: u32,
     sources: &mut S,
 ) -> Result<Comparison, Halted<'a>>
     ensures found { IfOk result (λ r. (inputs : List (List ℤ)) × AllZip (spec.IsInputOfFile (S.Sources.holds sources.old)) files.now inputs
-        × spec.IsFoundBy first.now second.now compared.now bound (pairs.longest inputs) inputs r) }
+        × spec.IsFoundBy precondition.now first.now second.now compared.now bound (pairs.longest inputs) inputs r) }
     ensures refused { IfErr result (λ h. spec.StopsAtInputs (S.Sources.holds sources.old) files.now h
         ⊎ ((values : ℕ) × spec.AreMostIn (S.Sources.holds sources.old) files.now values
-        × spec.IsTooLong first.now second.now values h.stop h.about)) }
+        × spec.IsTooLong precondition.now first.now second.now values h.stop h.about)) }
 {
     let inputs = load_inputs(alloc, files, sources)?;
-    match compare_inputs(alloc, first, second, compared, &inputs, bound) {
+    match compare_inputs(alloc, first, second, precondition, compared, &inputs, bound) {
         Ok(comparison) => Ok(comparison),
-        Err(why) => Err(halted(why, longest(&inputs), first, second)),
+        Err(why) => Err(halted(why, longest(&inputs), first, second, precondition)),
     }
 }
 
@@ -272,21 +295,33 @@ fn on_drawn<'a>(
     alloc: Global,
     first: &Program,
     second: &Program,
+    precondition: &Option<Program>,
     compared: &Compared,
     drawn: DrawnWords,
     cells: u32,
     bound: u32,
 ) -> Result<Comparison, Halted<'a>>
     requires { cells ≡ spec.cells_drawn drawn first.now second.now }
-    ensures found { IfOk result (spec.IsFoundBy first.now second.now compared.now bound (spec.cells_drawn drawn first.now second.now)
+    ensures found { IfOk result (spec.IsFoundBy precondition.now first.now second.now compared.now bound
+        (spec.cells_drawn drawn first.now second.now)
         (drawn_inputs drawn.drawing.low drawn.drawing.high drawn.drawing.seed (spec.cells_drawn drawn first.now second.now) drawn.count)) }
     ensures refused { IfErr result (λ h.
-        spec.IsTooLong first.now second.now (spec.cells_drawn drawn first.now second.now) h.stop h.about) }
+        spec.IsTooLong precondition.now first.now second.now (spec.cells_drawn drawn first.now second.now) h.stop h.about) }
 {
     let (drawing, count) = (drawn.drawing, drawn.count);
-    match compare_drawn(alloc, first, second, compared, drawing, cells, count, bound) {
+    match compare_drawn(
+        alloc,
+        first,
+        second,
+        precondition,
+        compared,
+        drawing,
+        cells,
+        count,
+        bound,
+    ) {
         Ok(comparison) => Ok(comparison),
-        Err(why) => Err(halted(why, cells as usize, first, second)),
+        Err(why) => Err(halted(why, cells as usize, first, second, precondition)),
     }
 }
 
@@ -295,23 +330,51 @@ fn compare_on<'a, S: Sources>(
     alloc: Global,
     first: &Program,
     second: &Program,
+    precondition: &Option<Program>,
     compared: &Compared,
     words: &PairWords<'a>,
     sources: &mut S,
 ) -> Result<Comparison, Halted<'a>>
-    ensures found { IfOk result (spec.IsFoundOn (S.Sources.holds sources.old) first.now second.now compared.now words.now.inputs
-        words.now.bound) }
-    ensures refused { IfErr result (spec.IsRefusedPair (S.Sources.holds sources.old) words.now.inputs first.now second.now) }
+    ensures found { IfOk result (spec.IsFoundOn (S.Sources.holds sources.old) precondition.now first.now second.now compared.now
+        words.now.inputs words.now.bound) }
+    ensures refused { IfErr result
+        (spec.IsRefusedPair (S.Sources.holds sources.old) words.now.inputs precondition.now first.now second.now) }
 {
     let bound = words.bound;
     match &words.inputs {
-        InputWords::Scope(few) => on_scope(alloc, first, second, compared, *few, bound),
+        InputWords::Scope(few) => on_scope(
+            alloc,
+            first,
+            second,
+            precondition,
+            compared,
+            *few,
+            bound,
+        ),
         InputWords::Files(files) => {
-            on_files(alloc, first, second, compared, files, bound, sources)
+            on_files(
+                alloc,
+                first,
+                second,
+                precondition,
+                compared,
+                files,
+                bound,
+                sources,
+            )
         }
         InputWords::Drawn(drawn) => {
             let cells = cells_drawn(first, second, *drawn);
-            on_drawn(alloc, first, second, compared, *drawn, cells, bound)
+            on_drawn(
+                alloc,
+                first,
+                second,
+                precondition,
+                compared,
+                *drawn,
+                cells,
+                bound,
+            )
         }
     }
 }
@@ -321,42 +384,54 @@ fn compare_pair<'a, S: Sources>(
     alloc: Global,
     first: &Program,
     second: &Program,
+    precondition: &Option<Program>,
     text: &[u8],
     words: &PairWords<'a>,
     sources: &mut S,
 ) -> Result<Comparison, Halted<'a>>
     requires plain { IsPlain text.now }
     ensures found { IfOk result (λ r. (compared : Compared) × spec.IsCompared words.now first.now.layout second.now.layout text.now compared
-        × spec.IsFoundOn (S.Sources.holds sources.old) first.now second.now compared words.now.inputs words.now.bound r) }
+        × spec.IsFoundOn (S.Sources.holds sources.old) precondition.now first.now second.now compared words.now.inputs words.now.bound r) }
     ensures refused { IfErr result (λ h. spec.IsUncommonIn words.now first.now.layout second.now.layout h.stop h.about
         ⊎ (HaveNoLimits words.now text.now h
-        ⊎ spec.IsRefusedPair (S.Sources.holds sources.old) words.now.inputs first.now second.now h)) }
+        ⊎ spec.IsRefusedPair (S.Sources.holds sources.old) words.now.inputs precondition.now first.now second.now h)) }
 {
     let compared = compared_of(alloc, words, first.layout(), second.layout(), text)?;
-    compare_on(alloc, first, second, &compared, words, sources)
+    compare_on(
+        alloc,
+        first,
+        second,
+        precondition,
+        &compared,
+        words,
+        sources,
+    )
 }
 
 /// What is found of the programs of two files on the same inputs.
 ///
-/// It is refused for either program's file (as [`load_program`] says), a name that both don't declare (P1), a limit that has no number
-/// (P1), the inputs' files (P2, E1 to E3), an input with too many values (E11), and want of memory (E16).
+/// It is refused for either program's file or the precondition's (as [`load_program`] says), a name that both don't declare (P1), a limit
+/// that has no number (P1), the inputs' files (P2, E1 to E3), an input with too many values (E11), and want of memory (E16).
 pub fn find_pair<'a, S: Sources>(
     alloc: Global,
     words: &PairWords<'a>,
     sources: &mut S,
 ) -> Result<FoundPair, Halted<'a>>
-    // What is found is of both files' programs on just the inputs that the words give, of what they name, within their limits.
+    // What is found is of both files' programs on just the inputs that the words give and that count, of what they name,
+    // within their limits.
     ensures found { IfOk result (spec.IsPaired (S.Sources.holds sources.old) words.now) }
     // Nothing is found only for a program's file, a name, a limit, the inputs, or want of memory.
     ensures refused { IfErr result (spec.StopsAtPair (S.Sources.holds sources.old) words.now) }
 {
     let first = load(alloc, &words.first, sources)?;
     let (second, text) = load_with_text(alloc, &words.second, sources)?;
-    let comparison = compare_pair(alloc, &first, &second, &text, words, sources)?;
+    let precondition = load_where_named(alloc, sources, &words.precondition)?;
+    let comparison = compare_pair(alloc, &first, &second, &precondition, &text, words, sources)?;
     let drawn = drawn_of(&first, &second, &words.inputs);
     Ok(FoundPair {
         first,
         second,
+        precondition,
         drawn,
         comparison,
     })

@@ -9,6 +9,8 @@ use memory_texts::Choice;
 pub struct PairWords<'a> {
     pub first: ProgramFile<'a>,
     pub second: ProgramFile<'a>,
+    /// Of the program that says whether an input counts. Without one all count.
+    pub precondition: Option<ProgramFile<'a>>,
     pub inputs: InputWords<'a>,
     /// What of runs that end is compared: the output and what both programs declare, or of these what has a name among these, of which
     /// `output` is that of the output.

@@ -6,6 +6,7 @@ use crate::opening::Opening;
 use crate::pair_words::PairWords;
 use crate::run_words::{MeaningWords, RunWords};
 use crate::scope_words::ScopeWords;
+use crate::specification_files::SpecificationFiles;
 use crate::step_words::StepWords;
 use crate::sweep_words::SweepWords;
 use crate::trace_words::TraceWords;
@@ -85,9 +86,10 @@ pub enum Request<'a> {
         file: ProgramFile<'a>,
         words: SweepWords<'a>,
     },
-    /// A program is run by its definition on every input of a scope, each time for at most so many statements.
+    /// A program is run by its definition on every input of a scope that counts, each time for at most so many statements.
     Exploration {
         file: ProgramFile<'a>,
+        specification: SpecificationFiles<'a>,
         scope: ScopeWords,
         bound: u32,
     },

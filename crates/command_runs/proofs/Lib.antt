@@ -6,3 +6,5 @@ pub mod Rules
 pub mod Steps
 pub mod WordsTold
 pub mod Overalls
+pub mod Specifications
+pub mod Unlikes

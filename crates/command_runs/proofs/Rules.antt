@@ -2,8 +2,15 @@
 use Rattle.std.proofs.Common.{◌≡◌, Option, Some, None, refl}
 use Rattle.pram_model.specs.declared.rule.Rule.{Rule}
 use Rattle.pram_check.specs.Checked.{Checked}
+use Rattle.scopes.specs.Specified.{most_values}
 use Rattle.command_runs.specs.Scopes.{under_rule}
 
 pub same_layout : (rule : Option Rule) (p : Checked) → (under_rule rule p).layout ≡ p.layout
 same_layout None p = refl
 same_layout (Some rule) p = refl
+
+-- and as many cells for the values of an input
+pub same_values : (rule : Option Rule) (pre : Option Checked) (p : Checked) → most_values pre (under_rule rule p) ≡ most_values pre p
+same_values None pre p = refl
+same_values (Some rule) None p = refl
+same_values (Some rule) (Some q) p = refl

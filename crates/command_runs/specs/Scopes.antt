@@ -1,13 +1,14 @@
--- What calls find of a program on every input of a scope.
+-- What calls find of a program on the inputs of a scope.
 use Rattle.std.specs.Prelude.{◌≡◌, ◌⊎◌, ◌<◌, ◌≤◌, ℕ, List, Option, Some, None}
-use Rattle.pram_model.specs.Layout.{total_size}
 use Rattle.pram_model.specs.declared.rule.Rule.{Rule}
 use Rattle.pram_check.specs.Checked.{Checked}
 use Rattle.pram_check.specs.OtherRule.{under}
 use Rattle.scopes.specs.Found.{found, found_is}
 use Rattle.scopes.specs.Scopes.{inputs_of}
+use Rattle.scopes.specs.Specified.{most_values}
 use Rattle.command_requests.specs.declared.request.ProgramFile.{ProgramFile}
 use Rattle.command_requests.specs.declared.scope_words.ScopeWords.{ScopeWords}
+use Rattle.command_requests.specs.declared.specification_files.SpecificationFiles.{SpecificationFiles}
 use Rattle.diagnoses.specs.declared.about.About.{About}
 use Rattle.diagnoses.specs.declared.about.About.TheVariants as about
 use Rattle.program_texts.specs.declared.from_text.Refusal.TheVariants as refusal
@@ -18,35 +19,42 @@ use Rattle.diagnoses.specs.declared.halted.Halted.{Halted}
 use Rattle.command_facts.specs.declared.loaded.Loaded.{Loaded}
 use Rattle.command_facts.specs.Found.{IsLoaded}
 use Rattle.command_facts.specs.Held.{StopsAtProgram}
-use Rattle.command_facts.specs.Refused.{AreNumbers, IsProgramIn}
+use Rattle.command_facts.specs.Refused.{AreNumbers, IsProgramIn, IsProgramWhereNamed}
+use Rattle.command_runs.specs.Specified.{IsSpecification, StopsAtSpecification}
 
 -- a program under the rule that is asked for, or under its own
 abbrev pub under_rule : Option Rule → Checked → Checked
 under_rule None program = program
 under_rule (Some rule) program = under rule program
 
--- what is found of the file's program on every input of the scope, within so many statements each, by 1 to 32 workers; an input has no more
--- values than the program has cells
-pub record IsExplored (holds : List ℕ → Option (List ℕ) → Type 0) (file : ProgramFile) (scope : ScopeWords) (bound : ℕ) (f : FoundScope)
-    : Type 0 where
+-- what is found of the file's program on the inputs of the scope, by the programs of the other files under their own rules, within so many
+-- statements each, by 1 to 32 workers; an input has no more values than the program has cells, and the precondition
+pub record IsExplored (holds : List ℕ → Option (List ℕ) → Type 0) (file : ProgramFile) (files : SpecificationFiles) (scope : ScopeWords)
+    (bound : ℕ) (f : FoundScope) : Type 0 where
   pub loaded : Loaded
   pub is_loaded : IsLoaded (holds file.name.now) file loaded
   pub ran : f.program ≡ under_rule scope.rule loaded.program
+  pub specification : IsSpecification holds loaded.program.layout files f.specification
   pub some : 1 ≤ scope.workers
   pub few : scope.workers ≤ 32
-  pub fit : scope.scope.count ≤ total_size f.program.layout
-  pub found : found_is f.findings ≡ found f.program bound (inputs_of scope.scope)
+  pub fit : scope.scope.count ≤ most_values f.specification.precondition f.program
+  pub found : found_is f.findings ≡ found f.specification f.program bound (inputs_of scope.scope)
 
--- There are no workers, or more than 32; the inputs have more values than the program has cells, which is told with both numbers; or memory
--- was refused.
+-- There are no workers, or more than 32; the inputs have more values than there are cells for them, which is told with both numbers; or
+-- memory was refused.
 abbrev pub IsRefusedFor : (workers values cells : ℕ) → Stop → About → Type 0
 IsRefusedFor workers values cells (stop.Refused refusal.BadWorkers) a = ((workers < 1) ⊎ (32 < workers)) × (a ≡ about.Nothing)
 IsRefusedFor workers values cells (stop.Refused refusal.InputTooLong) a = (cells < values) × AreNumbers a values cells
 IsRefusedFor workers values cells (stop.Refused refusal.OutOfMemory) a = a ≡ about.Nothing
 IsRefusedFor workers values cells _ a = ⊥
 
--- why nothing is found: for the program's file, or for its runs
-abbrev pub StopsAtExploration : (List ℕ → Option (List ℕ) → Type 0) → ProgramFile → ScopeWords → Halted → Type 0
-StopsAtExploration holds file scope h = StopsAtProgram (holds file.name.now) file h
-    ⊎ ((program : Checked) × IsProgramIn holds file program × IsRefusedFor scope.workers scope.scope.count (total_size program.layout)
-    h.stop h.about)
+-- the runs are refused: there are cells for as many values as the program has, and the precondition
+abbrev pub StopsAtRuns : (List ℕ → Option (List ℕ) → Type 0) → SpecificationFiles → ScopeWords → Checked → Halted → Type 0
+StopsAtRuns holds files scope program h = (pre : Option Checked) × IsProgramWhereNamed holds files.precondition pre
+    × IsRefusedFor scope.workers scope.scope.count (most_values pre program) h.stop h.about
+
+-- why nothing is found: for the program's file, for those of precondition and postcondition, or for the runs
+abbrev pub StopsAtExploration : (List ℕ → Option (List ℕ) → Type 0) → ProgramFile → SpecificationFiles → ScopeWords → Halted → Type 0
+StopsAtExploration holds file files scope h = StopsAtProgram (holds file.name.now) file h
+    ⊎ ((program : Checked) × IsProgramIn holds file program
+    × (StopsAtSpecification holds file.name.now program.layout files h ⊎ StopsAtRuns holds files scope program h))

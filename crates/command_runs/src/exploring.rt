@@ -1,17 +1,21 @@
-//! Runs of a program on every input of a scope.
+//! Runs of a program on the inputs of a scope.
 
 ghost use Rattle.std.specs.Prelude.{◌≡◌, ◌<◌, ◌≤◌, IfOk, IfErr, ℕ};
+ghost use Rattle.scopes.specs.Found.{found, found_is};
+ghost use Rattle.scopes.specs.Scopes.{inputs_of};
+ghost use Rattle.scopes.specs.Specified as specified;
 ghost use Rattle.command_runs.specs.Scopes as spec;
 
+use crate::specifying::load_specification;
 use command_facts::{FoundScope, load_program};
-use command_requests::{ProgramFile, ScopeWords};
+use command_requests::{ProgramFile, ScopeWords, SpecificationFiles};
 use diagnoses::{About, Halted};
 use observing::Watch;
 use pram_check::Program;
 use pram_meaning::MeaningRefusal;
 use pram_trees::Rule;
 use program_texts::{Refusal, Stop};
-use scopes::explore_by;
+use scopes::{Findings, Specification, explore_by, most_values};
 use std::alloc::Global;
 use std::thread::Threads;
 use system_files::Sources;
@@ -65,39 +69,84 @@ fn check_workers<'a>(workers: u32) -> Result<(), Halted<'a>>
     }
 }
 
-/// The runs of the file's program on every input of the scope, each for at most `bound` statements, by the workers that are asked for.
-///
-/// It is refused as [`load_program`] refuses the file, for other than 1 to 32 workers (E13), for inputs with too many values (E11), and for
-/// want of memory (E16).
-pub fn find_scope<'a, R: Threads + Sync, S: Sources, V: Watch>(
+// The runs of a program on the inputs of a scope.
+fn explore_all<'a, R: Threads + Sync, V: Watch>(
     rt: &R,
     alloc: Global,
-    file: &ProgramFile<'a>,
+    program: &Program,
+    specification: &Specification,
     scope: ScopeWords,
     bound: u32,
-    sources: &mut S,
     watch: &mut V,
-) -> Result<FoundScope, Halted<'a>>
-    // What is found is of all inputs of the scope, of the file's program under the rule that is asked for, within the bound.
-    ensures found { IfOk result (spec.IsExplored (S.Sources.holds sources.old) file.now scope bound) }
-    // Nothing is found only for the program's file, the number of workers, inputs with too many values, or want of memory.
-    ensures refused { IfErr result (spec.StopsAtExploration (S.Sources.holds sources.old) file.now scope) }
+) -> Result<Findings, Halted<'a>>
+    ensures some { IfOk result (λ f. 1 ≤ scope.workers) }
+    ensures few { IfOk result (λ f. scope.workers ≤ 32) }
+    ensures fit { IfOk result (λ f. scope.scope.count ≤ specified.most_values specification.now.precondition program.now) }
+    ensures found { IfOk result (λ f. found_is f ≡ found specification.now program.now bound (inputs_of scope.scope)) }
+    ensures refused { IfErr result (λ h. spec.IsRefusedFor scope.workers scope.scope.count
+        (specified.most_values specification.now.precondition program.now) h.stop h.about) }
 {
-    let loaded = load_program(alloc, sources, file)?;
-    let program = under(loaded.program, scope.rule);
     if let Err(halted) = check_workers(scope.workers) {
         return Err(halted);
     }
     match explore_by(
         rt,
         alloc,
-        &program,
+        program,
+        specification,
         scope.scope,
         bound,
         scope.workers,
         watch,
     ) {
-        Ok(findings) => Ok(FoundScope { program, findings }),
-        Err(why) => Err(halted(why, scope.scope.count, program.layout().cells())),
+        Ok(findings) => Ok(findings),
+        Err(why) => {
+            let cells = most_values(&specification.precondition, program);
+            Err(halted(why, scope.scope.count, cells))
+        }
+    }
+}
+
+/// The runs of the file's program on the inputs of the scope that count, each for at most `bound` statements, by the workers that are asked
+/// for. Which count and which results are right the programs of the other files say, within the same bound and under their own rules.
+///
+/// It is refused as [`load_program`] refuses the files, for a postcondition that declares something with other bounds than the program
+/// (P1), for other than 1 to 32 workers (E13), for inputs with too many values (E11), and for want of memory (E16).
+pub fn find_scope<'a, R: Threads + Sync, S: Sources, V: Watch>(
+    rt: &R,
+    alloc: Global,
+    file: &ProgramFile<'a>,
+    files: &SpecificationFiles<'a>,
+    scope: ScopeWords,
+    bound: u32,
+    sources: &mut S,
+    watch: &mut V,
+) -> Result<FoundScope, Halted<'a>>
+    // What is found is of the scope's inputs, of the file's program under the rule that is asked for, by the other files'
+    // programs, within the bound.
+    ensures found { IfOk result (spec.IsExplored (S.Sources.holds sources.old) file.now files.now scope bound) }
+    // Nothing is found only for a file, a postcondition's bounds, the number of workers, inputs with too many values, or
+    // want of memory.
+    ensures refused { IfErr result (spec.StopsAtExploration (S.Sources.holds sources.old) file.now files.now scope) }
+{
+    let loaded = load_program(alloc, sources, file)?;
+    let specification = match load_specification(
+        alloc,
+        file.name,
+        &loaded.program,
+        files,
+        sources,
+    ) {
+        Ok(specification) => specification,
+        Err(halted) => return Err(halted),
+    };
+    let program = under(loaded.program, scope.rule);
+    match explore_all(rt, alloc, &program, &specification, scope, bound, watch) {
+        Ok(findings) => Ok(FoundScope {
+            program,
+            specification,
+            findings,
+        }),
+        Err(halted) => Err(halted),
     }
 }

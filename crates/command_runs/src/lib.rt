@@ -10,9 +10,11 @@ mod finding_run;
 mod finding_steps;
 mod given;
 mod running;
+mod specifying;
 mod surveying;
 mod timed;
 mod tracing;
+mod unlike;
 
 pub use exploring::find_scope;
 pub use finding_code::find_code;

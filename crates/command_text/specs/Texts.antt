@@ -46,7 +46,7 @@ use Rattle.command_text.specs.Steps.{IsTelling, told_text}
 use Rattle.command_text.specs.Traces.{counts_text, outcome_text}
 
 abbrev pub version_text : List ℕ
-version_text = line (codes "pramc 1.6.0")
+version_text = line (codes "pramc 1.7.0")
 
 -- `accepted cells 16 procs 8 rule erew`
 abbrev pub accepted_line : Checked → List ℕ
@@ -105,9 +105,10 @@ IsTextOf (settled.Expanded s) text = text ≡ text_in s
 IsTextOf (settled.Planned code) text = text ≡ spelling code
 IsTextOf (settled.Exported code) text = text ≡ c_text code
 IsTextOf (settled.Compared c) text = text ≡ comparison_text c
-IsTextOf (settled.Explored f) text = text ≡ findings_text f.program.layout (found_is f.findings)
+IsTextOf (settled.Explored f) text = text ≡ findings_text f.program.layout f.specification (found_is f.findings)
 IsTextOf (settled.Surveyed f) text = text ≡ told_of_all f.program.layout f.scope f.told
-IsTextOf (settled.Paired p) text = text ≡ pair_texts.comparison_text p.first.layout p.second.layout p.drawn (pairs.found_is p.comparison)
+IsTextOf (settled.Paired p) text =
+    text ≡ pair_texts.comparison_text p.first.layout p.second.layout p.precondition p.drawn (pairs.found_is p.comparison)
 IsTextOf (settled.Run r told) text = text ≡ shown_by told r.loaded.program.layout (verdict_of r.outcome)
 IsTextOf (settled.Costed r told c) text = text ≡ costs_text (verdict_of r.outcome) c told.schedule told.lines ++ outcome_text r
 IsTextOf (settled.Traced r told t) text = text ≡ counts_text told.drawn told (outcome_text r) t

@@ -34,10 +34,7 @@ pub(crate) fn write_found<'a, O: Out>(found: &Settled<'_>, out: &mut O) -> Resul
         }
         Settled::Traced(run, words, exchanges) => write_found_trace(out, run, *words, exchanges),
         Settled::Swept(swept) => write_swept(out, swept, status_of(found)),
-        Settled::Explored(explored) => {
-            let (layout, status) = (explored.program.layout(), status_of(found));
-            write_exploration(out, layout, &explored.findings, status)
-        }
+        Settled::Explored(explored) => write_exploration(out, explored, status_of(found)),
         Settled::Surveyed(survey) => write_survey(out, survey, status_of(found)),
         Settled::Paired(pair) => write_pair(out, pair, status_of(found)),
         Settled::Executed(run) => {

@@ -20,7 +20,7 @@ ghost use Rattle.command_facts.specs.Written.{Wrote};
 ghost use Rattle.command_text.specs.Texts.{accepted_line, told_of_all, version_text};
 
 use all_inputs::{Overall, Scope, Undecided, write_overall, write_undecided};
-use command_facts::{FoundOverall, FoundPair};
+use command_facts::{FoundOverall, FoundPair, FoundScope};
 use command_requests::{CostWords, VERSION};
 use comparing::{UnderRules, show_comparison, write_comparison};
 use costs::{Cost, write_cost, write_lines};
@@ -31,7 +31,7 @@ use mpi_export::write_program;
 use pram_check::Program;
 use pram_trees::Layout;
 use program_texts::{Status, Stop, finish, show};
-use scopes::{Findings, write_findings};
+use scopes::write_findings;
 use superstep_instructions::Code;
 use superstep_listing::write_listing;
 use text_out::{Out, WriteFault};
@@ -138,17 +138,21 @@ pub(crate) fn write_export<'a, O: Out>(out: &mut O, code: &Code) -> Result<Statu
     finish(out, Status::Done)
 }
 
-/// Writes what is found on every input of a scope, and ends with that status.
+/// Writes what is found on the inputs of a scope, and ends with that status.
 pub(crate) fn write_exploration<'a, O: Out>(
     out: &mut O,
-    layout: &Layout,
-    findings: &Findings,
+    explored: &FoundScope,
     status: Status,
 ) -> Result<Status, Stop<'a>>
-    ensures written { Wrote status (findings_text layout.now (found_is findings.now))
+    ensures written { Wrote status (findings_text explored.now.program.layout explored.now.specification (found_is explored.now.findings))
         (O.Out.state out.old) (O.Out.state out.new) result }
 {
-    write_findings(out, layout, findings)?;
+    write_findings(
+        out,
+        explored.program.layout(),
+        &explored.specification,
+        &explored.findings,
+    )?;
     finish(out, status)
 }
 
@@ -186,11 +190,19 @@ pub(crate) fn write_pair<'a, O: Out>(
     status: Status,
 ) -> Result<Status, Stop<'a>>
     ensures written { Wrote status
-        (pair_texts.comparison_text pair.now.first.layout pair.now.second.layout pair.now.drawn (pairs.found_is pair.now.comparison))
+        (pair_texts.comparison_text pair.now.first.layout pair.now.second.layout pair.now.precondition pair.now.drawn
+        (pairs.found_is pair.now.comparison))
         (O.Out.state out.old) (O.Out.state out.new) result }
 {
     let (first, second) = (pair.first.layout(), pair.second.layout());
-    write_comparison(out, first, second, pair.drawn, &pair.comparison)?;
+    write_comparison(
+        out,
+        first,
+        second,
+        &pair.precondition,
+        pair.drawn,
+        &pair.comparison,
+    )?;
     finish(out, status)
 }
 

@@ -52,6 +52,10 @@ pub(crate) enum Group {
     Scoped,
     // all orders of some numbers in its place
     Ordered,
+    // which inputs count
+    Counting,
+    // which results are right
+    Ensured,
     // under which rule it is tried
     Ruled,
     // by how many workers inputs are tried
@@ -130,6 +134,10 @@ pub(crate) const PERMUTATIONS: &str = "permutations";
 
 pub(crate) const UNDER: &str = "under";
 
+pub(crate) const WHERE: &str = "where";
+
+pub(crate) const ENSURE: &str = "ensure";
+
 pub(crate) const LISTING_FILE: &str = "listing";
 
 pub(crate) const COUNT: &str = "count";
@@ -155,7 +163,7 @@ const SIZES: &[CommandOption] = &[CommandOption {
 const FORMATS: &[CommandOption] = &[CommandOption {
     name: FORMAT,
     follows: Follows::WordOr("FORMAT", "text"),
-    help: "How it is told: text, or json for programs that read; of check also gnu, for editors",
+    help: "How it is told: text, or json for programs; of check also gnu, for editors",
 }];
 
 const BOUNDED: &[CommandOption] = &[CommandOption {
@@ -167,7 +175,7 @@ const BOUNDED: &[CommandOption] = &[CommandOption {
 const TIMED: &[CommandOption] = &[CommandOption {
     name: SECONDS,
     follows: Follows::Word("S"),
-    help: "Ends a long run in about S seconds, S from 1: it is run for as many statements as there is time for",
+    help: "Ends a long run in about S seconds, S from 1",
 }];
 
 const OPENED: &[CommandOption] = &[
@@ -189,7 +197,7 @@ const OPENED: &[CommandOption] = &[
     CommandOption {
         name: SEED,
         follows: Follows::Word("S"),
-        help: "Of two draws with one seed all values are the same; 1 where none is given",
+        help: "Two draws with one seed are the same; 1 where none is given",
     },
 ];
 
@@ -340,6 +348,18 @@ const ORDERED: &[CommandOption] = &[CommandOption {
     help: "All orders of the numbers 1 to K in their place, K up to 10",
 }];
 
+const COUNTING: &[CommandOption] = &[CommandOption {
+    name: WHERE,
+    follows: Follows::Word("PRE"),
+    help: "Tries inputs on which PRE prints last a number other than 0",
+}];
+
+const ENSURED: &[CommandOption] = &[CommandOption {
+    name: ENSURE,
+    follows: Follows::Word("POST"),
+    help: "Has POST say so of each end; it gets the cells by their names",
+}];
+
 const SHARED: &[CommandOption] = &[CommandOption {
     name: WORKERS,
     follows: Follows::WordOr("P", "1"),
@@ -362,12 +382,12 @@ const TRIED: &[CommandOption] = &[
     CommandOption {
         name: INPUT,
         follows: Follows::Words("FILE"),
-        help: "Tries the values of this file, and of each more that is given so",
+        help: "Tries the values of this file, and of each more given so",
     },
     CommandOption {
         name: RANDOM,
         follows: Follows::Signed("LO..HI"),
-        help: "Tries values of this interval, drawn for K or the common first cells",
+        help: "Tries values of this interval, for K or the common first cells",
     },
     CommandOption {
         name: COUNT,
@@ -377,7 +397,7 @@ const TRIED: &[CommandOption] = &[
     CommandOption {
         name: SEED,
         follows: Follows::Word("S"),
-        help: "The seed of the first, 1 where none is given; the next has the next seed",
+        help: "The seed of the first, 1 where none is given; the next has the next",
     },
 ];
 
@@ -390,12 +410,12 @@ const COMPARED: &[CommandOption] = &[
     CommandOption {
         name: TIME_AT_MOST,
         follows: Follows::Word("E"),
-        help: "The most time that FILE2 may take to its end, as 40 or 4*log(n)+10 of its sizes",
+        help: "The most time of FILE2, as 40 or 4*log(n)+10 of its sizes",
     },
     CommandOption {
         name: WORK_AT_MOST,
         follows: Follows::Word("E"),
-        help: "The most work that FILE2 may take to its end, the same",
+        help: "The most work of FILE2, the same",
     },
 ];
 
@@ -416,6 +436,8 @@ pub(crate) fn options_of(group: Group) -> &'static [CommandOption] {
         Group::Traced => TRACED,
         Group::Scoped => SCOPED,
         Group::Ordered => ORDERED,
+        Group::Counting => COUNTING,
+        Group::Ensured => ENSURED,
         Group::Ruled => RULED,
         Group::Shared => SHARED,
         Group::Listed => LISTED,

@@ -104,12 +104,13 @@ fn input_words<'a>(alloc: Global, words: &ArgMatches<'a>) -> Result<InputWords<'
     }
 }
 
-/// On which inputs the programs of these two files are run, and what of their runs is compared.
+/// On which inputs the programs of these two files are run, of those that the precondition's says count, and what of their runs is compared.
 pub(crate) fn pair_words<'a>(
     alloc: Global,
     words: &ArgMatches<'a>,
     first: ProgramFile<'a>,
     second: ProgramFile<'a>,
+    precondition: Option<ProgramFile<'a>>,
 ) -> Result<PairWords<'a>, Stop<'a>>
     ensures { IfErr result IsOfWords }
 {
@@ -122,6 +123,7 @@ pub(crate) fn pair_words<'a>(
     Ok(PairWords {
         first,
         second,
+        precondition,
         inputs,
         only,
         most_time: words.get_str(TIME_AT_MOST),

@@ -6,8 +6,8 @@ ghost use Rattle.command_requests.specs.Words.{AsksForVersion, IsOfWords};
 
 use crate::grammar::grammar;
 use crate::options::{
-    BOUND, BSP, FILE, FLOW, FORMAT, HTML, LINES, LISTING_FILE, OUTCOME, SCHEDULE, SECOND, SECONDS,
-    SIZE, SVG, SWEEP, WORD,
+    BOUND, BSP, ENSURE, FILE, FLOW, FORMAT, HTML, LINES, LISTING_FILE, OUTCOME, SCHEDULE, SECOND,
+    SECONDS, SIZE, SVG, SWEEP, WHERE, WORD,
 };
 use crate::pair_reading::pair_words;
 use crate::run_reading::{
@@ -17,7 +17,7 @@ use crate::run_reading::{
 use crate::scope_reading::{always_words, scope_words};
 use clap::ArgMatches;
 use clap::error::ErrorKind;
-use command_requests::{ProgramFile, Request, SizeWord, asks_for_version};
+use command_requests::{ProgramFile, Request, SizeWord, SpecificationFiles, asks_for_version};
 use help::subject_of;
 use program_texts::{Refusal, Stop};
 use std::alloc::{AllocError, Global};
@@ -112,6 +112,34 @@ fn file_at<'a>(
     let name = matches.get_str(place).unwrap_or("");
     let sizes = size_words(alloc, matches)?;
     Ok(ProgramFile { name, sizes })
+}
+
+// The file that an option names, if the command line has it.
+fn file_behind<'a>(
+    alloc: Global,
+    matches: &ArgMatches<'a>,
+    option: &str,
+) -> Result<Option<ProgramFile<'a>>, AllocError> {
+    match matches.get_str(option) {
+        None => Ok(None),
+        Some(name) => {
+            let sizes = size_words(alloc, matches)?;
+            Ok(Some(ProgramFile { name, sizes }))
+        }
+    }
+}
+
+// The programs by which inputs count and results are right, with the same sizes.
+fn specification_files<'a>(
+    alloc: Global,
+    matches: &ArgMatches<'a>,
+) -> Result<SpecificationFiles<'a>, AllocError> {
+    let precondition = file_behind(alloc, matches, WHERE)?;
+    let postcondition = file_behind(alloc, matches, ENSURE)?;
+    Ok(SpecificationFiles {
+        precondition,
+        postcondition,
+    })
 }
 
 fn file_of<'a>(alloc: Global, matches: &ArgMatches<'a>) -> Result<ProgramFile<'a>, AllocError> {
@@ -246,7 +274,13 @@ fn asked_exploration<'a>(alloc: Global, matches: &ArgMatches<'a>) -> Result<Requ
     let scope = scope_words(matches)?;
     let bound = number_of(matches, BOUND)?;
     let file = file_of(alloc, matches)?;
-    Ok(Request::Exploration { file, scope, bound })
+    let specification = specification_files(alloc, matches)?;
+    Ok(Request::Exploration {
+        file,
+        specification,
+        scope,
+        bound,
+    })
 }
 
 fn asked_always<'a>(alloc: Global, matches: &ArgMatches<'a>) -> Result<Request<'a>, Stop<'a>>
@@ -266,7 +300,9 @@ fn asked_pair<'a>(alloc: Global, matches: &ArgMatches<'a>) -> Result<Request<'a>
     check_format(matches, Over::Run)?;
     let first = file_of(alloc, matches)?;
     let second = file_at(alloc, matches, SECOND)?;
-    Ok(Request::Pair(pair_words(alloc, matches, first, second)?))
+    let precondition = file_behind(alloc, matches, WHERE)?;
+    let words = pair_words(alloc, matches, first, second, precondition)?;
+    Ok(Request::Pair(words))
 }
 
 fn asked_program_in_c<'a>(alloc: Global, matches: &ArgMatches<'a>) -> Result<Request<'a>, Stop<'a>>

@@ -1,14 +1,16 @@
--- That what is told of every input of a scope can be read.
+-- That what is told of the inputs of a scope can be read.
 use Rattle.std.proofs.Common.{ℕ, ℤ, List, [], ◌∷◌, ◌++◌, codes, lit≤, map}
 use Rattle.std.specs.Prelude.{Option, Some, None}
 use Rattle.json_texts.specs.Small.{IsReadable, IsSmall}
 use Rattle.json_texts.proofs.Small.{HasSmall, has_all, small_large, small_list, small_map, small_object, small_values, smaller}
+use Rattle.pram_check.specs.Checked.{Checked}
 use Rattle.pram_model.specs.Layout.{SharedEntry}
 use Rattle.scopes.specs.Firsts.{Met}
 use Rattle.scopes.specs.Found.{Found}
 use Rattle.scopes.specs.declared.findings.Span.{Span}
-use Rattle.json_texts.specs.ExplorationFacts.{cost_fields, count_fields, exploration_facts, going_on_fields, met_facts, span_facts}
-use Rattle.json_texts.specs.ExplorationFacts.{span_fields}
+use Rattle.scopes.specs.declared.specification.Specification.{Specification}
+use Rattle.json_texts.specs.ExplorationFacts.{asked_fields, behind_fields, cost_fields, count_fields, exploration_facts, first_fields}
+use Rattle.json_texts.specs.ExplorationFacts.{input_fields, met_facts, span_facts, span_fields, specified_fields}
 use Rattle.json_texts.specs.OutcomeFacts.{fault_fields}
 use Rattle.json_texts.proofs.Readable.{readable, small_fault}
 
@@ -43,13 +45,30 @@ small_costs f =
     has_all 3 (span_fields (codes "time") f.time) (span_fields (codes "work") f.work) (small_spans (codes "time") f.time)
     (small_spans (codes "work") f.work)
 
-small_going_on : (input : Option (List ℤ)) → HasSmall 3 (going_on_fields input)
-small_going_on None = tt
-small_going_on (Some input) = (small_values 2 input, tt)
+pub small_asked : (name : List ℕ) (asked : Option Checked) (number : ℕ) → HasSmall 3 (asked_fields name asked number)
+small_asked name None number = tt
+small_asked name (Some q) number = (small_large 3 number, tt)
 
-pub readable_exploration : (layout : List SharedEntry) (f : Found) → IsReadable (exploration_facts layout f)
-readable_exploration layout f =
-    let behind = going_on_fields f.goes_on_at ++ cost_fields f in
-    readable (count_fields layout f ++ behind)
-    (has_all 3 (count_fields layout f) behind (small_counts layout f)
-    (has_all 3 (going_on_fields f.goes_on_at) (cost_fields f) (small_going_on f.goes_on_at) (small_costs f)))
+small_specified : (s : Specification) (f : Found) → HasSmall 3 (specified_fields s f)
+small_specified s f =
+    has_all 3 (asked_fields (codes "counting") s.precondition f.counting) (asked_fields (codes "failed") s.postcondition f.failed)
+    (small_asked (codes "counting") s.precondition f.counting) (small_asked (codes "failed") s.postcondition f.failed)
+
+small_input : (name : List ℕ) (input : Option (List ℤ)) → HasSmall 3 (input_fields name input)
+small_input name None = tt
+small_input name (Some input) = (small_values 2 input, tt)
+
+small_firsts : (f : Found) → HasSmall 3 (first_fields f)
+small_firsts f =
+    has_all 3 (input_fields (codes "goes_on_at") f.goes_on_at) (input_fields (codes "fails_at") f.fails_at)
+    (small_input (codes "goes_on_at") f.goes_on_at) (small_input (codes "fails_at") f.fails_at)
+
+small_behind : (s : Specification) (f : Found) → HasSmall 3 (behind_fields s f)
+small_behind s f =
+    has_all 3 (specified_fields s f) (first_fields f ++ cost_fields f) (small_specified s f)
+    (has_all 3 (first_fields f) (cost_fields f) (small_firsts f) (small_costs f))
+
+pub readable_exploration : (layout : List SharedEntry) (s : Specification) (f : Found) → IsReadable (exploration_facts layout s f)
+readable_exploration layout s f =
+    readable (count_fields layout f ++ behind_fields s f)
+    (has_all 3 (count_fields layout f) (behind_fields s f) (small_counts layout f) (small_behind s f))

@@ -5,6 +5,7 @@ use Rattle.json_texts.specs.Facts.{large}
 use Rattle.json_texts.specs.Small.{IsReadable, IsSmall}
 use Rattle.json_texts.proofs.Small.{HasSmall, has_all, small_large, small_letters, small_object, small_value, small_values, small_word}
 use Rattle.json_texts.proofs.Small.{smaller}
+use Rattle.pram_check.specs.Checked.{Checked}
 use Rattle.pram_model.specs.Layout.{SharedEntry}
 use Rattle.comparing.specs.Found.{Differing, Found}
 use Rattle.comparing.specs.declared.difference.Difference.{Difference}
@@ -12,8 +13,10 @@ use Rattle.comparing.specs.declared.difference.Difference.TheVariants as differ
 use Rattle.comparing.specs.declared.difference.Ending.{Ending}
 use Rattle.comparing.specs.declared.difference.Ending.TheVariants as ending
 use Rattle.json_texts.specs.PairFacts.{both_fields, cells_fields, difference_fields, differing_facts, differing_fields, ending_facts}
-use Rattle.json_texts.specs.PairFacts.{ending_fields}
+use Rattle.json_texts.specs.PairFacts.{ending_fields, head_fields}
 use Rattle.json_texts.specs.PairFacts.{excess_fields, first_fields, found_fields, pair_fields, told_fields, value_fields, whole_facts}
+use Rattle.json_texts.specs.ExplorationFacts.{asked_fields}
+use Rattle.json_texts.proofs.ExplorationReadable.{small_asked}
 use Rattle.json_texts.proofs.Readable.{readable, small_fault}
 
 small_one : (name : List ℕ) (x : Option ℤ) → HasSmall 3 (value_fields name x)
@@ -61,18 +64,24 @@ small_told_if many false = tt
 small_found : (first second : List SharedEntry) (f : Found) → HasSmall 3 (found_fields first second f)
 small_found first second f =
     has_all 3 (told_fields f) (first_fields first second f.told)
-    (small_told_if (length f.told) (nat_lt (length f.told) (f.inputs - f.same))) (small_first first second f.told)
+    (small_told_if (length f.told) (nat_lt (length f.told) (f.counting - f.same))) (small_first first second f.told)
 
 small_cells : (cells : Option ℕ) → HasSmall 3 (cells_fields cells)
 small_cells None = tt
 small_cells (Some n) = (small_large 3 n, tt)
 
-pub readable_whole : (first second : List SharedEntry) (cells : Option ℕ) (f : Found) → IsReadable (whole_facts first second cells f)
-readable_whole first second cells f =
-    readable (pair_fields first second cells f) (
+small_head : (w : Option Checked) (cells : Option ℕ) (f : Found) → HasSmall 3 (head_fields w cells f)
+small_head w cells f =
+    has_all 3 (asked_fields (codes "counting") w f.counting) (cells_fields cells) (small_asked (codes "counting") w f.counting)
+    (small_cells cells)
+
+pub readable_whole : (first second : List SharedEntry) (w : Option Checked) (cells : Option ℕ) (f : Found) →
+    IsReadable (whole_facts first second w cells f)
+readable_whole first second w cells f =
+    readable (pair_fields first second w cells f) (
       small_large 3 f.inputs,
       (
         small_large 3 f.same,
-        has_all 3 (cells_fields cells) (found_fields first second f) (small_cells cells) (small_found first second f),
+        has_all 3 (head_fields w cells f) (found_fields first second f) (small_head w cells f) (small_found first second f),
       ),
     )

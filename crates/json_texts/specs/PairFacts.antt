@@ -2,6 +2,7 @@
 use Rattle.std.specs.Prelude.{ℕ, ◌-◌, nat_lt, if◌then◌else◌, ℤ, List, [], ◌∷◌, ◌++◌, Option, Some, None, codes, length, map}
 use Rattle.serde_json.specs.Data.{Data}
 use Rattle.json_texts.specs.Facts.{Field, large, letters, object_of, value, values, word}
+use Rattle.pram_check.specs.Checked.{Checked}
 use Rattle.pram_model.specs.Layout.{SharedEntry}
 use Rattle.program_texts.specs.Shown.{cell_text}
 use Rattle.comparing.specs.Found.{Differing, Found}
@@ -9,6 +10,7 @@ use Rattle.comparing.specs.declared.difference.Difference.{Difference}
 use Rattle.comparing.specs.declared.difference.Difference.TheVariants as differ
 use Rattle.comparing.specs.declared.difference.Ending.{Ending}
 use Rattle.comparing.specs.declared.difference.Ending.TheVariants as ending
+use Rattle.json_texts.specs.ExplorationFacts.{asked_fields}
 use Rattle.json_texts.specs.OutcomeFacts.{fault_fields}
 
 -- a value, where there is one
@@ -70,7 +72,7 @@ first_fields first second (d ∷ told) = differing_fields first second d
 
 -- how many are told, where they differ on more
 abbrev pub told_fields : Found → List Field
-told_fields f = if nat_lt (length f.told) (f.inputs - f.same) then (codes "told", large (length f.told)) ∷ [] else []
+told_fields f = if nat_lt (length f.told) (f.counting - f.same) then (codes "told", large (length f.told)) ∷ [] else []
 
 abbrev pub found_fields : (first second : List SharedEntry) → Found → List Field
 found_fields first second f = told_fields f ++ first_fields first second f.told
@@ -80,14 +82,18 @@ abbrev pub cells_fields : Option ℕ → List Field
 cells_fields None = []
 cells_fields (Some n) = (codes "cells", large n) ∷ []
 
--- how many inputs there are, on how many both come to the same, and how many cells are drawn
-abbrev pub pair_fields : (first second : List SharedEntry) → (cells : Option ℕ) → Found → List Field
-pair_fields first second cells f =
-    (codes "inputs", large f.inputs) ∷ (codes "same", large f.same) ∷ (cells_fields cells ++ found_fields first second f)
+-- how many inputs count, where there is a precondition, and how many cells are drawn
+abbrev pub head_fields : Option Checked → (cells : Option ℕ) → Found → List Field
+head_fields w cells f = asked_fields (codes "counting") w f.counting ++ cells_fields cells
 
-abbrev pub whole_facts : (first second : List SharedEntry) → (cells : Option ℕ) → Found → Data
-whole_facts first second cells f = object_of (pair_fields first second cells f)
+-- how many inputs there are, on how many that count both come to the same, and these
+abbrev pub pair_fields : (first second : List SharedEntry) → Option Checked → (cells : Option ℕ) → Found → List Field
+pair_fields first second w cells f =
+    (codes "inputs", large f.inputs) ∷ (codes "same", large f.same) ∷ (head_fields w cells f ++ found_fields first second f)
+
+abbrev pub whole_facts : (first second : List SharedEntry) → Option Checked → (cells : Option ℕ) → Found → Data
+whole_facts first second w cells f = object_of (pair_fields first second w cells f)
 
 -- a line for each input that is told, and one for the whole
-abbrev pub pair_facts : (first second : List SharedEntry) → (cells : Option ℕ) → Found → List Data
-pair_facts first second cells f = map (differing_facts first second) f.told ++ whole_facts first second cells f ∷ []
+abbrev pub pair_facts : (first second : List SharedEntry) → Option Checked → (cells : Option ℕ) → Found → List Data
+pair_facts first second w cells f = map (differing_facts first second) f.told ++ whole_facts first second w cells f ∷ []

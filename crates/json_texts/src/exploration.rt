@@ -1,4 +1,4 @@
-//! What is found on every input of a scope.
+//! What is found on the inputs of a scope.
 
 ghost use Rattle.std.specs.Prelude.{◌≡◌, ◌∷◌, ◌++◌, [], IfOk, OnOk, map, string_bytes};
 ghost use Rattle.std.specs.Option.{option_map};
@@ -11,8 +11,9 @@ ghost use Rattle.json_texts.specs.ExplorationFacts as spec;
 
 use crate::fault::put_fault;
 use crate::{Object, Value, line_of};
+use pram_check::Program;
 use pram_trees::Layout;
-use scopes::{Findings, FoundFault, Span};
+use scopes::{Findings, FoundFault, Span, Specification};
 use std::alloc::{AllocError, Global};
 
 // A fault, and the input on which it was met.
@@ -83,65 +84,130 @@ fn put_costs(alloc: Global, object: &mut Object, findings: &Findings) -> Result<
     put_span(alloc, object, "work", findings.work)
 }
 
-// The first input on which the run goes on, if there is one.
-fn put_going_on(object: &mut Object, input: &Option<Vec<i64>>) -> Result<(), AllocError>
-    ensures { OnOk result (shown object.new
-        ≡ with_fields (spec.going_on_fields (option_map values_of input.now)) (shown object.old)) }
+/// A number that is told where there is such a program.
+pub(crate) fn put_asked(
+    object: &mut Object,
+    name: &str,
+    asked: &Option<Program>,
+    number: u64,
+) -> Result<(), AllocError>
+    ensures { OnOk result (shown object.new ≡ with_fields (spec.asked_fields name.now asked.now number) (shown object.old)) }
 {
-    match input {
+    match asked {
         None => Ok(()),
-        Some(input) => object.put_values("goes_on_at", input.as_slice()),
+        Some(_) => object.put_large(name, u128::from(number)),
     }
 }
 
-// What is told behind the counts.
-fn put_behind(alloc: Global, object: &mut Object, findings: &Findings) -> Result<(), AllocError>
+fn put_specified(
+    object: &mut Object,
+    specification: &Specification,
+    findings: &Findings,
+) -> Result<(), AllocError>
     ensures { OnOk result (shown object.new
-        ≡ with_fields (spec.going_on_fields (found_is findings.now).goes_on_at ++ spec.cost_fields (found_is findings.now))
-        (shown object.old)) }
+        ≡ with_fields (spec.specified_fields specification.now (found_is findings.now)) (shown object.old)) }
 {
-    put_going_on(object, &findings.goes_on_at)?;
+    put_asked(
+        object,
+        "counting",
+        &specification.precondition,
+        findings.counting,
+    )?;
+    put_asked(
+        object,
+        "failed",
+        &specification.postcondition,
+        findings.failed,
+    )
+}
+
+// The first of some inputs, if there is one.
+fn put_input(object: &mut Object, name: &str, input: &Option<Vec<i64>>) -> Result<(), AllocError>
+    ensures { OnOk result (shown object.new
+        ≡ with_fields (spec.input_fields name.now (option_map values_of input.now)) (shown object.old)) }
+{
+    match input {
+        None => Ok(()),
+        Some(input) => object.put_values(name, input.as_slice()),
+    }
+}
+
+fn put_firsts(object: &mut Object, findings: &Findings) -> Result<(), AllocError>
+    ensures { OnOk result (shown object.new ≡ with_fields (spec.first_fields (found_is findings.now)) (shown object.old)) }
+{
+    put_input(object, "goes_on_at", &findings.goes_on_at)?;
+    put_input(object, "fails_at", &findings.fails_at)
+}
+
+fn put_firsts_and_costs(
+    alloc: Global,
+    object: &mut Object,
+    findings: &Findings,
+) -> Result<(), AllocError>
+    ensures { OnOk result (shown object.new
+        ≡ with_fields (spec.first_fields (found_is findings.now) ++ spec.cost_fields (found_is findings.now)) (shown object.old)) }
+{
+    put_firsts(object, findings)?;
     put_costs(alloc, object, findings)
+}
+
+// What is told behind the counts of all.
+fn put_behind(
+    alloc: Global,
+    object: &mut Object,
+    specification: &Specification,
+    findings: &Findings,
+) -> Result<(), AllocError>
+    ensures { OnOk result (shown object.new
+        ≡ with_fields (spec.behind_fields specification.now (found_is findings.now)) (shown object.old)) }
+{
+    put_specified(object, specification, findings)?;
+    put_firsts_and_costs(alloc, object, findings)
 }
 
 fn put_findings(
     alloc: Global,
     object: &mut Object,
     layout: &Layout,
+    specification: &Specification,
     findings: &Findings,
 ) -> Result<(), AllocError>
     ensures { OnOk result (shown object.new ≡ with_fields (spec.count_fields layout.now (found_is findings.now)
-        ++ (spec.going_on_fields (found_is findings.now).goes_on_at ++ spec.cost_fields (found_is findings.now))) (shown object.old)) }
+        ++ spec.behind_fields specification.now (found_is findings.now)) (shown object.old)) }
 {
     put_counts(alloc, object, layout, findings)?;
-    put_behind(alloc, object, findings)
+    put_behind(alloc, object, specification, findings)
 }
 
 fn exploration_value(
     alloc: Global,
     layout: &Layout,
+    specification: &Specification,
     findings: &Findings,
 ) -> Result<Value, AllocError>
-    ensures { IfOk result (λ v. view v ≡ spec.exploration_facts layout.now (found_is findings.now)) }
+    ensures { IfOk result (λ v. view v ≡ spec.exploration_facts layout.now specification.now (found_is findings.now)) }
 {
     let mut object = Object::new(alloc);
-    put_findings(alloc, &mut object, layout, findings)?;
+    put_findings(alloc, &mut object, layout, specification, findings)?;
     Ok(object.into_value())
 }
 
-/// What is found on every input of a scope, on a line, as
+/// What is found on the inputs of a scope, on a line, as
 /// `{"ended":610,"faulted":15,"faults":[{"input":["3","1"],"kind":"read-conflict","line":4,"place":"a[1]"}],"go_on":0,"inputs":625,
-/// "time":{"greatest":17,"least":9},"work":{"greatest":40,"least":12}}`; time and work stand there where any run ends, and where one goes
-/// on `goes_on_at`, the first input on which it does.
+/// "time":{"greatest":17,"least":9},"work":{"greatest":40,"least":12}}`. Time and work stand there where any run ends, and where one goes
+/// on `goes_on_at`, the first input on which it does. With a precondition `counting` stands there. With a postcondition `failed` does, and
+/// where a run fails `fails_at`, the first input on which it does.
 pub fn json_exploration(
     alloc: Global,
     layout: &Layout,
+    specification: &Specification,
     findings: &Findings,
 ) -> Result<String, AllocError>
-    // The line is exactly the facts of what is found on every input of a scope, and read as JSON it is these facts
-    // again.
-    ensures json { IfOk result (λ text. IsJson (spec.exploration_facts layout.now (found_is findings.now) ∷ []) (string_bytes text)) }
+    // The line is exactly the facts of what is found, by what is asked of the inputs, and read as JSON it is these
+    // facts again.
+    ensures json { IfOk result
+        (λ text. IsJson (spec.exploration_facts layout.now specification.now (found_is findings.now) ∷ []) (string_bytes text)) }
 {
-    let facts = exploration_value(alloc, layout, findings)?;
+    let facts = exploration_value(alloc, layout, specification, findings)?;
     line_of(alloc, &facts)
 }

@@ -8,10 +8,12 @@ ghost use Rattle.json_texts.specs.Lines.{Adds, IsJson};
 ghost use Rattle.json_texts.specs.Shown.{shown};
 ghost use Rattle.json_texts.specs.PairFacts as spec;
 
+use crate::exploration::put_asked;
 use crate::fault::{cell_text, put_fault};
 use crate::line::push_line;
 use crate::{Object, Value};
 use comparing::{Comparison, Difference, Ending, FoundDifference};
+use pram_check::Program;
 use pram_trees::Layout;
 use std::alloc::{AllocError, Global};
 
@@ -207,7 +209,7 @@ fn put_told(object: &mut Object, comparison: &Comparison) -> Result<(), AllocErr
     ensures { OnOk result (shown object.new ≡ with_fields (spec.told_fields (found_is comparison.now)) (shown object.old)) }
 {
     let told = comparison.told.len() as u64;
-    if told < comparison.inputs - comparison.same {
+    if told < comparison.counting - comparison.same {
         object.put_large("told", u128::from(told))
     } else {
         Ok(())
@@ -256,20 +258,34 @@ fn put_cells(object: &mut Object, cells: Option<u32>) -> Result<(), AllocError>
     }
 }
 
-// What is told behind the counts.
+// How many inputs count, where there is a precondition, and how many cells are drawn.
+fn put_head(
+    object: &mut Object,
+    precondition: &Option<Program>,
+    cells: Option<u32>,
+    comparison: &Comparison,
+) -> Result<(), AllocError>
+    ensures { OnOk result (shown object.new
+        ≡ with_fields (spec.head_fields precondition.now cells (found_is comparison.now)) (shown object.old)) }
+{
+    put_asked(object, "counting", precondition, comparison.counting)?;
+    put_cells(object, cells)
+}
+
+// What is told behind the counts of all.
 fn put_behind(
     alloc: Global,
     object: &mut Object,
     first: &Layout,
     second: &Layout,
+    precondition: &Option<Program>,
     cells: Option<u32>,
     comparison: &Comparison,
 ) -> Result<(), AllocError>
-    ensures { OnOk result (shown object.new
-        ≡ with_fields (spec.cells_fields cells ++ spec.found_fields first.now second.now (found_is comparison.now))
-        (shown object.old)) }
+    ensures { OnOk result (shown object.new ≡ with_fields (spec.head_fields precondition.now cells (found_is comparison.now)
+        ++ spec.found_fields first.now second.now (found_is comparison.now)) (shown object.old)) }
 {
-    put_cells(object, cells)?;
+    put_head(object, precondition, cells, comparison)?;
     put_found(alloc, object, first, second, comparison)
 }
 
@@ -277,15 +293,24 @@ fn whole_value(
     alloc: Global,
     first: &Layout,
     second: &Layout,
+    precondition: &Option<Program>,
     cells: Option<u32>,
     comparison: &Comparison,
 ) -> Result<Value, AllocError>
-    ensures { IfOk result (λ v. view v ≡ spec.whole_facts first.now second.now cells (found_is comparison.now)) }
+    ensures { IfOk result (λ v. view v ≡ spec.whole_facts first.now second.now precondition.now cells (found_is comparison.now)) }
 {
     let mut object = Object::new(alloc);
     object.put_large("inputs", u128::from(comparison.inputs))?;
     object.put_large("same", u128::from(comparison.same))?;
-    put_behind(alloc, &mut object, first, second, cells, comparison)?;
+    put_behind(
+        alloc,
+        &mut object,
+        first,
+        second,
+        precondition,
+        cells,
+        comparison,
+    )?;
     Ok(object.into_value())
 }
 
@@ -294,33 +319,44 @@ fn push_whole(
     text: &mut String,
     first: &Layout,
     second: &Layout,
+    precondition: &Option<Program>,
     cells: Option<u32>,
     comparison: &Comparison,
 ) -> Result<(), AllocError>
-    ensures json { OnOk result (Adds (spec.whole_facts first.now second.now cells (found_is comparison.now) ∷ [])
+    ensures json { OnOk result (Adds (spec.whole_facts first.now second.now precondition.now cells (found_is comparison.now) ∷ [])
         (string_bytes text.old) (string_bytes text.new)) }
 {
-    let facts = whole_value(alloc, first, second, cells, comparison)?;
+    let facts = whole_value(alloc, first, second, precondition, cells, comparison)?;
     push_line(alloc, text, &facts)
 }
 
 /// What is found of two programs on the same inputs: a line for each input that is told, with what differs on it, as
 /// `{"differs":"output","first":"3","input":["2","1"],"item":1,"second":"2"}`; and one for the whole, as `{"inputs":625,"same":625}`,
-/// with `cells`, how many are drawn, where inputs are; with the members of the first line too where there is any; and with `told`, the
-/// number of these lines, where the programs differ on more inputs. The layouts are the shared declarations of the two programs.
+/// with `counting`, how many count, where there is a precondition; with `cells`, how many are drawn, where inputs are; with the members of the
+/// first line too where there is any; and with `told`, the number of these lines, where the programs differ on more inputs. The layouts are
+/// the shared declarations of the two programs.
 pub fn json_pair(
     alloc: Global,
     first: &Layout,
     second: &Layout,
+    precondition: &Option<Program>,
     cells: Option<u32>,
     comparison: &Comparison,
 ) -> Result<String, AllocError>
     // The lines are exactly the facts of two programs on the same inputs, and read as JSON each line is these facts
     // again.
     ensures json { IfOk result (λ text.
-        IsJson (spec.pair_facts first.now second.now cells (found_is comparison.now)) (string_bytes text)) }
+        IsJson (spec.pair_facts first.now second.now precondition.now cells (found_is comparison.now)) (string_bytes text)) }
 {
     let mut text = differing_text(alloc, first, second, &comparison.told)?;
-    push_whole(alloc, &mut text, first, second, cells, comparison)?;
+    push_whole(
+        alloc,
+        &mut text,
+        first,
+        second,
+        precondition,
+        cells,
+        comparison,
+    )?;
     Ok(text)
 }

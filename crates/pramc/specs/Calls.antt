@@ -37,7 +37,7 @@ Finds holds (request.Run file words shown) (found.Settled (settled.Run r told)) 
 Finds holds (request.Trace file words trace) (found.Settled (settled.Traced r told t)) =
     IsTraceFound holds file words trace r t × (told ≡ trace)
 Finds holds (request.Sweep file words) (found.Settled (settled.Swept s)) = IsSwept holds file words s
-Finds holds (request.Exploration file scope bound) (found.Settled (settled.Explored f)) = IsExplored holds file scope bound f
+Finds holds (request.Exploration file files scope bound) (found.Settled (settled.Explored f)) = IsExplored holds file files scope bound f
 Finds holds (request.Always file words bound) (found.Settled (settled.Surveyed f)) = IsSurveyed holds file words bound f
 Finds holds (request.Pair words) (found.Settled (settled.Paired f)) = IsPaired holds words f
 Finds holds (request.Listing file words shown) (found.Settled (settled.Executed c)) = IsCodeFound holds file.now words shown c
@@ -59,7 +59,7 @@ Refuses holds (request.Rules file opening bound) h = RefusesMeaning holds file o
 Refuses holds (request.Run file words shown) h = RefusesWorkers holds file words (NamesUnknown shown) h
 Refuses holds (request.Trace file words trace) h = RefusesWorkers holds file words NamesNone h
 Refuses holds (request.Sweep file words) h = StopsAtSweep holds file words h
-Refuses holds (request.Exploration file scope bound) h = StopsAtExploration holds file scope h
+Refuses holds (request.Exploration file files scope bound) h = StopsAtExploration holds file files scope h
 Refuses holds (request.Always file words bound) h = StopsAtSurvey holds file words h
 Refuses holds (request.Pair words) h = StopsAtPair holds words h
 Refuses holds (request.Listing file words shown) h = RefusesCodeRun holds file.now words shown h

@@ -7,7 +7,7 @@ use command_facts::{Found, Settled, load_listing, load_program, load_text};
 use command_pairs::find_pair;
 use command_requests::{
     AlwaysWords, CostWords, MeaningWords, Opening, PairWords, ProgramFile, Request, RunWords,
-    ScopeWords, StepWords, SweepWords, TraceWords,
+    ScopeWords, SpecificationFiles, StepWords, SweepWords, TraceWords,
 };
 use command_runs::{
     find_code, find_code_run, find_cost, find_meaning, find_overall, find_rules, find_run,
@@ -179,15 +179,16 @@ fn explored<'a, R: Threads + Sync, S: Sources, V: Watch>(
     rt: &R,
     alloc: Global,
     file: &ProgramFile<'a>,
+    files: &SpecificationFiles<'a>,
     scope: ScopeWords,
     bound: u32,
     sources: &mut S,
     watch: &mut V,
 ) -> Result<Found<'a>, Halted<'a>>
-    ensures found { IfOk result (Finds (S.Sources.holds sources.old) (Request.Exploration file.now scope bound)) }
-    ensures refused { IfErr result (Refuses (S.Sources.holds sources.old) (Request.Exploration file.now scope bound)) }
+    ensures found { IfOk result (Finds (S.Sources.holds sources.old) (Request.Exploration file.now files.now scope bound)) }
+    ensures refused { IfErr result (Refuses (S.Sources.holds sources.old) (Request.Exploration file.now files.now scope bound)) }
 {
-    let found = find_scope(rt, alloc, file, scope, bound, sources, watch)?;
+    let found = find_scope(rt, alloc, file, files, scope, bound, sources, watch)?;
     Ok(Found::Settled(Settled::Explored(found)))
 }
 
@@ -291,9 +292,21 @@ pub(crate) fn find<'a, R: Threads + Wait + Sync, S: Sources, V: Watch + Gate + S
             traced(rt, alloc, &file, words, trace, sources, watch)
         }
         Request::Sweep { file, words } => swept(alloc, &file, words, sources),
-        Request::Exploration { file, scope, bound } => {
-            explored(rt, alloc, &file, scope, bound, sources, watch)
-        }
+        Request::Exploration {
+            file,
+            specification,
+            scope,
+            bound,
+        } => explored(
+            rt,
+            alloc,
+            &file,
+            &specification,
+            scope,
+            bound,
+            sources,
+            watch,
+        ),
         Request::Always { file, words, bound } => surveyed(alloc, &file, words, bound, sources),
         Request::Pair(words) => paired(alloc, &words, sources),
         Request::Listing { file, words, shown } => {

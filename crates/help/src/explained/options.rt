@@ -1,6 +1,6 @@
 //! What is said of all options. Made of the table of options by `gate/editors.py --write`.
 
-pub(crate) const OPTIONS: [u8; 4087] = *b"The options, and which commands take them.
+pub(crate) const OPTIONS: [u8; 4083] = *b"The options, and which commands take them.
 
 Of all:
 --help            says what there is to type
@@ -13,8 +13,8 @@ All but exec and explain:
 
 Of check, meaning, cost, steps, rules, run, trace, explore, always, compare and
 exec:
---format FORMAT   how it is told: text, or json for programs that read; of check
-    also gnu, for editors, else text
+--format FORMAT   how it is told: text, or json for programs; of check also gnu,
+    for editors, else text
 
 Of meaning, cost, steps, rules, run, trace, explore, always, compare and exec:
 --bound N         the most statements that are run, else 1000000
@@ -23,12 +23,10 @@ Of meaning, cost, steps, rules, run, trace and exec:
 --input FILE      a file with the values of the first cells
 --memory FILE     a file with values of cells by names, as a[1..4] = 4 3 2 1
 --random LO..HI   draws the values of all cells from this interval
---seed S          of two draws with one seed all values are the same; 1 where
-    none is given
+--seed S          two draws with one seed are the same; 1 where none is given
 
 Of meaning, cost and steps:
---seconds S       ends a long run in about S seconds, S from 1: it is run for as
-    many statements as there is time for
+--seconds S       ends a long run in about S seconds, S from 1
 
 Of meaning, run and exec:
 --show NAMES      writes these shared declarations alone, as a,b
@@ -47,22 +45,20 @@ Of explore, always and compare:
 
 Of explore and compare:
 --permutations K  all orders of the numbers 1 to K in their place, K up to 10
+--where PRE       tries inputs on which PRE prints last a number other than 0
 
 Of explore and always:
 --under RULE      tries them under this rule in place of that of the text
 
 Of compare:
---input FILE      tries the values of this file, and of each more that is given
-    so
---random LO..HI   tries values of this interval, drawn for K or the common first
-    cells
+--input FILE      tries the values of this file, and of each more given so
+--random LO..HI   tries values of this interval, for K or the common first cells
 --seed S          the seed of the first, 1 where none is given; the next has the
-    next seed
+    next
 --only NAMES      compares what has these names alone, as a,output
 --count C         draws so many inputs, 1 to 1000000
---time-at-most E  the most time that FILE2 may take to its end, as 40 or
-    4*log(n)+10 of its sizes
---work-at-most E  the most work that FILE2 may take to its end, the same
+--time-at-most E  the most time of FILE2, as 40 or 4*log(n)+10 of its sizes
+--work-at-most E  the most work of FILE2, the same
 
 Of cost:
 --schedule P      counts the rounds on P processors too, P from 1
@@ -74,6 +70,7 @@ Of cost:
 
 Of explore:
 --workers P       how many workers share the inputs, 1 to 32, else 1
+--ensure POST     has POST say so of each end; it gets the cells by their names
 
 Of trace:
 --lines           tells of each the line of the statement that it serves

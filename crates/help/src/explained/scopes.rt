@@ -1,12 +1,11 @@
 //! What is said of commands for those who write algorithms, and of plans that leave the machine.
 
-pub(crate) const EXPLORE: [u8; 1124] =
+pub(crate) const EXPLORE: [u8; 1212] =
     *b"pramc explore FILE: runs the program on every input of a small scope.
 
-It says on how many inputs the run ends, faults or goes on at its bound; each
-kind of fault at each line, with the first input that meets it; the first input
-on which the run goes on; and the least and greatest time and work. So
-`ended 120` of `inputs 120` proves it for these.
+It says on how many inputs the run ends, faults or goes on at its bound, and the
+first that does, of each kind of fault at each line; and the least and greatest
+time and work. So `ended 120` of `inputs 120` proves it for these.
 
 Type this:
 
@@ -17,6 +16,8 @@ ended 120
 --cells K           all inputs of K values, which the first K cells get
 --values LO..HI     of this interval: 100000000 inputs at most
 --permutations K    in their place all orders of the numbers 1 to K, K up to 10
+--where PRE         those alone on which PRE prints last a number other than 0
+--ensure POST       has POST say so of each end, by cells x and opening_x
 --under RULE        under this rule of access, in place of the text's own
 --workers P         shares the inputs among P workers, 1 to 32
 --bound N           the most statements that are run, else 1000000
@@ -24,8 +25,7 @@ ended 120
 --format json       tells it to programs, as JSON
 --explain           says more of a refusal
 
-Exit status: 0 all end, 1 one faults, 2 it was refused, 3 none faults and one
-met the bound.
+Exit status: 0 all end well, 1 one faults or fails, 2 refused, 3 one goes on.
 ";
 
 pub(crate) const ALWAYS: [u8; 1049] =
@@ -54,7 +54,7 @@ Exit status: 0 no fault, 1 one may come, or `undecided`: too little is known of
 a loop; 2 it was refused, 3 no fault, and a run may go on at the bound.
 ";
 
-pub(crate) const COMPARE: [u8; 1613] =
+pub(crate) const COMPARE: [u8; 1692] =
     *b"pramc compare FILE FILE2: runs two programs on the same inputs.
 
 It says on how many inputs both come to the same: both end with the same output
@@ -77,6 +77,7 @@ Which inputs, by one of these lines:
                     C of them, as run draws them by the seeds S, S + 1, ..
                     Drawn are K cells by --cells K, and else those of the
                     declarations with which both begin; all others are 0
+--where PRE         those alone on which PRE prints last a number other than 0
 
 What is compared, else the output, and what both declare with the same bounds:
 

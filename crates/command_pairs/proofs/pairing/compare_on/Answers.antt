@@ -9,7 +9,7 @@ use Rattle.command_pairs.proofs.pairing.compare_on.Goals as goal
 pub returns-in-Scope-clause-found : goal.returns-in-Scope-clause-found
 returns-in-Scope-clause-found g c =
     subst
-    (λ (w : InputWords). IfOk c.on_scope.result (IsFoundOn (g.S.Sources.holds c.args.sources.now) c.args.first.now c.args.second.now
-    c.args.compared.now w c.args.words.now.bound))
+    (λ (w : InputWords). IfOk c.on_scope.result (IsFoundOn (g.S.Sources.holds c.args.sources.now) c.args.precondition.now c.args.first.now
+    c.args.second.now c.args.compared.now w c.args.words.now.bound))
     (sym c.in-Scope.is)
     (if_ok c.on_scope.result _ _ (λ r found. (inputs_of c.in-Scope.few.scope, refl, found)) c.on_scope.ensures.found)

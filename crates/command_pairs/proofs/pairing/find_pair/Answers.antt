@@ -4,43 +4,60 @@ use Rattle.command_pairs.specs.Limits.{HaveNoLimits}
 use Rattle.command_pairs.specs.Pairs.{IsCompared}
 use Rattle.command_pairs.proofs.PairInputs.{pair_refused, words_held}
 use Rattle.command_facts.proofs.Programs.{of_text}
-use Rattle.command_facts.proofs.Same.{same_through, text_held}
+use Rattle.command_facts.proofs.Same.{named_held, named_stops, same_through, text_held}
 use Rattle.command_requests.proofs.Sizes.{hands_on}
 use Rattle.command_pairs.proofs.pairing.find_pair.Goals as goal
 
 pub compare_pair-requires : goal.compare_pair-requires
 compare_pair-requires g c = record { plain = subst IsPlain (sym c.deref.ensures.value) c.in_ok-second.ensures.plain }
 
-pub returns-in_err-comparison-clause-refused : goal.returns-in_err-comparison-clause-refused
-returns-in_err-comparison-clause-refused g c =
+pub returns-in_err-precondition-clause-refused : goal.returns-in_err-precondition-clause-refused
+returns-in_err-precondition-clause-refused g c =
     let before = g.S.Sources.holds c.args.sources.now in
     let then = g.S.Sources.holds c.load.new.sources in
     let now = g.S.Sources.holds c.load_with_text.new.sources in
     let same = same_through before then now c.load_with_text.ensures.same c.load.ensures.same in
+    let h = c.in_err-precondition.field-0.0 in
+    hands_on _ h _ c.from_residual-in_err-precondition.ensures.1
+    (inr (inr (inl (named_stops now before same c.args.words.now.precondition h c.in_err-precondition.ensures.refused))))
+
+pub returns-in_err-comparison-clause-refused : goal.returns-in_err-comparison-clause-refused
+returns-in_err-comparison-clause-refused g c =
+    let before = g.S.Sources.holds c.args.sources.now in
+    let then = g.S.Sources.holds c.load.new.sources in
+    let next = g.S.Sources.holds c.load_with_text.new.sources in
+    let now = g.S.Sources.holds c.load_where_named.new.sources in
+    let through = same_through before then next c.load_with_text.ensures.same c.load.ensures.same in
+    let same = same_through before next now c.load_where_named.ensures.same through in
     let words = c.args.words.now in
     let p = c.in_ok-first.first in
     let q = c.in_ok-second.second in
     let text = c.in_ok-second.text.items in
     let h = c.in_err-comparison.field-0.0 in
     let second = text_held then before c.load.ensures.same words.second text q c.in_ok-second.ensures.loaded in
-    hands_on _ h _ c.from_residual-in_err-comparison.ensures.1 (inr (inr (record {
+    hands_on _ h _ c.from_residual-in_err-comparison.ensures.1 (inr (inr (inr (record {
       first = p;
       second = q;
       is_first = c.in_ok-first.ensures.loaded;
       is_second = of_text before words.second text q second;
+      precondition = c.in_ok-precondition.precondition;
+      is_precondition = named_held next before through words.precondition c.in_ok-precondition.precondition
+          c.in_ok-precondition.ensures.loaded;
       refused = elim c.in_err-comparison.ensures.refused [
         | inl u ↦ inl u
         | inr (inl n) ↦ inr (inl (text, second.held, subst (λ (t : List ℕ). HaveNoLimits words t h) c.deref.ensures.value n))
-        | inr (inr r) ↦ inr (inr (pair_refused now before same words.inputs p q h r))
+        | inr (inr r) ↦ inr (inr (pair_refused now before same words.inputs c.in_ok-precondition.precondition p q h r))
       ];
-    })))
+    }))))
 
 pub returns-clause-found : goal.returns-clause-found
 returns-clause-found g c =
     let before = g.S.Sources.holds c.args.sources.now in
     let then = g.S.Sources.holds c.load.new.sources in
-    let now = g.S.Sources.holds c.load_with_text.new.sources in
-    let same = same_through before then now c.load_with_text.ensures.same c.load.ensures.same in
+    let next = g.S.Sources.holds c.load_with_text.new.sources in
+    let now = g.S.Sources.holds c.load_where_named.new.sources in
+    let through = same_through before then next c.load_with_text.ensures.same c.load.ensures.same in
+    let same = same_through before next now c.load_where_named.ensures.same through in
     let words = c.args.words.now in
     let p = c.in_ok-first.first in
     let q = c.in_ok-second.second in
@@ -51,6 +68,8 @@ returns-clause-found g c =
       first = c.in_ok-first.ensures.loaded;
       text = text;
       second = text_held then before c.load.ensures.same words.second text q c.in_ok-second.ensures.loaded;
+      precondition = named_held next before through words.precondition c.in_ok-precondition.precondition
+          c.in_ok-precondition.ensures.loaded;
       drawn = c.drawn_of-drawn.ensures;
       compared = of.0;
       is_compared = subst (λ (t : List ℕ). IsCompared words p.layout q.layout t of.0) c.deref.ensures.value of.1;

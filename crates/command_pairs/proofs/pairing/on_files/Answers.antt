@@ -11,7 +11,7 @@ halted-requires g c =
     let same = c.deref-in-Err.ensures.value ∙ sym c.deref.ensures.value in
     let most = c.longest.ensures ∙ ap (λ (xs : List (Vec ℤ Global)). longest (map values_of xs)) same in
     record {
-      too_long = λ side is. subst (λ (n : ℕ). too_long c.args.first.now c.args.second.now n ≡ Some side) (sym most)
+      too_long = λ side is. subst (λ (n : ℕ). too_long c.args.precondition.now c.args.first.now c.args.second.now n ≡ Some side) (sym most)
           ((c.in-Err.ensures.too_long side).0 (ap (λ (why : ComparisonRefusal). Err why) is));
     }
 
@@ -22,8 +22,8 @@ returns-in-Ok-clause-found g c =
     let inputs = map values_of c.in_ok-inputs.inputs.items in (
       inputs,
       c.in_ok-inputs.ensures.held,
-      subst (λ (xs : List (Vec ℤ Global)). IsFoundBy p q c.args.compared.now c.args.bound (longest (map values_of xs)) (map values_of xs)
-          c.in-Ok.comparison) c.deref.ensures.value
+      subst (λ (xs : List (Vec ℤ Global)). IsFoundBy c.args.precondition.now p q c.args.compared.now c.args.bound
+          (longest (map values_of xs)) (map values_of xs) c.in-Ok.comparison) c.deref.ensures.value
           (record {
             fit = none_told _ c.in-Ok.comparison _ refl (λ side. c.in-Ok.ensures.too_long side);
             found = c.in-Ok.ensures.found;

@@ -1,7 +1,7 @@
 use Rattle.std.proofs.Common.{◌≡◌, ◌∙◌, ◌++◌, ◌+◌, ◌<◌, List, ap, arith, [], length, suc, sym, take}
 use Rattle.std.specs.List.{cons_option, filter_map}
 use Rattle.comparing.specs.declared.compared.CommonRange.{CommonRange}
-use Rattle.comparing.proofs.Lists.{chosen_until, there}
+use Rattle.scopes.proofs.Lists.{chosen_until, there}
 use Rattle.command_pairs.specs.Pairs.{range_named}
 use Rattle.command_pairs.proofs.pairing.ranges_named.Goals as goal
 

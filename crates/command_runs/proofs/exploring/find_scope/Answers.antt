@@ -1,36 +1,12 @@
-use Rattle.std.proofs.Common.{◌∙◌, ap, inr, rules, subst}
-use Rattle.pram_model.specs.Layout.{total_size}
+use Rattle.std.proofs.Common.{◌∙◌, ap, inl, inr, subst}
 use Rattle.pram_check.specs.Checked.{Checked}
-use Rattle.command_runs.specs.Scopes.{IsRefusedFor}
 use Rattle.command_facts.proofs.Programs.{program_in}
-use Rattle.command_runs.proofs.Rules.{same_layout}
+use Rattle.command_facts.proofs.Same.{named_held}
+use Rattle.scopes.specs.Specified.{most_values}
+use Rattle.command_runs.specs.Scopes.{IsRefusedFor}
+use Rattle.command_runs.proofs.Rules.{same_values}
+use Rattle.command_runs.proofs.Specifications.{specification_held, specification_stops}
 use Rattle.command_runs.proofs.exploring.find_scope.Goals as goal
-
-pub returns-in-Ok-clause-found : goal.returns-in-Ok-clause-found
-returns-in-Ok-clause-found g c =
-    record {
-      loaded = c.in_ok-loaded.loaded;
-      is_loaded = c.in_ok-loaded.ensures.loaded;
-      ran = c.under-program.ensures;
-      some = search rules;
-      few = search rules;
-      fit = search rules;
-      found = c.in-Ok.ensures.found;
-    }
-
-pub returns-clause-refused : goal.returns-clause-refused
-returns-clause-refused g c =
-    let loaded = c.in_ok-loaded.loaded in
-    let why = c.halted.result in
-    let cells = c.cells.ensures.total
-    ∙ ap total_size (c.layout.ensures ∙ ap (λ (p : Checked). p.layout) c.under-program.ensures ∙ same_layout c.args.scope.rule
-    loaded.program) in
-    inr (
-      loaded.program,
-      program_in (g.S.Sources.holds c.args.sources.now) c.args.file.now loaded c.in_ok-loaded.ensures.loaded,
-      subst (λ n. IsRefusedFor c.args.scope.workers c.args.scope.scope.count n why.stop why.about) cells
-          (c.halted.ensures c.args.scope.workers),
-    )
 
 pub returns-in-Err-clause-refused : goal.returns-in-Err-clause-refused
 returns-in-Err-clause-refused g c =
@@ -38,5 +14,38 @@ returns-in-Err-clause-refused g c =
     inr (
       loaded.program,
       program_in (g.S.Sources.holds c.args.sources.now) c.args.file.now loaded c.in_ok-loaded.ensures.loaded,
-      c.in-Err.ensures.refused c.args.scope.scope.count (total_size loaded.program.layout),
+      inl (specification_stops _ _ c.in_ok-loaded.ensures.same loaded.program.layout c.args.file.now.name.now c.args.files.now
+          c.in-Err.halted c.in-Err.ensures.refused),
+    )
+
+pub returns-in-Ok-explore_all-clause-found : goal.returns-in-Ok-explore_all-clause-found
+returns-in-Ok-explore_all-clause-found g c =
+    let loaded = c.in_ok-loaded.loaded in
+    record {
+      loaded = loaded;
+      is_loaded = c.in_ok-loaded.ensures.loaded;
+      ran = c.under-program.ensures;
+      specification = specification_held _ _ c.in_ok-loaded.ensures.same loaded.program.layout c.args.files.now
+          c.in-Ok.specification c.in-Ok.ensures.loaded;
+      some = c.in-Ok-explore_all.ensures.some;
+      few = c.in-Ok-explore_all.ensures.few;
+      fit = c.in-Ok-explore_all.ensures.fit;
+      found = c.in-Ok-explore_all.ensures.found;
+    }
+
+pub returns-clause-refused : goal.returns-clause-refused
+returns-clause-refused g c =
+    let loaded = c.in_ok-loaded.loaded in
+    let h = c.in-Err-explore_all.halted in
+    let pre = c.in-Ok.specification.precondition in
+    let values = ap (λ (p : Checked). most_values pre p) c.under-program.ensures ∙ same_values c.args.scope.rule pre loaded.program in
+    inr (
+      loaded.program,
+      program_in (g.S.Sources.holds c.args.sources.now) c.args.file.now loaded c.in_ok-loaded.ensures.loaded,
+      inr (
+        pre,
+        named_held _ _ c.in_ok-loaded.ensures.same c.args.files.now.precondition pre c.in-Ok.ensures.loaded.precondition,
+        subst (λ n. IsRefusedFor c.args.scope.workers c.args.scope.scope.count n h.stop h.about) values
+            c.in-Err-explore_all.ensures.refused,
+      ),
     )

@@ -1,14 +1,15 @@
+use Rattle.std.proofs.Common.{◌++◌}
 use Rattle.std.proofs.lemmas.Result.{on_ok_weaker}
 use Rattle.json_texts.proofs.Small.{put_then}
 use Rattle.json_texts.specs.Shown.{shown}
 use Rattle.scopes.specs.Found.{found_is}
-use Rattle.json_texts.specs.ExplorationFacts.{cost_fields, going_on_fields}
+use Rattle.json_texts.specs.ExplorationFacts.{cost_fields, first_fields, specified_fields}
 use Rattle.json_texts.proofs.exploration.put_behind.Goals as goal
 
 pub returns : goal.returns
 returns c =
     let f = found_is c.args.findings.now in
-    on_ok_weaker c.put_costs.result (λ put.
-    put_then (going_on_fields f.goes_on_at) (cost_fields f) (shown c.args.object.now) (shown c.put_going_on.new.object)
-    (shown c.put_costs.new.object) c.in_ok-put_going_on.ensures put)
-    c.put_costs.ensures
+    on_ok_weaker c.put_firsts_and_costs.result (λ put.
+    put_then (specified_fields c.args.specification.now f) (first_fields f ++ cost_fields f) (shown c.args.object.now)
+    (shown c.put_specified.new.object) (shown c.put_firsts_and_costs.new.object) c.in_ok-put_specified.ensures put)
+    c.put_firsts_and_costs.ensures

@@ -7,5 +7,5 @@ use Rattle.json_texts.proofs.pair.push_whole.Goals as goal
 pub push_line-requires : goal.push_line-requires
 push_line-requires c = record {
   readable = subst IsReadable (sym c.in_ok-facts.ensures)
-      (readable_whole c.args.first.now c.args.second.now c.args.cells (found_is c.args.comparison.now));
+      (readable_whole c.args.first.now c.args.second.now c.args.precondition.now c.args.cells (found_is c.args.comparison.now));
 }
