@@ -14,7 +14,7 @@ OPTION = re.compile(
 COMMAND = re.compile(r'Subcommand \{\s*name: "(\w+)".*?places: (\w+),\s*groups: &\[(.*?)\],', re.S)
 # What the values of options are completed to, where that is no file; of other values nothing is.
 COMPLETED = {"MAP": "identity affine:", "RULE": "erew crew common priority sum", "FORMAT": "text json csv gnu"}
-FILES = ("FILE", "LISTING")
+FILES = ("FILE", "LISTING", "PRE", "POST")
 # The options that the parser of words has by itself, for the man page.
 OF_PARSER = r""".TP
 .BR \-V ", " \-\-version
