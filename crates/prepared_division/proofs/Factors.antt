@@ -53,7 +53,7 @@ product_fits n f small few =
     let most : n * f ≤ (2 ^ 63 - 1) * (2 ^ 64 - 1) = mul-le n f (2 ^ 63 - 1) (2 ^ 64 - 1) (omega (arith, small)) (omega (arith, few)) in
     (omega (arith, most), div_below (n * f) (2 ^ 64) (2 ^ 64) (omega arith) (omega (arith, most)))
 
-small_rest : (n w : ℕ) → n < w → n % w ≡ n
+pub small_rest : (n w : ℕ) → n < w → n % w ≡ n
 small_rest n w l = ap (λ x. x % w) (let e : n ≡ 0 * w + n = omega arith in e) ∙ mod-mul-add 0 w n l
 
 -- a power that is shifted once more

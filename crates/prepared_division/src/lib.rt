@@ -2,7 +2,9 @@
 #![tactic(auto)]
 
 mod divisor;
+mod power;
 mod recent;
 
 pub use divisor::Divisor;
+pub use power::PowerOfTwo;
 pub use recent::RecentDivisors;

@@ -10,3 +10,4 @@ pub mod OperateLemmas
 pub mod InstructionReportLemmas
 pub mod NumberLemmas
 pub mod NamingLemmas
+pub mod Splits

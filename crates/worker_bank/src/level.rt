@@ -1,10 +1,10 @@
 //! A set of processors, split by a mask.
 
-ghost use Rattle.std.specs.Prelude.{◌≡◌, ◌≤◌, ◌<◌, ℕ, [], length, take, slice_index, not, IfOk, vec_capacity};
+ghost use Rattle.std.specs.Prelude.{◌≡◌, ◌≤◌, ◌<◌, ℕ, [], length, take, slice_index, true, false, not, IfOk, vec_capacity};
 ghost use Rattle.std.specs.List.{filter, range_with_len};
 ghost use Rattle.pram_values.specs.Truth.{is_nonzero};
 ghost use Rattle.worker_bank.specs.Columns.{value_of};
-ghost use Rattle.worker_bank.specs.Masks.{active_of, left_of, IsLevel};
+ghost use Rattle.worker_bank.specs.Masks.{active_of, left_of, AreSplit, IsLevel};
 
 use pram_values::is_true;
 use std::alloc::{AllocError, Global};
@@ -34,16 +34,113 @@ fn split(list: &[u32], column: &[i64], active: &mut [u32], left: &mut [u32]) -> 
     ensures active_room { length active.new ≡ length active.old }
     ensures left_room { length left.new ≡ length left.old }
 {
-    let mut kept = 0;
-    let mut dropped = 0;
-    for i in list {
-        let stays = is_true(column[*i as usize]);
-        active[kept] = *i;
-        left[dropped] = *i;
+    split_on(list, column, active, left, 0, list.len(), (0, 0))
+}
+
+// So many processors of a row are looked at before one is written.
+const BLOCK: usize = 64;
+
+// The same for the places of a list from one up to another, behind those before them.
+#[inline(always)]
+fn split_on(
+    list: &[u32],
+    column: &[i64],
+    active: &mut [u32],
+    left: &mut [u32],
+    from: usize,
+    to: usize,
+    counts: (usize, usize),
+) -> (usize, usize)
+    requires below { (k : ℕ) → k < length list.now → slice_index list.now k < length column.now }
+    requires from { from ≤ to }
+    requires to { to ≤ length list.now }
+    requires active { length list.now ≤ length active.old }
+    requires left { length list.now ≤ length left.old }
+    requires split { AreSplit list.now column.now from active.old left.old counts }
+    ensures split { AreSplit list.now column.now to active.new left.new result }
+    ensures active_room { length active.new ≡ length active.old }
+    ensures left_room { length left.new ≡ length left.old }
+{
+    let (mut kept, mut dropped) = counts;
+    'places: for k in from..to {
+        let i = list[k];
+        let stays = is_true(column[i as usize]);
+        active[kept] = i;
+        left[dropped] = i;
         kept += usize::from(stays);
         dropped += usize::from(!stays);
     }
     (kept, dropped)
+}
+
+// Whether no processor of a row from one up to another stays.
+#[inline(always)]
+fn none_stays(column: &[i64], from: usize, to: usize) -> bool
+    requires from { from ≤ to }
+    requires to { to ≤ length column.now }
+    ensures { result ≡ true → (j : ℕ) → from ≤ j → j < to → is_nonzero (value_of column.now j) ≡ false }
+{
+    let mut any = false;
+    'row: for j in from..to {
+        any |= is_true(column[j]);
+    }
+    !any
+}
+
+// The places of a list from one up to another at which none stays, behind those before them.
+#[inline(always)]
+fn drop_all(
+    list: &[u32],
+    column: &[i64],
+    active: &[u32],
+    left: &mut [u32],
+    from: usize,
+    to: usize,
+    counts: (usize, usize),
+) -> (usize, usize)
+    requires from { from ≤ to }
+    requires to { to ≤ length list.now }
+    requires left { length list.now ≤ length left.old }
+    requires none { (k : ℕ) → from ≤ k → k < to → is_nonzero (value_of column.now (slice_index list.now k)) ≡ false }
+    requires split { AreSplit list.now column.now from active.now left.old counts }
+    ensures split { AreSplit list.now column.now to active.now left.new result }
+    ensures left_room { length left.new ≡ length left.old }
+{
+    let _active = active;
+    let _column = column;
+    let (kept, mut dropped) = counts;
+    'places: for k in from..to {
+        left[dropped] = list[k];
+        dropped += 1;
+    }
+    (kept, dropped)
+}
+
+// What `split` does for the list of a row of processors, from the first one on: where none of a whole block stays it is copied.
+fn split_row(list: &[u32], column: &[i64], active: &mut [u32], left: &mut [u32]) -> (usize, usize)
+    requires row { (k : ℕ) → k < length list.now → slice_index list.now k ≡ k }
+    requires below { (k : ℕ) → k < length list.now → slice_index list.now k < length column.now }
+    requires active { length list.now ≤ length active.old }
+    requires left { length list.now ≤ length left.old }
+    ensures active { take result.0 active.new ≡ filter (λ i. is_nonzero (value_of column.now i)) list.now }
+    ensures left { take result.1 left.new ≡ filter (λ i. not (is_nonzero (value_of column.now i))) list.now }
+    ensures kept { result.0 ≤ length list.now }
+    ensures dropped { result.1 ≤ length list.now }
+    ensures active_room { length active.new ≡ length active.old }
+    ensures left_room { length left.new ≡ length left.old }
+{
+    let mut counts = (0, 0);
+    let mut from = 0;
+    'blocks: while from < list.len() {
+        let to = from + BLOCK.min(list.len() - from);
+        counts = if none_stays(column, from, to) {
+            drop_all(list, column, active, left, from, to, counts)
+        } else {
+            split_on(list, column, active, left, from, to, counts)
+        };
+        from = to;
+    }
+    counts
 }
 
 // Adds zeros until there are so many items.
@@ -116,23 +213,25 @@ impl Level {
         self.kept = many;
     }
 
-    /// Splits a list: those stay active whose value isn't 0.
-    pub fn split(&mut self, list: &[u32], column: &[i64])
+    /// Splits a list: those stay active whose value isn't 0. It is said whether that is the list of a row, from the first processor on.
+    pub fn split(&mut self, list: &[u32], column: &[i64], is_row: bool)
         requires active { length list.now ≤ vec_capacity self.old.active }
         requires left { length list.now ≤ vec_capacity self.old.left }
         requires below { (k : ℕ) → k < length list.now → slice_index list.now k < length column.now }
+        requires row { is_row ≡ true → (k : ℕ) → k < length list.now → slice_index list.now k ≡ k }
         ensures active { active_of self.new ≡ filter (λ i. is_nonzero (value_of column.now i)) list.now }
         ensures left { left_of self.new ≡ filter (λ i. not (is_nonzero (value_of column.now i))) list.now }
         ensures room { (most : ℕ) → IsLevel most self.old → IsLevel most self.new }
     {
         lengthen(&mut self.active, list.len());
         lengthen(&mut self.left, list.len());
-        let (kept, dropped) = split(
-            list,
-            column,
-            self.active.as_mut_slice(),
-            self.left.as_mut_slice(),
-        );
+        let active = self.active.as_mut_slice();
+        let left = self.left.as_mut_slice();
+        let (kept, dropped) = if is_row {
+            split_row(list, column, active, left)
+        } else {
+            split(list, column, active, left)
+        };
         self.kept = kept;
         self.dropped = dropped;
     }

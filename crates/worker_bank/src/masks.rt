@@ -100,7 +100,8 @@ impl Masks {
         ensures many { self.new.many ≡ self.old.many }
         ensures most { self.new.most ≡ self.old.most }
     {
-        self.spare.split(self.levels[self.depth].active(), column);
+        self.spare
+            .split(self.levels[self.depth].active(), column, self.depth == 0);
         self.depth += 1;
         mem::swap(&mut self.spare, &mut self.levels[self.depth]);
     }

@@ -1,11 +1,12 @@
 use Rattle.std.proofs.Common.{◌≡◌, ◌∙◌, ap, sym, subst, get_or, ◌<◌, ℕ, ◌+◌, arith, Bool}
+use Rattle.std.proofs.lemmas.Bool.{eqb-true}
 use Rattle.std.specs.Prelude.{not}
 use Rattle.std.specs.List.{filter}
 use Rattle.pram_values.specs.Truth.{is_nonzero}
 use Rattle.worker_bank.specs.Columns.{value_of}
 use Rattle.worker_bank.specs.Masks.{active_of, left_of, IsLevel}
 use Rattle.worker_bank.proofs.LevelLemmas.{read_is, all_get}
-use Rattle.worker_bank.proofs.MaskLemmas.{mask_keeps, mask_is, listed_below, listed_few}
+use Rattle.worker_bank.proofs.MaskLemmas.{mask_keeps, mask_is, listed_below, listed_few, row_is}
 use Rattle.worker_bank.proofs.masks.Masks.mask.Goals as goal
 
 pub split-requires-clause-below : goal.split-requires-clause-below
@@ -14,6 +15,12 @@ split-requires-clause-below c k l =
     let list = c.active.ensures ∙ read_is active_of m.levels.items m.depth c.index.result.now c.requires.masks.depth c.index.ensures in
     let h : get_or c.active.result.now k 0 < m.many = listed_below m c.active.result.now list c.requires.masks k l in
     let room = c.requires.column in omega arith
+
+pub split-requires-clause-row : goal.split-requires-clause-row
+split-requires-clause-row c none k l =
+    let m = c.args.self.now in
+    let list = c.active.ensures ∙ read_is active_of m.levels.items m.depth c.index.result.now c.requires.masks.depth c.index.ensures in
+    row_is m c.active.result.now list c.requires.masks (eqb-true m.depth 0 none) k l
 
 pub split-requires-clause-active : goal.split-requires-clause-active
 split-requires-clause-active c =
