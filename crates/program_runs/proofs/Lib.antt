@@ -6,3 +6,4 @@ pub mod SaidFormulas
 pub mod SaidCode
 pub mod OneForm
 pub mod OneCode
+pub mod TidiedRuns

@@ -9,7 +9,7 @@ ghost use Rattle.program_runs.specs.Runs.{IsRunByWorkers, IsRunRefused};
 ghost use Rattle.program_runs.specs.Reserved.{IsProgramRefusedWith, IsProgramRunWith, IsRunByWorkersWith, IsRunRefusedWith};
 
 use crate::compiler::compile_program;
-use crate::on_map::{outcome_as_it_stands, run_code};
+use crate::on_map::{outcome_of_tidied, run_code};
 use exchange_counts::Counts;
 use pram_check::Program;
 use pram_trees::Layout;
@@ -104,7 +104,7 @@ pub fn outcome_of_program<R: Threads + Wait + Sync, G: Gate + Sync>(
 {
     have_64_bits(input);
     let code = compile_program(alloc, program)?;
-    outcome_as_it_stands(rt, alloc, &code, input, options, reserve, gate)
+    outcome_of_tidied(rt, alloc, &code, input, options, reserve, gate)
 }
 
 // The same from a text, with its exchanges, with a reserve or without.

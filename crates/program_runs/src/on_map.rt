@@ -24,6 +24,7 @@ use run_options::{MapChoice, Options, Reserve, Terms, places};
 use std::alloc::{AllocError, Global};
 use std::sync::Wait;
 use std::thread::Threads;
+use tidying::tidy;
 use workers::{Gate, run_keeping};
 use write_rules::Outcome;
 
@@ -208,6 +209,27 @@ pub fn outcome_of_code<R: Threads + Wait + Sync, G: Gate + Sync>(
 {
     match pack(alloc, code) {
         Ok(packed) => outcome_as_it_stands(rt, alloc, &packed, input, options, reserve, gate),
+        Err(AllocError) => Err(refused_memory(code, input, options)),
+    }
+}
+
+// The same run by code that sets fewer registers, where there is such code.
+pub(crate) fn outcome_of_tidied<R: Threads + Wait + Sync, G: Gate + Sync>(
+    rt: &R,
+    alloc: Global,
+    code: &Verified,
+    input: &[i64],
+    options: Options,
+    reserve: Option<Reserve>,
+    gate: &G,
+) -> Result<Outcome, Refusal>
+    ensures run { IfOk result (λ outcome. (exchanges : List Exchange)
+        × IsCodeRunWith code.now input.now options reserve (verdict_of outcome) exchanges) }
+    ensures refused { IfErr result (IsCodeRefusedWith code.now input.now options reserve) }
+{
+    match tidy(alloc, code) {
+        Ok(Some(tidied)) => outcome_of_code(rt, alloc, &tidied, input, options, reserve, gate),
+        Ok(None) => outcome_as_it_stands(rt, alloc, code, input, options, reserve, gate),
         Err(AllocError) => Err(refused_memory(code, input, options)),
     }
 }

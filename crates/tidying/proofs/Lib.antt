@@ -1,0 +1,10 @@
+pub mod Behind
+pub mod Registers
+pub mod Results
+pub mod Parts
+pub mod OwnParts
+pub mod Flats
+pub mod Runs
+pub mod Alike
+pub mod Checked
+pub mod Founds

@@ -1,0 +1,4 @@
+pub mod Rows
+pub mod Certificates
+pub mod Tidied
+pub mod Shown
