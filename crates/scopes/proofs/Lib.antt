@@ -25,3 +25,7 @@ pub mod Affirmed
 pub mod Bounds
 pub mod Lent
 pub mod Lasting
+pub mod Nearer
+pub mod Shrinkings
+pub mod InScope
+pub mod ToldSmaller

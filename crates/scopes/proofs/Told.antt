@@ -89,7 +89,7 @@ told_once s p n inputs = firsts_once (met p n (counting s.precondition n inputs)
 
 -- ---- one for each that is met
 
-alike_itself : (f : Fault) → are_alike f f ≡ true
+pub alike_itself : (f : Fault) → are_alike f f ≡ true
 alike_itself f = grind (arith, nat_tests)
 
 cover_step : (a m : Met) (ms : List Met) (b : Bool) → are_alike a.fault m.fault ≡ b →

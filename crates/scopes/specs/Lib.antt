@@ -10,3 +10,5 @@ pub mod Found
 pub mod Merged
 pub mod Told
 pub mod FindingsText
+pub mod Wrong
+pub mod Shrunk

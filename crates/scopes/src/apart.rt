@@ -32,6 +32,13 @@ fn clash(input: &[i64]) -> Option<usize>
     None
 }
 
+/// Whether no value stands twice.
+pub(crate) fn is_apart(input: &[i64]) -> bool
+    ensures { result ≡ are_apart input.now }
+{
+    clash(input).is_none()
+}
+
 // Makes the values from a place on the greatest ones.
 fn top(input: &mut [i64], from: usize, high: i64)
     requires place { from < length input.old + 1 }

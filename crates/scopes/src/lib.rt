@@ -3,6 +3,7 @@
 
 mod affirming;
 mod apart;
+mod belonging;
 mod counting;
 pub mod draw_laws;
 mod drawing;
@@ -12,6 +13,7 @@ mod failing;
 mod findings;
 mod findings_text;
 mod going;
+mod going_wrong;
 pub mod handed_laws;
 mod handing;
 mod inputs;
@@ -23,6 +25,9 @@ mod noting;
 mod numbers;
 mod scope;
 pub mod scope_laws;
+mod shrinking;
+pub mod shrinking_laws;
+mod shrunk_findings;
 mod side_by_side;
 mod sources;
 mod span;
@@ -30,6 +35,7 @@ mod specification;
 pub mod specification_laws;
 mod step;
 mod unlike;
+mod wrong;
 
 pub use affirming::{affirms, input_counts, most_values};
 pub use counting::input_count;
@@ -45,3 +51,4 @@ pub use side_by_side::explore_by;
 pub use sources::{are_same_bounds, is_same_text};
 pub use specification::Specification;
 pub use unlike::first_unlike;
+pub use wrong::Wrong;
