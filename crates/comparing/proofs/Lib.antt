@@ -3,6 +3,7 @@ pub mod Commons
 pub mod Fronts
 pub mod Gone
 pub mod Inputs
+pub mod KindInputs
 pub mod Pushed
 pub mod Runs
 pub mod So

@@ -1,5 +1,5 @@
 -- What two programs both declare: the declarations of one name with the same bounds, and their cells.
-use Rattle.std.specs.Prelude.{◌≡◌, ℕ, Bool, ◌&&◌, List, [], ◌∷◌, ◌++◌, Option, map, if◌then◌else◌}
+use Rattle.std.specs.Prelude.{◌≡◌, ℕ, Bool, ◌&&◌, List, [], ◌∷◌, ◌++◌, Option, map, min, take, if◌then◌else◌}
 use Rattle.std.specs.List.{filter_map, find}
 use Rattle.std.specs.Option.{option_map}
 use Rattle.pram_model.specs.Layout.{SharedEntry, size, total_size}
@@ -55,6 +55,10 @@ front (e ∷ es) (f ∷ fs) = if same_entry e f then e ∷ front es fs else []
 -- the cells of these, which have the same numbers in both
 abbrev pub front_cells : (first second : List SharedEntry) → ℕ
 front_cells first second = total_size (front first second)
+
+-- the same, as far as the first so many declarations reach
+abbrev pub first_front_cells : (declarations : ℕ) → (first second : List SharedEntry) → ℕ
+first_front_cells declarations first second = min (front_cells first second) (total_size (take declarations first))
 
 abbrev pub IsBeginning : (before all : List SharedEntry) → Type 0
 IsBeginning before all = (behind : List SharedEntry) × (all ≡ before ++ behind)

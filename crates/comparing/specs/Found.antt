@@ -1,10 +1,12 @@
 -- What is found of two programs on inputs.
 use Rattle.std.specs.Prelude.{ℕ, ◌+◌, ◌/◌, max, min, nat_lt, Bool, false, ℤ, if◌then◌else◌, List, [], ◌∷◌, ◌++◌, Option, Some, None}
 use Rattle.std.specs.Prelude.{is_none, Vec}
-use Rattle.std.specs.Prelude.{length, map, take}
+use Rattle.std.specs.Prelude.{◌≡◌, ◌<◌, length, map, slice_index_or, take}
 use Rattle.std.specs.Global.{Global}
 use Rattle.std.specs.List.{filter, filter_map, fold, range_with_len}
 use Rattle.std.specs.Option.{option_map}
+use Rattle.drawn_kinds.specs.Kinds.{IsDrawn}
+use Rattle.drawn_kinds.specs.declared.kind.DrawnKind.{DrawnKind}
 use Rattle.scopes.specs.Drawn.{drawn}
 use Rattle.pram_model.specs.Layout.{total_size}
 use Rattle.pram_check.specs.Checked.{Checked}
@@ -137,3 +139,8 @@ drawn_by low high cells seed = drawn low high seed cells
 
 abbrev pub drawn_inputs : (low high : ℤ) → (seed cells count : ℕ) → List (List ℤ)
 drawn_inputs low high seed cells count = map (drawn_by low high cells) (range_with_len seed count)
+
+-- so many inputs of a kind, of so many values each: what a seed draws, what the next one draws, and so on
+pub record AreOfKind (kind : DrawnKind) (seed cells count : ℕ) (inputs : List (List ℤ)) : Type 0 where
+  pub counted : length inputs ≡ count
+  pub drawn : (k : ℕ) → k < count → IsDrawn kind (seed + k) cells (slice_index_or inputs k [])

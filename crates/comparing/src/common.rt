@@ -97,13 +97,13 @@ pub fn named_range(first: &Layout, second: &Layout, name: &[u8]) -> Option<Commo
     None
 }
 
-// The cells of the declarations before that of a number, or of all.
-fn cells_before(layout: &Layout, number: usize) -> u32
-    requires { number ≤ length layout.now }
-    ensures { result ≡ total_size (take number layout.now) }
+/// The cells of a program's first declarations, as many as that, or of all where it has fewer.
+pub fn first_cells(layout: &Layout, declarations: usize) -> u32
+    // They are those of the first so many declarations.
+    ensures { result ≡ total_size (take declarations layout.now) }
 {
-    if number < layout.len() {
-        start_of(layout, number)
+    if declarations < layout.len() {
+        start_of(layout, declarations)
     } else {
         layout.cells()
     }
@@ -118,8 +118,16 @@ pub fn front_cells(first: &Layout, second: &Layout) -> u32
     let most = first.len().min(second.len());
     for i in 0..most {
         if !is_same_entry(first, i, second, i) {
-            return cells_before(first, i);
+            return first_cells(first, i);
         }
     }
-    cells_before(first, most)
+    first_cells(first, most)
+}
+
+/// The same of the first declarations alone, as many as that.
+pub fn first_front_cells(first: &Layout, second: &Layout, declarations: usize) -> u32
+    // They are counted of that beginning, as far as the first so many declarations reach.
+    ensures { result ≡ spec.first_front_cells declarations first.now second.now }
+{
+    front_cells(first, second).min(first_cells(first, declarations))
 }

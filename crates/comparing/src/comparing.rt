@@ -63,8 +63,8 @@ fn compare_on(
     }
 }
 
-// Tries one input more: both programs are run on it where it counts.
-fn try_input(
+/// Tries one input more: both programs are run on it where it counts.
+pub(crate) fn try_input(
     alloc: Global,
     first: &Program,
     second: &Program,

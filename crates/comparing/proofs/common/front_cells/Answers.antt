@@ -17,7 +17,7 @@ returns-then-not-is_same_entry c =
     let f = there m i second in
     let other : same_entry e.0 f.0 ≡ false =
     sym (c.is_same_entry.ensures e.0 f.0 e.1 f.1) ∙ c.if-not-is_same_entry.true in
-    c.cells_before.ensures ∙ sym (front_ends l m i e.0 f.0 e.1 f.1 other) ∙ sym c.loop-i.invariant
+    c.first_cells.ensures ∙ sym (front_ends l m i e.0 f.0 e.1 f.1 other) ∙ sym c.loop-i.invariant
 
 pub loop-i-preserved : goal.loop-i-preserved
 loop-i-preserved c =
@@ -43,4 +43,4 @@ returns c =
       | inl lt ↦ front_over_first l m i (omega arith)
       | inr le ↦ front_over_second l m i (omega arith)
     ] in
-    c.cells_before-2.ensures ∙ ap (λ (k : ℕ). total_size (take k l)) at ∙ sym whole ∙ sym c.loop-i.invariant
+    c.first_cells-2.ensures ∙ ap (λ (k : ℕ). total_size (take k l)) at ∙ sym whole ∙ sym c.loop-i.invariant
