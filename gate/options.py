@@ -234,7 +234,7 @@ def overview():
         missing = [it for it in everywhere if it not in words]
         head = f"All but {joined(missing)}:" if len(missing) < 3 else f"Of {joined(words)}:"
         lines += ["", *textwrap.wrap(head, 80), *(line for it in options for line in said_of(it))]
-    lines += ["", "Of --input, --memory and --random one is given; cells that get no value are 0."]
+    lines += ["", "Of --input, --memory, --random and --draw one is given; other cells are 0."]
     lines += ["A FILE named - is standard input, once in a call.", ""]
     return [*lines, "`pramc --version` writes the version. `pramc explain cost` says what cost takes."]
 

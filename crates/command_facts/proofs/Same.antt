@@ -30,6 +30,7 @@ module _ (now before : List ℕ → Option (List ℕ) → Type 0) (same : IsSame
   opening_held layout (opening.Input name) values h = (h.0, (same name.now (Some h.0)).0 h.1, h.2)
   opening_held layout (opening.Memory name) values h = (h.0, (same name.now (Some h.0)).0 h.1, h.2)
   opening_held layout (opening.Drawn d) values h = h
+  opening_held layout (opening.OfKind kind seed) values h = h
 
   read_from : (name : List ℕ) (most : ℕ) (bytes : List ℕ) → IsReadFrom (now name) most bytes → IsReadFrom (before name) most bytes
   read_from name most bytes h = (h.0, (same name _).0 h.1, h.2)
@@ -75,6 +76,7 @@ module _ (now before : List ℕ → Option (List ℕ) → Type 0) (same : IsSame
   opening_stops layout (opening.Input name) h stops = at_file name.now longest IsOfInput h.stop h.about stops
   opening_stops layout (opening.Memory name) h stops = at_memory name.now layout h.stop h.about stops
   opening_stops layout (opening.Drawn d) h stops = stops
+  opening_stops layout (opening.OfKind kind seed) h stops = stops
 
   -- ---- programs
 

@@ -1,5 +1,5 @@
 -- What calls find of programs and of their runs.
-use Rattle.std.specs.Prelude.{◌≡◌, ◌*◌, ℕ, ℤ, List, [], codes, if◌then◌else◌, nat_lt, None, Option}
+use Rattle.std.specs.Prelude.{◌≡◌, ◌*◌, ℕ, ℤ, List, [], codes, if◌then◌else◌, nat_lt, take, None, Option}
 use Rattle.std.specs.Option.{option_map}
 use Rattle.pram_model.specs.Layout.{SharedEntry, total_size}
 use Rattle.write_rules.specs.Verdict.{verdict_of, Verdict, Ended, Faulted, GoesOn}
@@ -9,6 +9,8 @@ use Rattle.program_texts.specs.Shown.{fault_text}
 use Rattle.journal.specs.Entries.{Entry}
 use Rattle.journal.specs.InTime.{EndsBy}
 use Rattle.journal.specs.RunEntries.{run_entries}
+use Rattle.drawn_kinds.specs.Kinds.{IsDrawn}
+use Rattle.drawn_kinds.specs.Names.{declarations}
 use Rattle.scopes.specs.Drawn.{drawn}
 use Rattle.command_requests.specs.declared.opening.Opening.{Opening}
 use Rattle.command_requests.specs.declared.opening.Opening.TheVariants as opening
@@ -26,12 +28,14 @@ use Rattle.command_facts.specs.Held.{IsInputIn, IsMemoryIn, IsTextIn}
 abbrev pub IsLoaded : (Option (List ℕ) → Type 0) → ProgramFile → Loaded → Type 0
 IsLoaded holds file l = IsTextIn holds file.sizes.items l.source × IsProgramOf (text_in l.source) l.program
 
--- the values of the first cells: none; those of all that the named file holds; or those that are drawn for all cells
+-- the values of the first cells: none; those of all that the named file holds; those that are drawn for all cells; or an
+-- input of a kind that is drawn for those of the first declaration or, of a graph, of the first two
 abbrev pub IsOpening : (List ℕ → Option (List ℕ) → Type 0) → List SharedEntry → Opening → List ℤ → Type 0
 IsOpening holds layout opening.Zeros values = values ≡ []
 IsOpening holds layout (opening.Input name) values = IsInputIn (holds name.now) values
 IsOpening holds layout (opening.Memory name) values = IsMemoryIn (holds name.now) layout values
 IsOpening holds layout (opening.Drawn d) values = values ≡ drawn d.low d.high d.seed (total_size layout)
+IsOpening holds layout (opening.OfKind kind seed) values = IsDrawn kind seed (total_size (take (declarations kind) layout)) values
 
 -- ---- runs
 

@@ -63,3 +63,4 @@ StopsAtOpening holds layout opening.Zeros h = ⊥
 StopsAtOpening holds layout (opening.Input name) h = StopsAtInput (holds name.now) name.now h
 StopsAtOpening holds layout (opening.Memory name) h = StopsAtMemory (holds name.now) name.now layout h
 StopsAtOpening holds layout (opening.Drawn drawing) h = (h.stop ≡ stop.Refused refusal.OutOfMemory) × (h.about ≡ about.Nothing)
+StopsAtOpening holds layout (opening.OfKind kind seed) h = (h.stop ≡ stop.Refused refusal.OutOfMemory) × (h.about ≡ about.Nothing)

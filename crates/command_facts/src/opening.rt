@@ -1,8 +1,10 @@
 //! What the cells of a run hold before its first statement.
 
-ghost use Rattle.std.specs.Prelude.{◌≡◌, List, IfOk, IfErr};
+ghost use Rattle.std.specs.Prelude.{◌≡◌, List, IfOk, IfErr, take};
 ghost use Rattle.pram_model.specs.Layout.{SharedEntry, total_size};
 ghost use Rattle.memory_texts.specs.Memory.{IsRefused};
+ghost use Rattle.drawn_kinds.specs.Kinds.{IsDrawn};
+ghost use Rattle.drawn_kinds.specs.Names.{declarations};
 ghost use Rattle.scopes.specs.Drawn.{drawn};
 ghost use Rattle.system_files.specs.Files.{IsSame};
 ghost use Rattle.diagnoses.specs.declared.about.About.TheVariants.{Nothing};
@@ -14,7 +16,9 @@ ghost use Rattle.command_facts.specs.Refused.{StopsAtOpening};
 
 use crate::loading::{load, source_of};
 use command_requests::Opening;
+use comparing::first_cells;
 use diagnoses::{About, Halted, Kind};
+use drawn_kinds::{DrawnKind, draw_kind};
 use memory_texts::{MemoryFault, read_memory};
 use pram_check::{Breach, Cause, Spot};
 use pram_tokens::LONGEST;
@@ -103,6 +107,23 @@ fn draw_all<'a>(alloc: Global, drawing: Drawing, layout: &Layout) -> Result<Vec<
     }
 }
 
+// An input of a kind, for the cells of the first declaration, or of the first two where it is a graph.
+fn draw_input<'a>(
+    alloc: Global,
+    kind: DrawnKind,
+    seed: u64,
+    layout: &Layout,
+) -> Result<Vec<i64>, Halted<'a>>
+    ensures values { IfOk result (λ values. IsDrawn kind seed (total_size (take (declarations kind) layout.now)) values.items) }
+    ensures refused { IfErr result (λ h. (h.stop ≡ Refused OutOfMemory) × (h.about ≡ Nothing)) }
+{
+    let count = first_cells(layout, kind.declarations());
+    match draw_kind(alloc, kind, count, seed) {
+        Ok(values) => Ok(values),
+        Err(_) => Err(Halted::from(Stop::Refused(Refusal::OutOfMemory))),
+    }
+}
+
 /// The values that the first cells hold before the first statement, as far as they are given. They are refused for the file of an input or
 /// of a memory (P2, E1 to E3, E6, E11), and for want of memory (E16).
 pub fn load_opening<'a, S: Sources>(
@@ -123,5 +144,6 @@ pub fn load_opening<'a, S: Sources>(
         Opening::Input(name) => load_input(alloc, sources, name),
         Opening::Memory(name) => load_memory(alloc, sources, name, layout),
         Opening::Drawn(drawing) => draw_all(alloc, drawing, layout),
+        Opening::OfKind(kind, seed) => draw_input(alloc, kind, seed, layout),
     }
 }

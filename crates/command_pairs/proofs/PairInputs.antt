@@ -50,6 +50,7 @@ module _ (now before : List ℕ → Option (List ℕ) → Type 0) (same : IsSame
   words_held (inputs.Scope few) p q is h = h
   words_held (inputs.Files files) p q is h = inputs_held files.items is h
   words_held (inputs.Drawn d) p q is h = h
+  words_held (inputs.OfKind w) p q is h = h
 
   pub input_stops : (file : InputFile) (h : Halted) → StopsAtInput (now file.name.now) file.name.now h →
       StopsAtInput (before file.name.now) file.name.now h
@@ -63,11 +64,13 @@ module _ (now before : List ℕ → Option (List ℕ) → Type 0) (same : IsSame
   words_stop (inputs.Scope few) h stops = stops
   words_stop (inputs.Files files) h stops = files_stop files.items h stops
   words_stop (inputs.Drawn d) h stops = stops
+  words_stop (inputs.OfKind w) h stops = stops
 
   most_held : (w : InputWords) (p q : Checked) (n : ℕ) → AreMost now w p q n → AreMost before w p q n
   most_held (inputs.Scope few) p q n h = h
   most_held (inputs.Files files) p q n h = (h.0, inputs_held files.items h.0 h.1, h.2)
   most_held (inputs.Drawn d) p q n h = h
+  most_held (inputs.OfKind w) p q n h = h
 
   pub pair_refused : (w : InputWords) (pre : Option Checked) (p q : Checked) (h : Halted) → IsRefusedPair now w pre p q h → IsRefusedPair
       before w pre p q h

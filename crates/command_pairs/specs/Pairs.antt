@@ -9,14 +9,16 @@ use Rattle.scopes.specs.Scopes.{inputs_of}
 use Rattle.memory_texts.specs.Chosen.{is_chosen, parts}
 use Rattle.memory_texts.specs.declared.choice.Choice.{Choice}
 use Rattle.memory_texts.specs.declared.choice.Choice.TheVariants.{All, Named, Nothing}
-use Rattle.comparing.specs.Common.{common, common_named, front_cells}
-use Rattle.comparing.specs.Found.{drawn_inputs, found, found_is, longest, most_told, too_long}
+use Rattle.comparing.specs.Common.{common, common_named, first_front_cells, front_cells}
+use Rattle.drawn_kinds.specs.Names.{declarations}
+use Rattle.comparing.specs.Found.{AreOfKind, drawn_inputs, found, found_is, longest, most_told, too_long}
 use Rattle.comparing.specs.declared.compared.CommonRange.{CommonRange}
 use Rattle.comparing.specs.declared.compared.Compared.{Compared}
 use Rattle.comparing.specs.declared.comparison.Comparison.{Comparison}
 use Rattle.comparing.specs.declared.refusal.Side.{Side}
 use Rattle.comparing.specs.declared.refusal.Side.TheVariants as side
 use Rattle.command_requests.specs.declared.input_words.DrawnWords.{DrawnWords}
+use Rattle.command_requests.specs.declared.input_words.KindWords.{KindWords}
 use Rattle.command_requests.specs.declared.input_words.InputFile.{InputFile}
 use Rattle.command_requests.specs.declared.input_words.InputWords.{InputWords}
 use Rattle.command_requests.specs.declared.input_words.InputWords.TheVariants as inputs
@@ -70,18 +72,25 @@ IsInputOfFile holds file values = IsInputIn (holds file.name.now) values
 abbrev pub cells_drawn : DrawnWords → (p q : Checked) → ℕ
 cells_drawn d p q = unwrap_or d.cells (front_cells p.layout q.layout)
 
+-- how many values each input of a kind has: as many as the words say, or as the first declaration or, of a graph, the first two have
+-- cells, as far as both programs begin with them
+abbrev pub kind_cells : KindWords → (p q : Checked) → ℕ
+kind_cells w p q = unwrap_or w.cells (first_front_cells (declarations w.kind) p.layout q.layout)
+
 -- that, where inputs are drawn
 abbrev pub drawn_of : InputWords → (p q : Checked) → Option ℕ
 drawn_of (inputs.Scope few) p q = None
 drawn_of (inputs.Files files) p q = None
 drawn_of (inputs.Drawn d) p q = Some (cells_drawn d p q)
+drawn_of (inputs.OfKind w) p q = Some (kind_cells w p q)
 
--- those of a scope; or those of files; or drawn, of values for so many cells
+-- those of a scope; or those of files; or drawn, of values for so many cells, also of a kind
 abbrev pub AreInputs : (List ℕ → Option (List ℕ) → Type 0) → InputWords → (p q : Checked) → List (List ℤ) → Type 0
 AreInputs holds (inputs.Scope few) p q is = is ≡ inputs_of few.scope
 AreInputs holds (inputs.Files files) p q is = AllZip (IsInputOfFile holds) files.items is
 AreInputs holds (inputs.Drawn d) p q is =
     is ≡ drawn_inputs d.drawing.low d.drawing.high d.drawing.seed (cells_drawn d p q) d.count
+AreInputs holds (inputs.OfKind w) p q is = AreOfKind w.kind w.seed (kind_cells w p q) w.count is
 
 -- ---- what is found
 
@@ -90,6 +99,7 @@ abbrev pub most_values : InputWords → (p q : Checked) → List (List ℤ) → 
 most_values (inputs.Scope few) p q is = few.scope.count
 most_values (inputs.Files files) p q is = longest is
 most_values (inputs.Drawn d) p q is = cells_drawn d p q
+most_values (inputs.OfKind w) p q is = kind_cells w p q
 
 -- Over just those of these inputs that count by the precondition, within so many statements each, none of which is too long for a program;
 -- told are as many of those on which they differ as there may be of so many values.
@@ -132,6 +142,7 @@ abbrev pub StopsAtWords : (List ℕ → Option (List ℕ) → Type 0) → InputW
 StopsAtWords holds (inputs.Scope few) h = ⊥
 StopsAtWords holds (inputs.Files files) h = StopsAtInputs holds files.items h
 StopsAtWords holds (inputs.Drawn d) h = ⊥
+StopsAtWords holds (inputs.OfKind w) h = ⊥
 
 -- the most values that an input of these files has
 abbrev pub AreMostIn : (List ℕ → Option (List ℕ) → Type 0) → List InputFile → ℕ → Type 0
@@ -142,6 +153,7 @@ abbrev pub AreMost : (List ℕ → Option (List ℕ) → Type 0) → InputWords 
 AreMost holds (inputs.Scope few) p q n = n ≡ few.scope.count
 AreMost holds (inputs.Files files) p q n = AreMostIn holds files.items n
 AreMost holds (inputs.Drawn d) p q n = n ≡ cells_drawn d p q
+AreMost holds (inputs.OfKind w) p q n = n ≡ kind_cells w p q
 
 -- those of a precondition, if there is one
 abbrev pub cells_where : Option Checked → ℕ

@@ -19,10 +19,13 @@ ghost use Rattle.command_facts.specs.Refused.{IsProgramIn, IsProgramOfText};
 use crate::limiting::limits_of;
 use crate::pair_inputs::load_inputs;
 use command_facts::{FoundPair, load_program, load_where_named};
-use command_requests::{DrawnWords, FewInputs, InputFile, InputWords, PairWords, ProgramFile};
+use command_requests::{
+    DrawnWords, FewInputs, InputFile, InputWords, KindWords, PairWords, ProgramFile,
+};
 use comparing::{
     CommonRange, Compared, Comparison, ComparisonRefusal, Side, common_ranges, compare_drawn,
-    compare_inputs, compare_scope, front_cells, longest, named_range,
+    compare_inputs, compare_kind, compare_scope, first_front_cells, front_cells, longest,
+    named_range,
 };
 use diagnoses::{About, Halted};
 use memory_texts::{Choice, is_chosen};
@@ -280,6 +283,16 @@ fn cells_drawn(first: &Program, second: &Program, drawn: DrawnWords) -> u32
     }
 }
 
+// How many values each input of a kind has.
+fn kind_cells(first: &Program, second: &Program, words: KindWords) -> u32
+    ensures { result ≡ spec.kind_cells words first.now second.now }
+{
+    match words.cells {
+        Some(cells) => cells,
+        None => first_front_cells(first.layout(), second.layout(), words.kind.declarations()),
+    }
+}
+
 // The same, where inputs are drawn.
 fn drawn_of(first: &Program, second: &Program, words: &InputWords<'_>) -> Option<u32>
     ensures { result ≡ spec.drawn_of words.now first.now second.now }
@@ -287,6 +300,7 @@ fn drawn_of(first: &Program, second: &Program, words: &InputWords<'_>) -> Option
     match words {
         InputWords::Scope(_) | InputWords::Files(_) => None,
         InputWords::Drawn(drawn) => Some(cells_drawn(first, second, *drawn)),
+        InputWords::OfKind(words) => Some(kind_cells(first, second, *words)),
     }
 }
 
@@ -318,6 +332,40 @@ fn on_drawn<'a>(
         drawing,
         cells,
         count,
+        bound,
+    ) {
+        Ok(comparison) => Ok(comparison),
+        Err(why) => Err(halted(why, cells as usize, first, second, precondition)),
+    }
+}
+
+// On inputs of a kind, each of so many values.
+fn on_kind<'a>(
+    alloc: Global,
+    first: &Program,
+    second: &Program,
+    precondition: &Option<Program>,
+    compared: &Compared,
+    words: KindWords,
+    bound: u32,
+) -> Result<Comparison, Halted<'a>>
+    ensures found { IfOk result (λ r. (is : List (List ℤ))
+        × pairs.AreOfKind words.kind words.seed (spec.kind_cells words first.now second.now) words.count is
+        × spec.IsFoundBy precondition.now first.now second.now compared.now bound (spec.kind_cells words first.now second.now) is r) }
+    ensures refused { IfErr result (λ h.
+        spec.IsTooLong precondition.now first.now second.now (spec.kind_cells words first.now second.now) h.stop h.about) }
+{
+    let cells = kind_cells(first, second, words);
+    match compare_kind(
+        alloc,
+        first,
+        second,
+        precondition,
+        compared,
+        words.kind,
+        words.seed,
+        cells,
+        words.count,
         bound,
     ) {
         Ok(comparison) => Ok(comparison),
@@ -376,6 +424,15 @@ fn compare_on<'a, S: Sources>(
                 bound,
             )
         }
+        InputWords::OfKind(kind) => on_kind(
+            alloc,
+            first,
+            second,
+            precondition,
+            compared,
+            *kind,
+            bound,
+        ),
     }
 }
 

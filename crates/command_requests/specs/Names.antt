@@ -7,6 +7,7 @@ abbrev pub name : Given → List ℕ
 name given.Bound = codes "--bound"
 name given.Seconds = codes "--seconds"
 name given.Random = codes "--random"
+name given.Draw = codes "--draw"
 name given.Seed = codes "--seed"
 name given.Show = codes "--show"
 name given.Schedule = codes "--schedule"

@@ -4,6 +4,8 @@ use Rattle.std.specs.List.{find}
 use Rattle.pram_model.specs.Names.{same_text}
 use Rattle.pram_model.specs.Rules.{rule_word}
 use Rattle.pram_model.specs.declared.rule.Rule.{Rule}
+use Rattle.drawn_kinds.specs.Names as kinds
+use Rattle.drawn_kinds.specs.declared.kind.DrawnKind.{DrawnKind}
 use Rattle.run_options.specs.Maps.{IsPair, Names}
 use Rattle.run_options.specs.Numbers.{number_of}
 use Rattle.run_options.specs.declared.map_choice.MapChoice.{MapChoice}
@@ -60,6 +62,7 @@ Takes given.Schedule word = IsCount word
 Takes given.From word = IsNumber word
 Takes given.To word = IsNumber word
 Takes given.Random word = (low : ℤ) × (high : ℤ) × IsInterval word low high
+Takes given.Draw word = (kind : DrawnKind) × kinds.Names word kind
 Takes given.Seed word = IsNumber word
 Takes given.Cells word = IsCells word
 Takes given.Values word = ⊥

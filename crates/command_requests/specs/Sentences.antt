@@ -18,6 +18,7 @@ wanted given.Schedule = codes "a number from 1 to 4294967295"
 wanted given.From = codes "a number from 0 to 4294967295"
 wanted given.To = codes "a number from 0 to 4294967295"
 wanted given.Random = codes "LO..HI, as -5..5, two numbers of 64 bits of which LO is at most HI"
+wanted given.Draw = codes "list, ring, ring:0, tree, sorted, permutation, or graph:V with V vertices from 2 to 4294967295"
 wanted given.Seed = codes "a number from 0 to 4294967295"
 wanted given.Cells = codes "a number from 0 to 1048576"
 wanted given.Values =
@@ -47,12 +48,13 @@ value_sentence g word = codes "invalid `" ++ (escaped word ++ wanted_text g)
 abbrev pub command_sentence : (word : List ℕ) → List ℕ
 command_sentence word =
     if same_text word (codes "--input") then (codes "`compare` wants `--input`, `--cells` with `--values`, `--permutations`, or "
-    ++ codes "`--random` with `--count`, and one of these alone\n")
+    ++ codes "`--random` or `--draw` with `--count`, and one of these alone\n")
     else if same_text word (codes "--cells") then (codes "`explore` wants `--cells` with `--values`, or `--permutations` in their "
-    ++ codes "place; `compare` takes `--cells` with `--random` too\n")
+    ++ codes "place; `compare` takes `--cells` with `--random` and `--draw` too\n")
     else if same_text word (codes "--values") then codes "`--values` goes with `--cells` alone\n"
-    else if same_text word (codes "--count") then codes "`--count` goes with `--random` alone\n"
-    else if same_text word (codes "--permutations") then codes "`--permutations` goes with none of `--cells`, `--values` and `--random`\n"
+    else if same_text word (codes "--count") then codes "`--count` goes with `--random` or `--draw` alone\n"
+    else if same_text word (codes "--permutations") then (codes "`--permutations` goes with none of `--cells`, `--values`, "
+    ++ codes "`--random` and `--draw`\n")
     else if same_text word (codes "--listing") then (codes "`export` wants a FILE, or `--listing` in its place, which goes without "
     ++ codes "`--size`\n")
     else []
@@ -60,10 +62,12 @@ command_sentence word =
 -- an option that doesn't go with others of the call
 abbrev pub option_sentence : (word : List ℕ) → List ℕ
 option_sentence word =
-    if same_text word (codes "--memory") then codes "`--memory` goes with neither `--input` nor `--random`\n"
-    else if same_text word (codes "--random") then (codes "`--random` goes with neither `--input` nor `--memory`, and with "
-    ++ codes "`compare` it wants `--count`\n")
-    else if same_text word (codes "--seed") then codes "`--seed` goes with `--random` alone\n"
+    if same_text word (codes "--memory") then codes "`--memory` goes with none of `--input`, `--random` and `--draw`\n"
+    else if same_text word (codes "--random") then (codes "`--random` goes with neither `--input` nor `--memory`, of `--draw` "
+    ++ codes "with `sorted` alone, and with `compare` it wants `--count`\n")
+    else if same_text word (codes "--draw") then (codes "`--draw` goes with neither `--input` nor `--memory`, and with `compare` "
+    ++ codes "it wants `--count`\n")
+    else if same_text word (codes "--seed") then codes "`--seed` goes with `--random` or `--draw` alone\n"
     else if same_text word (codes "--quiet") then codes "`--quiet` doesn't go with `--show`\n"
     else if same_text word (codes "--html") then codes "`--html` goes with neither `--svg` nor another `--format` than text\n"
     else if same_text word (codes "--svg") then codes "`--svg` goes with no other `--format` than text, and with cost it wants `--sweep`\n"

@@ -9,6 +9,7 @@ pub enum Given {
     Bound,
     Seconds,
     Random,
+    Draw,
     Seed,
     Show,
     Schedule,
@@ -36,10 +37,11 @@ pub enum Given {
 }
 
 /// Those for which words of their own names are given.
-pub(crate) const NAMED: [Given; 24] = [
+pub(crate) const NAMED: [Given; 25] = [
     Given::Bound,
     Given::Seconds,
     Given::Random,
+    Given::Draw,
     Given::Seed,
     Given::Show,
     Given::Schedule,
@@ -72,6 +74,7 @@ impl Given {
             Given::Bound => b"--bound",
             Given::Seconds => b"--seconds",
             Given::Random => b"--random",
+            Given::Draw => b"--draw",
             Given::Seed => b"--seed",
             Given::Show => b"--show",
             Given::Schedule => b"--schedule",

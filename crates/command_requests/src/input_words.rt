@@ -3,6 +3,7 @@
 ghost use Rattle.std.specs.Prelude.{◌≤◌, ◌+◌, ◌<◌, ◌^◌, length};
 ghost use Rattle.scopes.specs.Scopes.{inputs_of};
 
+use drawn_kinds::DrawnKind;
 use scopes::{Drawing, Scope};
 
 /// The most inputs that are drawn.
@@ -25,6 +26,17 @@ pub struct DrawnWords {
     ghost seeds: { drawing.seed + count < 2 ^ 64 },
 }
 
+/// Inputs of a kind that are drawn, as many as `count`, by that seed, the next seed, and so on: each of values for so many cells, or,
+/// without a number of them, for those of the first declaration with which both programs begin, or of the first two where it is a graph.
+#[derive(Clone, Copy, Debug)]
+pub struct KindWords {
+    pub kind: DrawnKind,
+    pub seed: u64,
+    pub cells: Option<u32>,
+    pub count: u32,
+    ghost seeds: { seed + count < 2 ^ 64 },
+}
+
 /// A file that an input stands in.
 #[derive(Clone, Copy, Debug, Drop)]
 pub struct InputFile<'a> {
@@ -40,4 +52,6 @@ pub enum InputWords<'a> {
     Files(Vec<InputFile<'a>>),
     /// Those that are drawn.
     Drawn(DrawnWords),
+    /// Those of a kind that are drawn.
+    OfKind(KindWords),
 }

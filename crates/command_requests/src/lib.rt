@@ -37,7 +37,7 @@ pub use explain_word::asks_to_explain;
 pub use form::Form;
 pub use format_word::{asks_for_gnu, asks_for_json};
 pub use given::Given;
-pub use input_words::{DrawnWords, FewInputs, InputFile, InputWords, MOST_DRAWN};
+pub use input_words::{DrawnWords, FewInputs, InputFile, InputWords, KindWords, MOST_DRAWN};
 pub use laws::what_is_told_is_wrong;
 pub use not_text::NotText;
 pub use opening::Opening;

@@ -1,5 +1,6 @@
 //! What the cells of a run hold before its first statement.
 
+use drawn_kinds::DrawnKind;
 use scopes::Drawing;
 
 /// What the cells of a run hold before its first statement.
@@ -13,4 +14,7 @@ pub enum Opening<'a> {
     Memory(&'a str),
     /// In all cells numbers that are drawn at random.
     Drawn(Drawing),
+    /// In the cells of the first declaration, or of the first two where it is a graph, an input of this kind that the seed draws, and
+    /// zeros in the others.
+    OfKind(DrawnKind, u64),
 }

@@ -15,7 +15,8 @@ pub const MOST_CELLS: u32 = 1_048_576;
 /// The most values of which all orders are tried: of ten there are 3,628,800.
 pub const MOST_ORDERED: u32 = 10;
 
-/// The inputs of a scope on which a program is run, of which there are at most [`MOST_INPUTS`], under which rule, and by how many workers.
+/// The inputs of a scope on which a program is run, of which there are at most [`MOST_INPUTS`], under which rule, and by how many workers;
+/// and which inputs are told.
 #[derive(Clone, Copy, Debug)]
 pub struct ScopeWords {
     pub scope: Scope,
@@ -23,5 +24,7 @@ pub struct ScopeWords {
     pub rule: Option<Rule>,
     /// Of which there have to be 1 to 32.
     pub workers: u32,
+    /// Whether those that are told are made smaller while the same goes wrong.
+    pub shrink: bool,
     ghost few: { length (inputs_of scope) ≤ 100000000 },
 }

@@ -24,6 +24,9 @@ fn wanted(given: Given) -> &'static [u8]
         Given::From => b"a number from 0 to 4294967295",
         Given::To => b"a number from 0 to 4294967295",
         Given::Random => b"LO..HI, as -5..5, two numbers of 64 bits of which LO is at most HI",
+        Given::Draw => {
+            b"list, ring, ring:0, tree, sorted, permutation, or graph:V with V vertices from 2 to 4294967295"
+        }
         Given::Seed => b"a number from 0 to 4294967295",
         Given::Cells => b"a number from 0 to 1048576",
         Given::Values => {
@@ -77,15 +80,15 @@ fn command_sentence(word: &[u8]) -> &'static [u8]
     ensures { result.now ≡ spec.command_sentence word.now }
 {
     if is_same(word, b"--input") {
-        b"`compare` wants `--input`, `--cells` with `--values`, `--permutations`, or `--random` with `--count`, and one of these alone\n"
+        b"`compare` wants `--input`, `--cells` with `--values`, `--permutations`, or `--random` or `--draw` with `--count`, and one of these alone\n"
     } else if is_same(word, b"--cells") {
-        b"`explore` wants `--cells` with `--values`, or `--permutations` in their place; `compare` takes `--cells` with `--random` too\n"
+        b"`explore` wants `--cells` with `--values`, or `--permutations` in their place; `compare` takes `--cells` with `--random` and `--draw` too\n"
     } else if is_same(word, b"--values") {
         b"`--values` goes with `--cells` alone\n"
     } else if is_same(word, b"--count") {
-        b"`--count` goes with `--random` alone\n"
+        b"`--count` goes with `--random` or `--draw` alone\n"
     } else if is_same(word, b"--permutations") {
-        b"`--permutations` goes with none of `--cells`, `--values` and `--random`\n"
+        b"`--permutations` goes with none of `--cells`, `--values`, `--random` and `--draw`\n"
     } else if is_same(word, b"--listing") {
         b"`export` wants a FILE, or `--listing` in its place, which goes without `--size`\n"
     } else {
@@ -98,11 +101,13 @@ fn option_sentence(word: &[u8]) -> &'static [u8]
     ensures { result.now ≡ spec.option_sentence word.now }
 {
     if is_same(word, b"--memory") {
-        b"`--memory` goes with neither `--input` nor `--random`\n"
+        b"`--memory` goes with none of `--input`, `--random` and `--draw`\n"
     } else if is_same(word, b"--random") {
-        b"`--random` goes with neither `--input` nor `--memory`, and with `compare` it wants `--count`\n"
+        b"`--random` goes with neither `--input` nor `--memory`, of `--draw` with `sorted` alone, and with `compare` it wants `--count`\n"
+    } else if is_same(word, b"--draw") {
+        b"`--draw` goes with neither `--input` nor `--memory`, and with `compare` it wants `--count`\n"
     } else if is_same(word, b"--seed") {
-        b"`--seed` goes with `--random` alone\n"
+        b"`--seed` goes with `--random` or `--draw` alone\n"
     } else if is_same(word, b"--quiet") {
         b"`--quiet` doesn't go with `--show`\n"
     } else if is_same(word, b"--html") {

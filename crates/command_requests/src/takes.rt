@@ -1,6 +1,8 @@
 //! Whether an option takes a word.
 
 ghost use Rattle.std.specs.Prelude.{◌≡◌, ◌⊎◌, MatchBool, codes, ℕ, ℤ};
+ghost use Rattle.drawn_kinds.specs.Names as kinds;
+ghost use Rattle.drawn_kinds.specs.declared.kind.DrawnKind.{DrawnKind};
 ghost use Rattle.run_options.specs.Maps.{IsPair, Names};
 ghost use Rattle.run_options.specs.declared.map_choice.MapChoice.{MapChoice};
 ghost use Rattle.scopes.specs.Intervals.{IsInterval};
@@ -8,6 +10,7 @@ ghost use Rattle.command_requests.specs.Options as spec;
 
 use crate::given::Given;
 use crate::{MOST_CELLS, MOST_DRAWN, MOST_ORDERED};
+use drawn_kinds::read_kind;
 use pram_model::Rule;
 use run_options::{read_map, read_number, read_pair};
 use scopes::read_interval;
@@ -53,6 +56,15 @@ fn is_interval(word: &str) -> bool
         (¬ ((low : ℤ) × (high : ℤ) × IsInterval word.now low high)) }
 {
     match read_interval(word) {
+        Some(_) => true,
+        None => false,
+    }
+}
+
+fn is_kind(word: &str) -> bool
+    ensures { MatchBool result ((kind : DrawnKind) × kinds.Names word.now kind) (¬ ((kind : DrawnKind) × kinds.Names word.now kind)) }
+{
+    match read_kind(word) {
         Some(_) => true,
         None => false,
     }
@@ -112,6 +124,7 @@ pub(crate) fn takes(given: Given, word: &str) -> bool
         Given::Map => is_map(word),
         Given::Reserve | Given::Bsp => is_pair(word),
         Given::Random => is_interval(word),
+        Given::Draw => is_kind(word),
         Given::Format => is_format(word),
         Given::Cells => is_cells(word),
         Given::Permutations => are_ordered(word),

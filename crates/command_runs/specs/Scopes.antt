@@ -1,11 +1,14 @@
 -- What calls find of a program on the inputs of a scope.
-use Rattle.std.specs.Prelude.{◌≡◌, ◌⊎◌, ◌<◌, ◌≤◌, ℕ, List, Option, Some, None}
+use Rattle.std.specs.Prelude.{◌≡◌, ◌⊎◌, ◌<◌, ◌≤◌, ℕ, Bool, true, false, List, Option, Some, None}
 use Rattle.pram_model.specs.declared.rule.Rule.{Rule}
 use Rattle.pram_check.specs.Checked.{Checked}
 use Rattle.pram_check.specs.OtherRule.{under}
-use Rattle.scopes.specs.Found.{found, found_is}
+use Rattle.scopes.specs.Found.{Found, found, found_is}
 use Rattle.scopes.specs.Scopes.{inputs_of}
+use Rattle.scopes.specs.Shrunk.{AreShrunk}
 use Rattle.scopes.specs.Specified.{most_values}
+use Rattle.scopes.specs.declared.scope.Scope.{Scope}
+use Rattle.scopes.specs.declared.specification.Specification.{Specification}
 use Rattle.command_requests.specs.declared.request.ProgramFile.{ProgramFile}
 use Rattle.command_requests.specs.declared.scope_words.ScopeWords.{ScopeWords}
 use Rattle.command_requests.specs.declared.specification_files.SpecificationFiles.{SpecificationFiles}
@@ -27,7 +30,12 @@ abbrev pub under_rule : Option Rule → Checked → Checked
 under_rule None program = program
 under_rule (Some rule) program = under rule program
 
--- what is found of the file's program on the inputs of the scope, by the programs of the other files under their own rules, within so many
+-- what is told of what is found on all inputs of a scope: with smaller inputs where that is asked for, else as it is
+abbrev pub IsTold : (shrink : Bool) → Scope → Specification → Checked → ℕ → Found → Type 0
+IsTold true scope s p n told = AreShrunk scope s p n (found s p n (inputs_of scope)) told
+IsTold false scope s p n told = told ≡ found s p n (inputs_of scope)
+
+-- what is told of the file's program on the inputs of the scope, by the programs of the other files under their own rules, within so many
 -- statements each, by 1 to 32 workers; an input has no more values than the program has cells, and the precondition
 pub record IsExplored (holds : List ℕ → Option (List ℕ) → Type 0) (file : ProgramFile) (files : SpecificationFiles) (scope : ScopeWords)
     (bound : ℕ) (f : FoundScope) : Type 0 where
@@ -38,7 +46,7 @@ pub record IsExplored (holds : List ℕ → Option (List ℕ) → Type 0) (file 
   pub some : 1 ≤ scope.workers
   pub few : scope.workers ≤ 32
   pub fit : scope.scope.count ≤ most_values f.specification.precondition f.program
-  pub found : found_is f.findings ≡ found f.specification f.program bound (inputs_of scope.scope)
+  pub told : IsTold scope.shrink scope.scope f.specification f.program bound (found_is f.findings)
 
 -- There are no workers, or more than 32; the inputs have more values than there are cells for them, which is told with both numbers; or
 -- memory was refused.

@@ -69,6 +69,33 @@ fn check_workers<'a>(workers: u32) -> Result<(), Halted<'a>>
     }
 }
 
+// What is told of what was found on the inputs of a scope: with smaller inputs, where that is asked for.
+fn told<'a>(
+    alloc: Global,
+    program: &Program,
+    specification: &Specification,
+    scope: ScopeWords,
+    bound: u32,
+    findings: Findings,
+) -> Result<Findings, Halted<'a>>
+    requires found { found_is findings ≡ found specification.now program.now bound (inputs_of scope.scope) }
+    ensures told { IfOk result (λ f. spec.IsTold scope.shrink scope.scope specification.now program.now bound (found_is f)) }
+    ensures refused { IfErr result (λ h. (workers : ℕ) → spec.IsRefusedFor workers scope.scope.count
+        (specified.most_values specification.now.precondition program.now) h.stop h.about) }
+{
+    let mut findings = findings;
+    if !scope.shrink {
+        return Ok(findings);
+    }
+    match findings.shrink(alloc, program, specification, scope.scope, bound) {
+        Ok(()) => Ok(findings),
+        Err(why) => {
+            let most = most_values(&specification.precondition, program);
+            Err(halted(why, scope.scope.count, most))
+        }
+    }
+}
+
 // The runs of a program on the inputs of a scope.
 fn explore_all<'a, R: Threads + Sync, V: Watch>(
     rt: &R,
@@ -82,7 +109,7 @@ fn explore_all<'a, R: Threads + Sync, V: Watch>(
     ensures some { IfOk result (λ f. 1 ≤ scope.workers) }
     ensures few { IfOk result (λ f. scope.workers ≤ 32) }
     ensures fit { IfOk result (λ f. scope.scope.count ≤ specified.most_values specification.now.precondition program.now) }
-    ensures found { IfOk result (λ f. found_is f ≡ found specification.now program.now bound (inputs_of scope.scope)) }
+    ensures told { IfOk result (λ f. spec.IsTold scope.shrink scope.scope specification.now program.now bound (found_is f)) }
     ensures refused { IfErr result (λ h. spec.IsRefusedFor scope.workers scope.scope.count
         (specified.most_values specification.now.precondition program.now) h.stop h.about) }
 {
@@ -99,7 +126,7 @@ fn explore_all<'a, R: Threads + Sync, V: Watch>(
         scope.workers,
         watch,
     ) {
-        Ok(findings) => Ok(findings),
+        Ok(findings) => told(alloc, program, specification, scope, bound, findings),
         Err(why) => {
             let cells = most_values(&specification.precondition, program);
             Err(halted(why, scope.scope.count, cells))
@@ -108,7 +135,8 @@ fn explore_all<'a, R: Threads + Sync, V: Watch>(
 }
 
 /// The runs of the file's program on the inputs of the scope that count, each for at most `bound` statements, by the workers that are asked
-/// for. Which count and which results are right the programs of the other files say, within the same bound and under their own rules.
+/// for. Inputs are told smaller where that is asked for. Which count and which results are right the programs of the other files say, within
+/// the same bound and under their own rules.
 ///
 /// It is refused as [`load_program`] refuses the files, for a postcondition that declares something with other bounds than the program
 /// (P1), for other than 1 to 32 workers (E13), for inputs with too many values (E11), and for want of memory (E16).
@@ -122,8 +150,8 @@ pub fn find_scope<'a, R: Threads + Sync, S: Sources, V: Watch>(
     sources: &mut S,
     watch: &mut V,
 ) -> Result<FoundScope, Halted<'a>>
-    // What is found is of the scope's inputs, of the file's program under the rule that is asked for, by the other files'
-    // programs, within the bound.
+    // What is found over the scope's inputs within the bound, of the file's program under the rule wanted, by the other
+    // files' programs, is told, with smaller inputs where wanted.
     ensures found { IfOk result (spec.IsExplored (S.Sources.holds sources.old) file.now files.now scope bound) }
     // Nothing is found only for a file, a postcondition's bounds, the number of workers, inputs with too many values, or
     // want of memory.

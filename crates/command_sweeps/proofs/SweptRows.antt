@@ -7,6 +7,7 @@ use Rattle.write_rules.specs.Verdict.{verdict_of}
 use Rattle.costs.specs.declared.cost.Cost.{Cost}
 use Rattle.sweeps.specs.declared.size_row.Ending.{Ending}
 use Rattle.sweeps.specs.declared.size_row.SizeRow.{SizeRow}
+use Rattle.drawn_kinds.specs.declared.kind.DrawnKind.{DrawnKind}
 use Rattle.scopes.specs.declared.drawing.Drawing.{Drawing}
 use Rattle.system_files.specs.Files.{IsSame}
 use Rattle.diagnoses.specs.declared.halted.Halted.{Halted}
@@ -63,10 +64,12 @@ no_input ws o p h is none = subst (λ (x : Opening). HasNoInput ws x h) (sym is)
 
 -- where no input's file is filled, the cells hold what they do at all sizes
 pub itself_by : (ws : List SizeWord) (o : Opening) →
-    (o ≡ opening.Zeros) ⊎ (((x : Bor (List ℕ)) × (o ≡ opening.Memory x)) ⊎ ((x : Drawing) × (o ≡ opening.Drawn x))) → IsOpeningAt ws o o
+    (o ≡ opening.Zeros) ⊎ (((x : Bor (List ℕ)) × (o ≡ opening.Memory x)) ⊎ (((x : Drawing) × (o ≡ opening.Drawn x))
+    ⊎ ((kind : DrawnKind) × (seed : ℕ) × (o ≡ opening.OfKind kind seed)))) → IsOpeningAt ws o o
 itself_by ws o (inl e) = subst (λ (x : Opening). IsOpeningAt ws x x) (sym e) refl
 itself_by ws o (inr (inl h)) = subst (λ (x : Opening). IsOpeningAt ws x x) (sym h.1) refl
-itself_by ws o (inr (inr h)) = subst (λ (x : Opening). IsOpeningAt ws x x) (sym h.1) refl
+itself_by ws o (inr (inr (inl h))) = subst (λ (x : Opening). IsOpeningAt ws x x) (sym h.1) refl
+itself_by ws o (inr (inr (inr h))) = subst (λ (x : Opening). IsOpeningAt ws x x) (sym h.2) refl
 
 -- ---- as long as the files hold the same
 

@@ -186,7 +186,7 @@ fn out_at<S: Sources>(
 {
     match words.opening {
         Opening::Input(name) => with_input(alloc, at, name, words, sources),
-        Opening::Zeros | Opening::Memory(_) | Opening::Drawn(_) => {
+        Opening::Zeros | Opening::Memory(_) | Opening::Drawn(_) | Opening::OfKind(_, _) => {
             run_by(alloc, at, words, words.opening, sources)
         }
     }

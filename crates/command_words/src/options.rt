@@ -56,6 +56,8 @@ pub(crate) enum Group {
     Counting,
     // which results are right
     Ensured,
+    // which inputs are told
+    Smaller,
     // under which rule it is tried
     Ruled,
     // by how many workers inputs are tried
@@ -116,6 +118,8 @@ pub(crate) const MEMORY: &str = "memory";
 
 pub(crate) const RANDOM: &str = "random";
 
+pub(crate) const DRAW: &str = "draw";
+
 pub(crate) const SEED: &str = "seed";
 
 pub(crate) const ONLY: &str = "only";
@@ -138,6 +142,8 @@ pub(crate) const WHERE: &str = "where";
 
 pub(crate) const ENSURE: &str = "ensure";
 
+pub(crate) const SHRINK: &str = "shrink";
+
 pub(crate) const LISTING_FILE: &str = "listing";
 
 pub(crate) const COUNT: &str = "count";
@@ -157,7 +163,7 @@ const EXPLAIN: &[CommandOption] = &[CommandOption {
 const SIZES: &[CommandOption] = &[CommandOption {
     name: SIZE,
     follows: Follows::Words("NAME=VALUE"),
-    help: "A number for a size of the text, in place of its default",
+    help: "A number for a size, in place of its default",
 }];
 
 const FORMATS: &[CommandOption] = &[CommandOption {
@@ -195,9 +201,14 @@ const OPENED: &[CommandOption] = &[
         help: "Draws the values of all cells from this interval",
     },
     CommandOption {
+        name: DRAW,
+        follows: Follows::Word("KIND"),
+        help: "Draws an input of this kind, as list",
+    },
+    CommandOption {
         name: SEED,
         follows: Follows::Word("S"),
-        help: "Two draws with one seed are the same; 1 where none is given",
+        help: "The seed that draws them, else 1",
     },
 ];
 
@@ -238,7 +249,7 @@ const COUNTED: &[CommandOption] = &[
     CommandOption {
         name: SVG,
         follows: Follows::Nothing,
-        help: "Draws time and work against the sizes of a sweep, as SVG",
+        help: "Draws a sweep's time and work, as SVG",
     },
 ];
 
@@ -261,7 +272,7 @@ const TOLD: &[CommandOption] = &[
     CommandOption {
         name: COLUMNS,
         follows: Follows::Nothing,
-        help: "Tells the column at which each statement begins too",
+        help: "Tells the column of each statement too",
     },
 ];
 
@@ -279,7 +290,7 @@ const DRAWN: &[CommandOption] = &[
     CommandOption {
         name: ONLY,
         follows: Follows::Word("NAMES"),
-        help: "Tells of these cells and variables alone, as a,m, or draws these cells",
+        help: "Tells of these names alone, as a,m, or draws these",
     },
     CommandOption {
         name: HTML,
@@ -345,7 +356,7 @@ const SCOPED: &[CommandOption] = &[
 const ORDERED: &[CommandOption] = &[CommandOption {
     name: PERMUTATIONS,
     follows: Follows::Word("K"),
-    help: "All orders of the numbers 1 to K in their place, K up to 10",
+    help: "All orders of 1 to K in their place, K up to 10",
 }];
 
 const COUNTING: &[CommandOption] = &[CommandOption {
@@ -360,6 +371,12 @@ const ENSURED: &[CommandOption] = &[CommandOption {
     help: "Has POST say so of each end; it gets the cells by their names",
 }];
 
+const SMALLER: &[CommandOption] = &[CommandOption {
+    name: SHRINK,
+    follows: Follows::Nothing,
+    help: "Tells smaller inputs on which the same goes wrong",
+}];
+
 const SHARED: &[CommandOption] = &[CommandOption {
     name: WORKERS,
     follows: Follows::WordOr("P", "1"),
@@ -369,13 +386,13 @@ const SHARED: &[CommandOption] = &[CommandOption {
 const RULED: &[CommandOption] = &[CommandOption {
     name: UNDER,
     follows: Follows::Word("RULE"),
-    help: "Tries them under this rule in place of that of the text",
+    help: "Tries them under this rule in place of the text's",
 }];
 
 const LISTED: &[CommandOption] = &[CommandOption {
     name: LISTING_FILE,
     follows: Follows::Word("LISTING"),
-    help: "Writes this listing of superstep code in place of a program",
+    help: "Writes this listing in place of a program",
 }];
 
 const TRIED: &[CommandOption] = &[
@@ -390,6 +407,11 @@ const TRIED: &[CommandOption] = &[
         help: "Tries values of this interval, for K or the common first cells",
     },
     CommandOption {
+        name: DRAW,
+        follows: Follows::Word("KIND"),
+        help: "Tries inputs of this kind",
+    },
+    CommandOption {
         name: COUNT,
         follows: Follows::Word("C"),
         help: "Draws so many inputs, 1 to 1000000",
@@ -397,7 +419,7 @@ const TRIED: &[CommandOption] = &[
     CommandOption {
         name: SEED,
         follows: Follows::Word("S"),
-        help: "The seed of the first, 1 where none is given; the next has the next",
+        help: "The seed of the first, else 1; the next has the next",
     },
 ];
 
@@ -438,6 +460,7 @@ pub(crate) fn options_of(group: Group) -> &'static [CommandOption] {
         Group::Ordered => ORDERED,
         Group::Counting => COUNTING,
         Group::Ensured => ENSURED,
+        Group::Smaller => SMALLER,
         Group::Ruled => RULED,
         Group::Shared => SHARED,
         Group::Listed => LISTED,

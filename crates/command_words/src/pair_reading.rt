@@ -4,14 +4,14 @@ ghost use Rattle.std.specs.Prelude.{IfErr};
 ghost use Rattle.command_requests.specs.Words.{IsOfWords};
 
 use crate::options::{
-    BOUND, CELLS, COUNT, INPUT, ONLY, PERMUTATIONS, RANDOM, SEED, TIME_AT_MOST, VALUES,
+    BOUND, CELLS, COUNT, DRAW, INPUT, ONLY, PERMUTATIONS, RANDOM, SEED, TIME_AT_MOST, VALUES,
     WORK_AT_MOST,
 };
-use crate::run_reading::{number_of, seed_of};
+use crate::run_reading::{kind_of, number_of, seed_of};
 use crate::scope_reading::{count_of, few_inputs};
 use clap::ArgMatches;
 use command_requests::{
-    DrawnWords, InputFile, InputWords, MOST_CELLS, MOST_DRAWN, PairWords, ProgramFile,
+    DrawnWords, InputFile, InputWords, KindWords, MOST_CELLS, MOST_DRAWN, PairWords, ProgramFile,
 };
 use memory_texts::Choice;
 use program_texts::Stop;
@@ -65,7 +65,37 @@ fn drawn_of<'a>(
     }
 }
 
-// Inputs that are drawn. Where an option is missing, one that is there is told.
+// Inputs of this kind, as many as that.
+fn kind_of_count<'a>(
+    words: &ArgMatches<'a>,
+    kind: &'a str,
+    word: &'a str,
+) -> Result<KindWords, Stop<'a>>
+    ensures { IfErr result IsOfWords }
+{
+    let seed = seed_of(words)?;
+    let count = count_of(word, 1, MOST_DRAWN)?;
+    let cells = drawn_cells(words)?;
+    let kind = kind_of(kind, words.get_str(RANDOM))?;
+    Ok(KindWords {
+        kind,
+        seed,
+        cells,
+        count,
+    })
+}
+
+// Inputs of this kind that are drawn.
+fn kind_words<'a>(words: &ArgMatches<'a>, kind: &'a str) -> Result<KindWords, Stop<'a>>
+    ensures { IfErr result IsOfWords }
+{
+    match words.get_str(COUNT) {
+        Some(word) => kind_of_count(words, kind, word),
+        None => Err(Stop::Number("--draw")),
+    }
+}
+
+// Inputs that are drawn from an interval. Where an option is missing, one that is there is told.
 fn drawn_words<'a>(words: &ArgMatches<'a>) -> Result<DrawnWords, Stop<'a>>
     ensures { IfErr result IsOfWords }
 {
@@ -92,13 +122,16 @@ fn input_words<'a>(alloc: Global, words: &ArgMatches<'a>) -> Result<InputWords<'
 {
     let is_of_files = words.get_strs(INPUT).is_some();
     let is_seeded = words.get_str(COUNT).is_some() || words.get_str(SEED).is_some();
-    let is_drawn = is_seeded || words.get_str(RANDOM).is_some();
+    let is_drawn = is_seeded || words.get_str(RANDOM).is_some() || words.get_str(DRAW).is_some();
     let is_whole = words.get_str(VALUES).is_some() || words.get_str(PERMUTATIONS).is_some();
     let is_scope = is_whole || (words.get_str(CELLS).is_some() && !is_drawn);
     match (is_of_files, is_scope, is_drawn) {
         (true, false, false) => Ok(InputWords::Files(input_files(alloc, words)?)),
         (false, true, false) => Ok(InputWords::Scope(few_inputs(words, INPUTS)?)),
-        (false, false, true) => Ok(InputWords::Drawn(drawn_words(words)?)),
+        (false, false, true) => match words.get_str(DRAW) {
+            Some(kind) => Ok(InputWords::OfKind(kind_words(words, kind)?)),
+            None => Ok(InputWords::Drawn(drawn_words(words)?)),
+        },
         (false, true, true) => Err(Stop::Number(scope_option(words))),
         (_, _, _) => Err(Stop::Number(INPUTS)),
     }

@@ -5,13 +5,14 @@ ghost use Rattle.std.specs.Option.{ForSome};
 ghost use Rattle.command_requests.specs.Words.{IsOfWords};
 
 use crate::options::{
-    BOUND, BSP, COLUMNS, FLOW, FORMAT, FROM, HTML, INPUT, LINES, LOCALS, MAP, MEMORY, ONLY,
+    BOUND, BSP, COLUMNS, DRAW, FLOW, FORMAT, FROM, HTML, INPUT, LINES, LOCALS, MAP, MEMORY, ONLY,
     OUTCOME, QUIET, RANDOM, RESERVE, SCHEDULE, SECONDS, SEED, SHOW, SVG, TO, WORKERS,
 };
 use clap::ArgMatches;
 use command_requests::{
     CostWords, Form, MeaningWords, Opening, RunWords, StepWords, SweepForm, SweepWords, TraceWords,
 };
+use drawn_kinds::{Bounds, DrawnKind, read_kind};
 use memory_texts::Choice;
 use program_texts::Stop;
 use run_options::{MapChoice, Options, Reserve, read_map, read_number, read_pair};
@@ -165,25 +166,57 @@ fn drawing_of<'a>(words: &ArgMatches<'a>, interval: &'a str) -> Result<Opening<'
     }
 }
 
-/// What the cells hold: an input, a memory or numbers that are drawn, and no two of these.
+// The kind that a word names, of sorted numbers with the bounds that an interval gives. No other kind goes with one.
+pub(crate) fn kind_of<'a>(word: &'a str, interval: Option<&'a str>) -> Result<DrawnKind, Stop<'a>>
+    ensures { IfErr result IsOfWords }
+{
+    match (read_kind(word), interval) {
+        (None, _) => Err(Stop::Number(word)),
+        (Some(kind), None) => Ok(kind),
+        (Some(DrawnKind::Sorted(_)), Some(interval)) => match read_interval(interval) {
+            Some((low, high)) => Ok(DrawnKind::Sorted(Some(Bounds { low, high }))),
+            None => Err(Stop::Number(interval)),
+        },
+        (Some(_), Some(_)) => Err(Stop::Number("--random")),
+    }
+}
+
+// An input of a kind, by the seed.
+fn kind_opening<'a>(words: &ArgMatches<'a>, word: &'a str) -> Result<Opening<'a>, Stop<'a>>
+    ensures { IfErr result IsOfWords }
+{
+    let seed = seed_of(words)?;
+    let kind = kind_of(word, words.get_str(RANDOM))?;
+    Ok(Opening::OfKind(kind, seed))
+}
+
+// The option that is refused beside another way to say what the cells hold.
+fn second_way(words: &ArgMatches<'_>) -> &'static str {
+    if words.get_str(MEMORY).is_some() {
+        "--memory"
+    } else if words.get_str(RANDOM).is_some() {
+        "--random"
+    } else {
+        "--draw"
+    }
+}
+
+/// What the cells hold: an input, a memory, numbers that are drawn or an input of a kind, and no two of these.
 pub(crate) fn opening_of<'a>(words: &ArgMatches<'a>) -> Result<Opening<'a>, Stop<'a>>
     ensures { IfErr result IsOfWords }
 {
-    let (input, memory, random) = (
-        words.get_str(INPUT),
-        words.get_str(MEMORY),
-        words.get_str(RANDOM),
-    );
-    if random.is_none() && words.get_str(SEED).is_some() {
+    let (input, memory) = (words.get_str(INPUT), words.get_str(MEMORY));
+    let (random, kind) = (words.get_str(RANDOM), words.get_str(DRAW));
+    if random.is_none() && kind.is_none() && words.get_str(SEED).is_some() {
         return Err(Stop::Number("--seed"));
     }
-    match (input, memory, random) {
-        (None, None, None) => Ok(Opening::Zeros),
-        (Some(name), None, None) => Ok(Opening::Input(name)),
-        (None, Some(name), None) => Ok(Opening::Memory(name)),
-        (None, None, Some(interval)) => drawing_of(words, interval),
-        (_, Some(_), _) => Err(Stop::Number("--memory")),
-        (_, _, _) => Err(Stop::Number("--random")),
+    match (input, memory, random, kind) {
+        (None, None, None, None) => Ok(Opening::Zeros),
+        (Some(name), None, None, None) => Ok(Opening::Input(name)),
+        (None, Some(name), None, None) => Ok(Opening::Memory(name)),
+        (None, None, Some(interval), None) => drawing_of(words, interval),
+        (None, None, _, Some(word)) => kind_opening(words, word),
+        (_, _, _, _) => Err(Stop::Number(second_way(words))),
     }
 }
 

@@ -3,7 +3,7 @@
 ghost use Rattle.std.specs.Prelude.{◌≤◌, IfOk, IfErr};
 ghost use Rattle.command_requests.specs.Words.{IsOfWords};
 
-use crate::options::{CELLS, PERMUTATIONS, UNDER, VALUES, WORKERS};
+use crate::options::{CELLS, PERMUTATIONS, SHRINK, UNDER, VALUES, WORKERS};
 use crate::run_reading::number_of;
 use clap::ArgMatches;
 use command_requests::{AlwaysWords, FewInputs, MOST_CELLS, MOST_INPUTS, MOST_ORDERED, ScopeWords};
@@ -107,7 +107,7 @@ pub(crate) fn few_inputs<'a>(
     }
 }
 
-/// The inputs on which a program is run, under which rule, and by how many workers.
+/// The inputs on which a program is run, under which rule, and by how many workers; and whether those that are told are made smaller.
 pub(crate) fn scope_words<'a>(words: &ArgMatches<'a>) -> Result<ScopeWords, Stop<'a>>
     ensures { IfErr result IsOfWords }
 {
@@ -118,6 +118,7 @@ pub(crate) fn scope_words<'a>(words: &ArgMatches<'a>) -> Result<ScopeWords, Stop
         scope: few.scope,
         rule,
         workers,
+        shrink: words.get_flag(SHRINK),
     })
 }
 

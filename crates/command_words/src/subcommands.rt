@@ -174,6 +174,7 @@ pub(crate) const SUBCOMMANDS: &[Subcommand] = &[
             Group::Ordered,
             Group::Counting,
             Group::Ensured,
+            Group::Smaller,
             Group::Bounded,
             Group::Ruled,
             Group::Shared,

@@ -64,7 +64,7 @@ fn sentences_are_these(rt: HostRuntime) -> Result<(), Fail> {
             alloc,
             "run f --seed 3",
             "--seed",
-            "`--seed` goes with `--random` alone\n"
+            "`--seed` goes with `--random` or `--draw` alone\n"
         )?
     );
     assert!(rt; says(alloc, "run f", "x", "")?);

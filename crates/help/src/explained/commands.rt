@@ -42,7 +42,7 @@ Options:
 Exit status: 0 it is compiled, 2 it is refused.
 ";
 
-pub(crate) const MEANING: [u8; 1039] = *b"pramc meaning FILE: runs the program by its definition.
+pub(crate) const MEANING: [u8; 1090] = *b"pramc meaning FILE: runs the program by its definition.
 
 It writes each printed number on a line, and then `ended` and the shared memory,
 or a fault with its place and line. `pramc run` comes to the same by workers.
@@ -56,9 +56,9 @@ Options:
 
 --bound N           the most statements that are run, else 1000000
 --seconds S         ends a long run in about S seconds, and says where
---input FILE        the values of the first cells
---memory FILE       values of cells by their names
+--input FILE        values of the first cells; --memory FILE of named ones
 --random LO..HI     draws the values of all cells
+--draw KIND         draws a list, ring, tree, graph:V, sorted or permutation
 --seed S            another draw for each S, else 1
 --show NAMES        writes these declarations alone, as a,b
 --quiet             writes printed numbers, and no memory
@@ -69,7 +69,7 @@ Options:
 Exit status: 0 it ended, 1 it faulted, 2 it was refused, 3 it met the bound.
 ";
 
-pub(crate) const COST: [u8; 1329] = *b"pramc cost FILE: what a run costs.
+pub(crate) const COST: [u8; 1343] = *b"pramc cost FILE: what a run costs.
 
 It counts time, the statements that ran, and work, for each of them one for each
 processor that ran it; then reads, writes and the most exchanges. Type this:
@@ -87,7 +87,7 @@ That is a line for each of n = 4, 8, 16, 32, 64; then `time 4 log n + 5` and
 --seconds S         ends a long run in about S seconds, and says where
 --input FILE        the values of the first cells; of a sweep as 'in/{n}.txt'
 --memory FILE       values of cells by their names
---random LO..HI     draws the values of all cells, by --seed S
+--random LO..HI     draws them by --seed S; --draw KIND draws a list or such
 --size NAME=VALUE   another number for a size of the text, as n=16
 --format FORMAT     json for programs; csv for a sweep, or --svg to draw it
 --explain           says more of a refusal or a fault
@@ -96,7 +96,7 @@ Exit status: 0 it ended, 1 it faulted, 2 it was refused, 3 it met the bound.
 Of a sweep 1 if a size faulted or was refused, or else 3 if one met the bound.
 ";
 
-pub(crate) const STEPS: [u8; 1428] = *b"pramc steps FILE: a run statement by statement.
+pub(crate) const STEPS: [u8; 1442] = *b"pramc steps FILE: a run statement by statement.
 
 It writes a line for each statement that ran: its number, its line in the text,
 how many processors ran it, and the cells that it changed. At a conflict it says
@@ -115,7 +115,7 @@ $ pramc steps examples/tree_sum.pram --input examples/tree_sum.in | sed -n 7p
 --bound N           the most statements that are run, else 1000000
 --seconds S         ends a long run in about S seconds, and says where
 --input FILE        values of the first cells; --memory FILE of named ones
---random LO..HI     draws the values of all cells, by --seed S
+--random LO..HI     draws them by --seed S; --draw KIND draws a list or such
 --size NAME=VALUE   another number for a size of the text, as n=16
 --format json       tells it to programs, as JSON
 --explain           says more of a refusal or a fault
@@ -123,7 +123,7 @@ $ pramc steps examples/tree_sum.pram --input examples/tree_sum.in | sed -n 7p
 Exit status: 0 it ended, 1 it faulted, 2 it was refused, 3 it met the bound.
 ";
 
-pub(crate) const RULES: [u8; 1137] =
+pub(crate) const RULES: [u8; 1145] =
     *b"pramc rules FILE: runs the program under each rule of access.
 
 It says how each run comes out. `same`: it ends as under the rule that the text
@@ -134,8 +134,8 @@ Type this:
 
 $ pramc rules examples/maximum.pram --input examples/maximum.in
 
-It takes --bound, --input, --memory, --random, --seed, --size, --format json and
---explain; `pramc explain options` says what they are for.
+It takes --bound, --input, --memory, --random, --draw, --seed, --size, --format
+json and --explain; `pramc explain options` says what they are for.
 
 Exit status: 0, also where runs fault; 2 the program or the input is refused.
 

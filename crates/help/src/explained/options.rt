@@ -1,6 +1,6 @@
 //! What is said of all options. Made of the table of options by `gate/editors.py --write`.
 
-pub(crate) const OPTIONS: [u8; 4083] = *b"The options, and which commands take them.
+pub(crate) const OPTIONS: [u8; 4096] = *b"The options, and which commands take them.
 
 Of all:
 --help            says what there is to type
@@ -9,7 +9,7 @@ All but explain:
 --explain         explains a refusal or a fault on standard error
 
 All but exec and explain:
---size NAME=VALUE a number for a size of the text, in place of its default
+--size NAME=VALUE a number for a size, in place of its default
 
 Of check, meaning, cost, steps, rules, run, trace, explore, always, compare and
 exec:
@@ -23,7 +23,8 @@ Of meaning, cost, steps, rules, run, trace and exec:
 --input FILE      a file with the values of the first cells
 --memory FILE     a file with values of cells by names, as a[1..4] = 4 3 2 1
 --random LO..HI   draws the values of all cells from this interval
---seed S          two draws with one seed are the same; 1 where none is given
+--draw KIND       draws an input of this kind, as list
+--seed S          the seed that draws them, else 1
 
 Of meaning, cost and steps:
 --seconds S       ends a long run in about S seconds, S from 1
@@ -44,17 +45,17 @@ Of explore, always and compare:
 --values LO..HI   of values of this interval; at most 100000000 inputs are tried
 
 Of explore and compare:
---permutations K  all orders of the numbers 1 to K in their place, K up to 10
+--permutations K  all orders of 1 to K in their place, K up to 10
 --where PRE       tries inputs on which PRE prints last a number other than 0
 
 Of explore and always:
---under RULE      tries them under this rule in place of that of the text
+--under RULE      tries them under this rule in place of the text's
 
 Of compare:
 --input FILE      tries the values of this file, and of each more given so
 --random LO..HI   tries values of this interval, for K or the common first cells
---seed S          the seed of the first, 1 where none is given; the next has the
-    next
+--draw KIND       tries inputs of this kind
+--seed S          the seed of the first, else 1; the next has the next
 --only NAMES      compares what has these names alone, as a,output
 --count C         draws so many inputs, 1 to 1000000
 --time-at-most E  the most time of FILE2, as 40 or 4*log(n)+10 of its sizes
@@ -66,11 +67,12 @@ Of cost:
 --lines           counts for each line of the program too
 --sweep NAME=SIZES counts at each size, as n=4,8,16 or n=4..64*2 or n=10..50+10;
     --format csv makes a table
---svg             draws time and work against the sizes of a sweep, as SVG
+--svg             draws a sweep's time and work, as SVG
 
 Of explore:
 --workers P       how many workers share the inputs, 1 to 32, else 1
 --ensure POST     has POST say so of each end; it gets the cells by their names
+--shrink          tells smaller inputs on which the same goes wrong
 
 Of trace:
 --lines           tells of each the line of the statement that it serves
@@ -83,16 +85,15 @@ Of steps:
 --from K          the first statement that is told, counted from 1, else 1
 --to K            the last statement that is told, else 4294967295
 --locals          tells of variables, locals and printed numbers too
---columns         tells the column at which each statement begins too
+--columns         tells the column of each statement too
 --flow            draws the flow of data between the shared cells, as SVG
---only NAMES      tells of these cells and variables alone, as a,m, or draws
-    these cells
+--only NAMES      tells of these names alone, as a,m, or draws these
 --html            makes a page that steps through them all
 
 Of export:
---listing LISTING writes this listing of superstep code in place of a program
+--listing LISTING writes this listing in place of a program
 
-Of --input, --memory and --random one is given; cells that get no value are 0.
+Of --input, --memory, --random and --draw one is given; other cells are 0.
 A FILE named - is standard input, once in a call.
 
 `pramc --version` writes the version. `pramc explain cost` says what cost takes.

@@ -1,13 +1,11 @@
 //! What is said of commands for those who write algorithms, and of plans that leave the machine.
 
-pub(crate) const EXPLORE: [u8; 1212] =
+pub(crate) const EXPLORE: [u8; 1270] =
     *b"pramc explore FILE: runs the program on every input of a small scope.
 
 It says on how many inputs the run ends, faults or goes on at its bound, and the
 first that does, of each kind of fault at each line; and the least and greatest
 time and work. So `ended 120` of `inputs 120` proves it for these.
-
-Type this:
 
 $ pramc explore examples/maximum.pram --permutations 5 | head -n 2
 inputs 120
@@ -18,6 +16,7 @@ ended 120
 --permutations K    in their place all orders of the numbers 1 to K, K up to 10
 --where PRE         those alone on which PRE prints last a number other than 0
 --ensure POST       has POST say so of each end, by cells x and opening_x
+--shrink            tells smaller inputs on which the same goes wrong
 --under RULE        under this rule of access, in place of the text's own
 --workers P         shares the inputs among P workers, 1 to 32
 --bound N           the most statements that are run, else 1000000
@@ -54,7 +53,7 @@ Exit status: 0 no fault, 1 one may come, or `undecided`: too little is known of
 a loop; 2 it was refused, 3 no fault, and a run may go on at the bound.
 ";
 
-pub(crate) const COMPARE: [u8; 1692] =
+pub(crate) const COMPARE: [u8; 1843] =
     *b"pramc compare FILE FILE2: runs two programs on the same inputs.
 
 It says on how many inputs both come to the same: both end with the same output
@@ -77,6 +76,8 @@ Which inputs, by one of these lines:
                     C of them, as run draws them by the seeds S, S + 1, ..
                     Drawn are K cells by --cells K, and else those of the
                     declarations with which both begin; all others are 0
+--draw KIND         in place of --random: a list, ring, tree, graph:V, sorted
+                    or permutation for K cells, or the first declaration
 --where PRE         those alone on which PRE prints last a number other than 0
 
 What is compared, else the output, and what both declare with the same bounds:

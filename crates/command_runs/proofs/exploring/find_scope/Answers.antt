@@ -30,7 +30,7 @@ returns-in-Ok-explore_all-clause-found g c =
       some = c.in-Ok-explore_all.ensures.some;
       few = c.in-Ok-explore_all.ensures.few;
       fit = c.in-Ok-explore_all.ensures.fit;
-      found = c.in-Ok-explore_all.ensures.found;
+      told = c.in-Ok-explore_all.ensures.told;
     }
 
 pub returns-clause-refused : goal.returns-clause-refused
