@@ -23,7 +23,7 @@ pub(crate) struct Printer<'a, W: Out> {
 }
 
 impl<'a, W: Out> Printer<'a, W> {
-    fn text(&mut self, text: &[u8])
+    pub(crate) fn text(&mut self, text: &[u8])
         ensures same_out { self.new.out.ghost_name ≡ self.old.out.ghost_name }
         ensures prints { Prints (printing (W.Out.state self.old.out.now) self.old.failed)
             (printing (W.Out.state self.new.out.now) self.new.failed)
@@ -35,7 +35,7 @@ impl<'a, W: Out> Printer<'a, W> {
     }
 
     /// A number in C.
-    fn number(&mut self, number: i64)
+    pub(crate) fn number(&mut self, number: i64)
         ensures same_out { self.new.out.ghost_name ≡ self.old.out.ghost_name }
         ensures prints { Prints (printing (W.Out.state self.old.out.now) self.old.failed)
             (printing (W.Out.state self.new.out.now) self.new.failed)
@@ -167,7 +167,7 @@ impl<'a, W: Out> Printer<'a, W> {
     }
 
     /// The rule, the processors and the declarations.
-    fn declarations(&mut self, code: &Code)
+    pub(crate) fn declarations(&mut self, code: &Code)
         ensures same_out { self.new.out.ghost_name ≡ self.old.out.ghost_name }
         ensures prints { Prints (printing (W.Out.state self.old.out.now) self.old.failed)
             (printing (W.Out.state self.new.out.now) self.new.failed)
