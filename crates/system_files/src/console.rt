@@ -5,7 +5,8 @@ ghost use Rattle.text_out.specs.Out.{OutState, with_failure};
 ghost use Rattle.system_files.specs.Held.{HandsOn, HasNoEnd, IsLines, held_in};
 
 use crate::folder::{names_in, parted};
-use crate::sources::{Beside, SourceFault, Sources};
+use crate::replacing::replace;
+use crate::sources::{Beside, SourceFault, Sources, WriteRefused};
 use std::alloc::{Alloc, AllocError, Global};
 use std::fs::{File, Files};
 use std::io::{ErrorKind, Print, Read, Stdin};
@@ -201,6 +202,13 @@ impl<'a, R: Files + Alloc + Clone + Drop> Sources for SystemFiles<'a, R> {
             name: Vec::from_slice(alloc, last.as_bytes())?,
             others: names_in(self.system, alloc, folder)?,
         })
+    }
+
+    fn write(&mut self, alloc: Global, name: &str, bytes: &[u8]) -> Result<(), WriteRefused> {
+        if name == INPUT {
+            return Err(WriteRefused::Unwritable);
+        }
+        replace(self.system, alloc, name, bytes)
     }
 }
 

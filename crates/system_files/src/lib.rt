@@ -6,11 +6,12 @@ mod console;
 mod folder;
 mod progress_line;
 mod quiet;
+mod replacing;
 mod sources;
 mod unwatched;
 
 pub use console::{Stream, SystemFiles};
 pub use progress_line::{ErrorStream, ProgressLine};
 pub use quiet::Quiet;
-pub use sources::{Beside, SourceFault, Sources};
+pub use sources::{Beside, SourceFault, Sources, WriteRefused};
 pub use unwatched::Unwatched;

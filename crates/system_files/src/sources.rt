@@ -1,7 +1,7 @@
 //! Where the program finds its files.
 
-ghost use Rattle.std.specs.Prelude.{◌≡◌, ℕ, List, Option, None, IfOk, Err};
-ghost use Rattle.system_files.specs.Files.{IsReadFrom, IsSame};
+ghost use Rattle.std.specs.Prelude.{◌≡◌, ℕ, List, Option, Some, None, IfOk, OnOk, Err};
+ghost use Rattle.system_files.specs.Files.{IsReadFrom, IsSame, IsSameBut};
 ghost use Rattle.system_files.specs.declared.sources.SourceFault.TheVariants.{Directory, Missing, Unreadable};
 
 use std::alloc::{AllocError, Global};
@@ -19,6 +19,17 @@ pub enum SourceFault {
     /// P2: it can't be read, for another reason.
     #[error("P2")]
     Unreadable,
+    /// E16: memory was refused.
+    #[error("E16 OutOfMemory")]
+    OutOfMemory,
+}
+
+/// Why a file isn't written.
+#[derive(Clone, Copy, Debug, Drop, PartialEq, Eq, Error)]
+pub enum WriteRefused {
+    /// P2: it can't be written.
+    #[error("P2")]
+    Unwritable,
     /// E16: memory was refused.
     #[error("E16 OutOfMemory")]
     OutOfMemory,
@@ -54,4 +65,11 @@ pub trait Sources {
     /// What stands beside a file of that name, which need not be there: for whoever wrote the name wrong. `AllocError`: memory was refused.
     fn beside(&mut self, alloc: Global, name: &str) -> Result<Beside, AllocError>
         ensures same { IsSame (holds self.new) (holds self.old) };
+
+    /// Writes bytes in the place of what a file of that name holds, which has to be there.
+    fn write(&mut self, alloc: Global, name: &str, bytes: &[u8]) -> Result<(), WriteRefused>
+        // Where it is written the name may stand for these bytes.
+        ensures written { OnOk result (holds self.new name.now (Some bytes.now)) }
+        // All other names stand for what they stood for.
+        ensures others { IsSameBut name.now (holds self.new) (holds self.old) };
 }
