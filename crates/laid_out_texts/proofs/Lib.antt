@@ -1,0 +1,4 @@
+pub mod Scanned
+pub mod Laid
+pub mod Kept
+pub mod Trees
