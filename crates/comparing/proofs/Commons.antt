@@ -1,5 +1,5 @@
 -- What two programs both declare, a declaration further.
-use Rattle.std.proofs.Common.{◌≡◌, ℕ, suc, ◌+◌, Bool, true, false, cond, Option, Some, None, List, [], ◌∷◌, ◌++◌, map, take, drop}
+use Rattle.std.proofs.Common.{◌≡◌, ℕ, zero, suc, ◌+◌, Bool, true, false, cond, Option, Some, None, List, [], ◌∷◌, ◌++◌, map, take, drop}
 use Rattle.std.proofs.Common.{refl, ap, sym, ◌∙◌, arith}
 use Rattle.std.proofs.lemmas.List.{append-nil, map_push}
 use Rattle.std.specs.List.{cons_option, filter_map, find}
@@ -8,7 +8,7 @@ use Rattle.std.specs.Prelude.{slice_get}
 use Rattle.pram_model.specs.Layout.{SharedEntry}
 use Rattle.pram_model.specs.Names.{same_text}
 use Rattle.comparing.specs.declared.compared.CommonRange.{CommonRange}
-use Rattle.comparing.specs.Common.{Shared, both, is_named, range_of, shared_with}
+use Rattle.comparing.specs.Common.{Shared, both, is_named, range_of, range_or_none, shared_with}
 use Rattle.scopes.specs.Handed.{Placed}
 use Rattle.scopes.proofs.Lists.{chosen_from, chosen_until, find_cons, or_map}
 
@@ -70,3 +70,18 @@ pub common_skip : (m : List SharedEntry) (ps : List Placed) (i : ℕ) (p : Place
     None ≡ option_map range_of (shared_with m p) →
     map range_of (filter_map (shared_with m) (take (i + 1) ps)) ≡ map range_of (filter_map (shared_with m) (take i ps))
 common_skip m ps i p at is = taken m ps i p at ∙ with_none (filter_map (shared_with m) (take i ps)) (shared_with m p) is
+
+-- ---- all of the first
+
+taken_until : {X : Type 0} (xs : List X) (i : ℕ) (x : X) → slice_get xs i ≡ Some x → take (suc i) xs ≡ take i xs ++ x ∷ []
+taken_until [] i x at = absurd (let P : None ≡ Some x → ⊥ = λ k. cc in P at)
+taken_until (y ∷ ys) zero x at = let e : y ≡ x = cc at in ap (λ z. z ∷ []) e
+taken_until (y ∷ ys) (suc i) x at = ap (λ zs. y ∷ zs) (taken_until ys i x at)
+
+pub whole_more : (m : List SharedEntry) (ps : List Placed) (i : ℕ) (p : Placed) → slice_get ps i ≡ Some p →
+    map (range_or_none m) (take (i + 1) ps) ≡ map (range_or_none m) (take i ps) ++ range_or_none m p ∷ []
+whole_more m ps i p at =
+    let up : i + 1 ≡ suc i = omega arith in
+    ap (λ (k : ℕ). map (range_or_none m) (take k ps)) up
+    ∙ ap (map (range_or_none m)) (taken_until ps i p at)
+    ∙ map_push (range_or_none m) (take i ps) p

@@ -15,3 +15,5 @@ pub mod Lines
 pub mod OneComparison
 pub mod Told
 pub mod Beside
+pub mod Bounds
+pub mod Scored

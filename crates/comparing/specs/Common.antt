@@ -1,7 +1,7 @@
 -- What two programs both declare: the declarations of one name with the same bounds, and their cells.
 use Rattle.std.specs.Prelude.{◌≡◌, ℕ, Bool, ◌&&◌, List, [], ◌∷◌, ◌++◌, Option, map, min, take, if◌then◌else◌}
 use Rattle.std.specs.List.{filter_map, find}
-use Rattle.std.specs.Option.{option_map}
+use Rattle.std.specs.Option.{option_map, unwrap_or}
 use Rattle.pram_model.specs.Layout.{SharedEntry, size, total_size}
 use Rattle.pram_model.specs.Names.{same_text}
 use Rattle.scopes.specs.Handed.{Placed, placed, same_bounds}
@@ -36,6 +36,17 @@ shared first second = filter_map (shared_with second) (placed 0 first)
 
 abbrev pub common : (first second : List SharedEntry) → List CommonRange
 common first second = map range_of (shared first second)
+
+-- the cells of a declaration beside those of the same in another program, or, where that has none, beside those behind its last cell
+abbrev pub beside_none : List SharedEntry → Placed → CommonRange
+beside_none second p = record { first_start = p.start; second_start = total_size second; length = size p.entry.bounds }
+
+abbrev pub range_or_none : List SharedEntry → Placed → CommonRange
+range_or_none second p = unwrap_or (option_map range_of (shared_with second p)) (beside_none second p)
+
+-- those of all declarations of the first
+abbrev pub whole : (first second : List SharedEntry) → List CommonRange
+whole first second = map (range_or_none second) (placed 0 first)
 
 -- that of a name
 abbrev pub is_named : List ℕ → Shared → Bool

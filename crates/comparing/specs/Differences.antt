@@ -1,5 +1,5 @@
 -- What differs between a run of a first program and one of a second, in the order in which it is told.
-use Rattle.std.specs.Prelude.{ℕ, nat_eq, nat_lt, ℤ, Bool, true, false, if◌then◌else◌, List, [], ◌∷◌, ◌++◌, Option, Some, None}
+use Rattle.std.specs.Prelude.{ℕ, min, nat_eq, nat_lt, ℤ, Bool, true, false, if◌then◌else◌, List, [], ◌∷◌, ◌++◌, Option, Some, None}
 use Rattle.std.specs.Prelude.{slice_get}
 use Rattle.std.specs.Option.{option_map}
 use Rattle.pram_check.specs.Checked.{Checked}
@@ -64,6 +64,14 @@ end_differences output rs _ _ = []
 abbrev pub exceeded : ℕ → Option ℕ → Option ℕ
 exceeded taken None = None
 exceeded taken (Some limit) = if nat_lt limit taken then Some limit else None
+
+-- the most statements of the second program's runs: no more than its limit of time has, where it stops there
+abbrev pub at_most : ℕ → Option ℕ → ℕ
+at_most n None = n
+at_most n (Some limit) = min n limit
+
+abbrev pub second_bound : Limits → ℕ → ℕ
+second_bound limits n = if limits.stops then at_most n limits.time else n
 
 abbrev pub listed : Option Difference → List Difference
 listed None = []

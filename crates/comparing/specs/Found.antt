@@ -18,13 +18,24 @@ use Rattle.comparing.specs.declared.compared.Compared.{Compared}
 use Rattle.comparing.specs.declared.difference.Difference.{Difference}
 use Rattle.comparing.specs.declared.refusal.Side.{Side}
 use Rattle.comparing.specs.declared.refusal.Side.TheVariants as side
-use Rattle.comparing.specs.Differences.{first_difference, run_on}
+use Rattle.comparing.specs.declared.score.Score.{Score}
+use Rattle.comparing.specs.declared.trial.Trial.{Trial}
+use Rattle.comparing.specs.Differences.{Run, first_difference, run_on, second_bound}
+use Rattle.comparing.specs.Scores.{score_of, scored, trial_of}
 
 -- ---- one input
 
--- what differs first between the runs of two programs on it, within so many statements each
+-- the second program's run on it, within so many statements, or those of its limit of time
+abbrev pub second_run : Checked → Compared → ℕ → List ℤ → Run
+second_run q c n input = run_on q (second_bound c.limits n) input
+
+-- what differs first between the runs of two programs on it
 abbrev pub difference_on : (p q : Checked) → Compared → ℕ → List ℤ → Option Difference
-difference_on p q c n input = first_difference c (verdict_on p n input) (run_on q n input)
+difference_on p q c n input = first_difference c (verdict_on p n input) (second_run q c n input)
+
+-- all that is found on it
+abbrev pub trial_on : (p q : Checked) → Compared → ℕ → List ℤ → Trial
+trial_on p q c n input = trial_of (difference_on p q c n input) (second_run q c n input)
 
 -- an input, and what differs on it
 pub record Differing : Type 0 where
@@ -48,14 +59,17 @@ pub record Found : Type 0 where
   pub inputs : ℕ
   pub counting : ℕ
   pub same : ℕ
+  pub score : Score
   pub told : List Differing
 
--- of these inputs, all of so many that count: on how many they come to the same, and the first on which they differ, at most so many
+-- of these inputs, all of so many that count: on how many they come to the same, how the second does, and the first on which they differ,
+-- at most so many
 abbrev pub found_of_counting : (p q : Checked) → Compared → (n most many : ℕ) → List (List ℤ) → Found
 found_of_counting p q c n most many inputs = record {
   inputs = many;
   counting = length inputs;
   same = length (same p q c n inputs);
+  score = score_of (map (trial_on p q c n) inputs);
   told = take most (differing p q c n inputs);
 }
 
@@ -78,13 +92,13 @@ abbrev pub differing_is : FoundDifference → Differing
 differing_is f = record { input = f.input.items; difference = f.difference }
 
 abbrev pub found_is : Comparison → Found
-found_is f = record { inputs = f.inputs; counting = f.counting; same = f.same; told = map differing_is f.told.items }
+found_is f = record { inputs = f.inputs; counting = f.counting; same = f.same; score = f.score; told = map differing_is f.told.items }
 
 -- ---- one input more
 
 -- nothing yet
 abbrev pub nothing : Found
-nothing = record { inputs = 0; counting = 0; same = 0; told = [] }
+nothing = record { inputs = 0; counting = 0; same = 0; score = score_of []; told = [] }
 
 -- one more behind others, where there are fewer than so many
 abbrev pub with_more : (most : ℕ) → List Differing → Differing → List Differing
@@ -95,18 +109,22 @@ abbrev pub skipped : Found → Found
 skipped f = record f { inputs = f.inputs + 1 }
 
 -- one that counts, by what differs on it
-abbrev pub added : (most : ℕ) → Option Difference → List ℤ → Found → Found
-added most None input f = record f { inputs = f.inputs + 1; counting = f.counting + 1; same = f.same + 1 }
-added most (Some d) input f =
+abbrev pub noted : (most : ℕ) → Option Difference → List ℤ → Found → Found
+noted most None input f = record f { inputs = f.inputs + 1; counting = f.counting + 1; same = f.same + 1 }
+noted most (Some d) input f =
     record f {
       inputs = f.inputs + 1;
       counting = f.counting + 1;
       told = with_more most f.told (record { input = input; difference = d });
     }
 
+-- by all that is found on it
+abbrev pub added : (most : ℕ) → Trial → List ℤ → Found → Found
+added most t input f = record (noted most t.difference input f) { score = scored t f.score }
+
 -- one input more
 abbrev pub with_input : Option Checked → (p q : Checked) → Compared → (n most : ℕ) → List ℤ → Found → Found
-with_input w p q c n most input f = if counts w n input then added most (difference_on p q c n input) input f else skipped f
+with_input w p q c n most input f = if counts w n input then added most (trial_on p q c n input) input f else skipped f
 
 -- ---- inputs that are too long
 

@@ -2,9 +2,11 @@ pub mod Common
 pub mod Differences
 pub mod Ends
 pub mod Found
+pub mod Scores
 pub mod Told
 pub mod Unequal
 pub mod ComparisonText
+pub mod WhoseText
 pub mod RulesFound
 pub mod Compared
 pub mod FirstEnd

@@ -70,6 +70,38 @@ pub fn common_ranges(
     Ok(ranges)
 }
 
+// The cells of a declaration of the first program, beside those of the second where it has the same, and else beside none.
+fn range_or_none(first: &Layout, i: usize, second: &Layout) -> CommonRange
+    requires { i < length first.now }
+    ensures { (p : Placed) → slice_get (placed 0 first.now) i ≡ Some p → result ≡ spec.range_or_none second.now p }
+{
+    match range_with(first, i, second) {
+        Some(range) => range,
+        None => CommonRange {
+            first_start: start_of(first, i),
+            second_start: second.cells(),
+            length: first.size(i),
+        },
+    }
+}
+
+/// The cells of all declarations of the first program, in order, beside those of the second where it has a declaration of that name with
+/// the same bounds, and else beside none: from its last cell on. The error is that memory was refused.
+pub fn whole_ranges(
+    alloc: Global,
+    first: &Layout,
+    second: &Layout,
+) -> Result<Vec<CommonRange>, AllocError>
+    // They are the cells of each declaration of the first program, beside those of the same in the second, or beside none.
+    ensures { IfOk result (λ ranges. ranges.items ≡ spec.whole first.now second.now) }
+{
+    let mut ranges = Vec::new(alloc);
+    for i in 0..first.len() {
+        ranges.push(range_or_none(first, i, second))?;
+    }
+    Ok(ranges)
+}
+
 // The same, where the declaration has that name.
 fn named_with(first: &Layout, i: usize, second: &Layout, name: &[u8]) -> Option<CommonRange>
     requires { i < length first.now }

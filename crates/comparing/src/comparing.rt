@@ -2,42 +2,59 @@
 
 ghost use Rattle.std.specs.Prelude.{◌≡◌, ◌≢◌, ◌↔◌, ◌+◌, ◌<◌, ◌^◌, [], ◌∷◌, ◌++◌, IfOk, OnOk, Some, length, map, List, ℤ};
 ghost use Rattle.scopes.specs.Scopes.{inputs_of};
-ghost use Rattle.comparing.specs.Found.{added, difference_on, drawn_inputs, found, found_is, values_of, with_input};
+ghost use Rattle.comparing.specs.Differences as bounds;
+ghost use Rattle.comparing.specs.Found.{added, drawn_inputs, found, found_is, trial_on, values_of, with_input};
 ghost use Rattle.comparing.specs.Found as spec;
 ghost use Rattle.comparing.specs.declared.refusal.Side as rust;
 
-use crate::compared::Compared;
+use crate::compared::{Compared, Limits};
 use crate::comparison::Comparison;
-use crate::difference::Difference;
 use crate::most::most_told;
-use crate::outcomes::first_difference;
+use crate::outcomes::{ending, first_difference};
 use crate::refusal::{ComparisonRefusal, longest, too_long};
+use crate::trial::Trial;
 use costs::time_and_work;
 use pram_check::Program;
 use pram_meaning::reference_run;
 use scopes::{Drawing, Scope, draw, first_input, input_counts};
 use std::alloc::Global;
 
-// What differs first on an input that is not too long for either program.
-fn difference(
+// The most statements of the second program's runs.
+fn second_bound(limits: Limits, bound: u32) -> u32
+    ensures { result ≡ bounds.second_bound limits bound }
+{
+    match limits.time {
+        Some(limit) if limits.stops && limit < u64::from(bound) => limit as u32,
+        _ => bound,
+    }
+}
+
+// What is found on an input that is not too long for either program.
+fn trial(
     alloc: Global,
     first: &Program,
     second: &Program,
     compared: &Compared,
     input: &[i64],
     bound: u32,
-) -> Result<Option<Difference>, ComparisonRefusal>
-    ensures difference { IfOk result (λ d. d ≡ difference_on first.now second.now compared.now bound input.now) }
+) -> Result<Trial, ComparisonRefusal>
+    ensures trial { IfOk result (λ t. t ≡ trial_on first.now second.now compared.now bound input.now) }
     ensures memory { (side : rust.Side) → result ≢ Err (ComparisonRefusal.InputTooLong side) }
 {
     let Ok(outcome) = reference_run(alloc, first, input, bound) else {
         return Err(ComparisonRefusal::OutOfMemory);
     };
-    let Ok((other, counted)) = time_and_work(alloc, second, input, bound) else {
+    let most = second_bound(compared.limits, bound);
+    let Ok((other, counted)) = time_and_work(alloc, second, input, most) else {
         return Err(ComparisonRefusal::OutOfMemory);
     };
     let time = u64::from(counted.time);
-    Ok(first_difference(compared, &outcome, &other, time, counted.work))
+    Ok(Trial {
+        difference: first_difference(compared, &outcome, &other, time, counted.work),
+        ending: ending(&other),
+        time,
+        work: counted.work,
+    })
 }
 
 // Runs both programs on one input more that counts.
@@ -53,11 +70,11 @@ fn compare_on(
 ) -> Result<(), ComparisonRefusal>
     requires room { comparison.old.inputs + 1 < 2 ^ 64 }
     ensures found { OnOk result (found_is comparison.new
-        ≡ added most (difference_on first.now second.now compared.now bound input.now) input.now (found_is comparison.old)) }
+        ≡ added most (trial_on first.now second.now compared.now bound input.now) input.now (found_is comparison.old)) }
     ensures memory { (side : rust.Side) → result ≢ Err (ComparisonRefusal.InputTooLong side) }
 {
-    let difference = difference(alloc, first, second, compared, input, bound)?;
-    match comparison.add(alloc, most, difference, input) {
+    let trial = trial(alloc, first, second, compared, input, bound)?;
+    match comparison.add(alloc, most, trial, input) {
         Ok(()) => Ok(()),
         Err(_) => Err(ComparisonRefusal::OutOfMemory),
     }

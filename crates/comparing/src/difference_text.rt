@@ -10,7 +10,8 @@ use pram_trees::Layout;
 use program_texts::{write_cell, write_fault_text};
 use text_out::{Out, WriteFault};
 
-fn write_value<W: Out>(out: &mut W, value: Option<i64>) -> Result<(), WriteFault>
+/// A value, or that there is none.
+pub(crate) fn write_value<W: Out>(out: &mut W, value: Option<i64>) -> Result<(), WriteFault>
     ensures written { Writes (W.Out.state out.old) (W.Out.state out.new) (spec.value_text value) result }
 {
     match value {
@@ -35,7 +36,12 @@ fn write_values<W: Out>(
     write_value(out, second)
 }
 
-fn write_ending<W: Out>(out: &mut W, layout: &Layout, ending: Ending) -> Result<(), WriteFault>
+/// How a run came out.
+pub(crate) fn write_ending<W: Out>(
+    out: &mut W,
+    layout: &Layout,
+    ending: Ending,
+) -> Result<(), WriteFault>
     ensures written { Writes (W.Out.state out.old) (W.Out.state out.new) (spec.ending_text layout.now ending) result }
 {
     match ending {
@@ -60,8 +66,8 @@ fn write_endings<W: Out>(
     write_ending(out, second_layout, second)
 }
 
-// Which item it is that differs, as `output item 1 is `.
-fn write_item<W: Out>(out: &mut W, item: u64) -> Result<(), WriteFault>
+/// Which item it is that differs, as `output item 1 is `.
+pub(crate) fn write_item<W: Out>(out: &mut W, item: u64) -> Result<(), WriteFault>
     ensures written { Writes (W.Out.state out.old) (W.Out.state out.new) (spec.item_text item) result }
 {
     let mut digits = Buffer::new();
@@ -94,7 +100,13 @@ fn write_unequal_cell<W: Out>(
     write_values(out, first, second)
 }
 
-fn write_excess<W: Out>(out: &mut W, words: &[u8], taken: u64, limit: u64) -> Result<(), WriteFault>
+/// What is taken, and the limit that it is above, as `time 43 above 40`.
+pub(crate) fn write_excess<W: Out>(
+    out: &mut W,
+    words: &[u8],
+    taken: u64,
+    limit: u64,
+) -> Result<(), WriteFault>
     ensures written { Writes (W.Out.state out.old) (W.Out.state out.new) (spec.excess_text words.now taken limit) result }
 {
     let mut more = Buffer::new();

@@ -20,11 +20,16 @@ mod of_kind;
 mod outcomes;
 mod refusal;
 mod rules;
+mod score;
 mod show;
+mod trial;
 pub mod under_rules_laws;
 mod unequal;
+mod whose_text;
 
-pub use common::{common_ranges, first_cells, first_front_cells, front_cells, named_range};
+pub use common::{
+    common_ranges, first_cells, first_front_cells, front_cells, named_range, whole_ranges,
+};
 pub use compare::compare_rules;
 pub use compared::{CommonRange, Compared, Limits};
 pub use comparing::{compare_drawn, compare_inputs, compare_scope};
@@ -35,4 +40,7 @@ pub use finding::Finding;
 pub use of_kind::compare_kind;
 pub use refusal::{ComparisonRefusal, Side, longest};
 pub use rules::UnderRules;
+pub use score::Score;
 pub use show::show_comparison;
+pub use trial::Trial;
+pub use whose_text::write_whose;

@@ -5,6 +5,8 @@ ghost use Rattle.comparing.specs.Found.{added, differing_is, found_is, nothing, 
 
 use crate::comparison::{Comparison, FoundDifference};
 use crate::difference::Difference;
+use crate::score::Score;
+use crate::trial::Trial;
 use std::alloc::{AllocError, Global};
 
 // Keeps an input and what differs on it behind earlier ones, where fewer than so many are kept.
@@ -39,6 +41,7 @@ impl Comparison {
             inputs: 0,
             counting: 0,
             same: 0,
+            score: Score::new(),
             told: Vec::new(alloc),
         }
     }
@@ -51,20 +54,21 @@ impl Comparison {
         self.inputs += 1;
     }
 
-    /// Notes an input more that counts, and what differs on it, of which at most so many are told.
+    /// Notes an input more that counts, and what is found on it; of those on which the programs differ at most so many are told.
     pub(crate) fn add(
         &mut self,
         alloc: Global,
         most: usize,
-        difference: Option<Difference>,
+        trial: Trial,
         input: &[i64],
     ) -> Result<(), AllocError>
         requires room { self.old.inputs + 1 < 2 ^ 64 }
-        ensures { OnOk result (found_is self.new ≡ added most difference input.now (found_is self.old)) }
+        ensures { OnOk result (found_is self.new ≡ added most trial input.now (found_is self.old)) }
     {
         self.inputs += 1;
         self.counting += 1;
-        match difference {
+        self.score = self.score.with(&trial);
+        match trial.difference {
             None => self.same += 1,
             Some(difference) => keep(alloc, &mut self.told, most, difference, input)?,
         }

@@ -27,8 +27,8 @@ fn is_same_ending(ending: Ending, other: Ending) -> bool
     }
 }
 
-// How a run came out.
-fn ending(outcome: &Outcome) -> Ending
+/// How a run came out.
+pub(crate) fn ending(outcome: &Outcome) -> Ending
     ensures { result ≡ ending_of (verdict_of outcome.now) }
 {
     match outcome {
