@@ -2,6 +2,7 @@ pub mod Listings
 pub mod Held
 pub mod Found
 pub mod Refused
+pub mod Grades
 pub mod Statuses
 pub mod Written
 pub mod Messages

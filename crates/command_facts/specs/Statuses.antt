@@ -1,5 +1,5 @@
 -- The exit statuses of what calls find.
-use Rattle.std.specs.Prelude.{ℕ, nat_lt, ◌||◌, Bool, true, false, if◌then◌else◌, List, [], ◌∷◌, Result, Ok, Err}
+use Rattle.std.specs.Prelude.{ℕ, nat_lt, ◌||◌, Bool, true, false, not, if◌then◌else◌, List, [], ◌∷◌, Result, Ok, Err}
 use Rattle.std.specs.List.{list_any}
 use Rattle.program_texts.specs.Status.{status_of}
 use Rattle.program_texts.specs.declared.status.Status.{Status}
@@ -11,6 +11,8 @@ use Rattle.comparing.specs.Found as comparisons
 use Rattle.all_inputs.specs.declared.overall.Overall.{Overall}
 use Rattle.all_inputs.specs.declared.line_faults.LineFaults.{LineFaults}
 use Rattle.all_inputs.specs.declared.undecided.Undecided.{Undecided}
+use Rattle.command_facts.specs.declared.found.GradeRow.{GradeRow}
+use Rattle.command_facts.specs.Grades.{row_passes}
 use Rattle.command_facts.specs.declared.found.Settled.{Settled}
 use Rattle.command_facts.specs.declared.found.Settled.TheVariants as settled
 
@@ -56,6 +58,10 @@ status_of_differing (d ∷ told) = status.Faulted
 abbrev pub status_of_pair : comparisons.Found → Status
 status_of_pair f = status_of_differing f.told
 
+-- That of programs that are graded: as of a fault, where one doesn't pass.
+abbrev pub status_of_grades : List GradeRow → Status
+status_of_grades rows = if list_any (λ row. not (row_passes row)) rows then status.Faulted else status.Done
+
 -- The exit status that goes with what was found.
 abbrev pub status_of_found : Settled → Status
 status_of_found (settled.Run r told) = status_of r.outcome
@@ -66,4 +72,5 @@ status_of_found (settled.Swept s) = status_of_rows s.rows.items
 status_of_found (settled.Explored f) = status_of_findings f.findings.faulted f.findings.failed f.findings.go_on
 status_of_found (settled.Surveyed f) = status_of_overall f.told
 status_of_found (settled.Paired f) = status_of_pair (comparisons.found_is f.comparison)
+status_of_found (settled.Graded f) = status_of_grades f.rows.items
 status_of_found _ = status.Done

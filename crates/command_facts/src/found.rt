@@ -9,11 +9,13 @@ use bsp_verify::Verified;
 use command_requests::{CostWords, StepWords, SweepForm, TraceWords};
 use comparing::{Comparison, UnderRules};
 use costs::Cost;
-use diagnoses::Source;
+use diagnoses::{Halted, Source};
 use exchange_counts::Counts;
 use help::Subject;
 use memory_texts::Choice;
+use mpi_export::AlonePlan;
 use pram_check::Program;
+use pram_model::Rule;
 use scopes::{Findings, Specification};
 use sized_texts::Sweep;
 use sweeps::{Growths, SizeRow};
@@ -94,8 +96,9 @@ pub struct FoundOverall {
     pub told: Result<Overall, Undecided>,
 }
 
-/// Two programs, the one that says which inputs count, if there is one, how many cells are drawn of each input, where inputs are, and what
-/// is found of their runs on the same inputs.
+/// Two programs as they were run, the one that says which inputs count, if there is one, how many cells are drawn of each input, where
+/// inputs are, and what is found of their runs on the same inputs; the rule of the second program's text, and the most processors that it
+/// may declare, where that is asked for.
 #[derive(Drop)]
 pub struct FoundPair {
     pub first: Program,
@@ -103,6 +106,23 @@ pub struct FoundPair {
     pub precondition: Option<Program>,
     pub drawn: Option<u32>,
     pub comparison: Comparison,
+    pub rule: Rule,
+    pub most_procs: Option<u64>,
+}
+
+/// A program that is graded: the name of its file, and what is found of it beside the first program, or why nothing is.
+#[derive(Drop)]
+pub struct GradeRow<'a> {
+    pub name: &'a str,
+    pub graded: Result<FoundPair, Halted<'a>>,
+}
+
+/// Programs that are graded by a first one: the name of its file, that program, and a row for each of them.
+#[derive(Drop)]
+pub struct FoundGrade<'a> {
+    pub name: &'a str,
+    pub reference: Program,
+    pub rows: Vec<GradeRow<'a>>,
 }
 
 /// What a call finds that is known whole before anything is written of it.
@@ -118,8 +138,10 @@ pub enum Settled<'a> {
     Expanded(Source<'a>),
     /// The code of a program.
     Planned(Verified),
-    /// The code of a program or of a listing, to be written in C.
+    /// The code of a program or of a listing, to be written in C over MPI.
     Exported(Verified),
+    /// The code of a program, to be written in C for one memory.
+    ExportedAlone(AlonePlan),
     /// How a program comes out under each rule.
     Compared(UnderRules),
     /// A program was run; of memory these declarations are shown.
@@ -136,6 +158,8 @@ pub enum Settled<'a> {
     Surveyed(FoundOverall),
     /// Two programs were run on the same inputs.
     Paired(FoundPair),
+    /// Programs were run on the same inputs as a first one, and graded by it.
+    Graded(FoundGrade<'a>),
     /// A listing was run.
     Executed(FoundCode<'a>),
 }

@@ -4,6 +4,7 @@
 mod editors;
 mod ends;
 mod found;
+mod grades;
 mod halted;
 mod loaded;
 mod loading;
@@ -17,9 +18,10 @@ mod voice;
 pub use editors::write_for_editors;
 pub use ends::{text_of_end, text_of_fault};
 pub use found::{
-    Found, FoundCode, FoundOverall, FoundPair, FoundRun, FoundScope, FoundSteps, FoundSweep,
-    FoundTrace, Limit, Settled,
+    Found, FoundCode, FoundGrade, FoundOverall, FoundPair, FoundRun, FoundScope, FoundSteps,
+    FoundSweep, FoundTrace, GradeRow, Limit, Settled,
 };
+pub use grades::passing;
 pub use halted::halted_run;
 pub use loaded::Loaded;
 pub use loading::{load_listing, load_program, load_text};

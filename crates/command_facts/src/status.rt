@@ -1,11 +1,12 @@
 //! Exit statuses of what was found.
 
-ghost use Rattle.std.specs.Prelude.{◌≡◌, map};
+ghost use Rattle.std.specs.Prelude.{◌≡◌, map, not};
 ghost use Rattle.std.specs.List.{list_any};
 ghost use Rattle.comparing.specs.Found.{differing_is, found_is};
+ghost use Rattle.command_facts.specs.Grades.{row_passes};
 ghost use Rattle.command_facts.specs.Statuses as spec;
 
-use crate::found::Settled;
+use crate::found::{GradeRow, Settled};
 use all_inputs::{LineFaults, Overall, Told, Undecided};
 use comparing::{Comparison, FoundDifference};
 use program_texts::Status;
@@ -136,6 +137,29 @@ fn status_of_pair(comparison: &Comparison) -> Status
     status_of_differing(&comparison.told)
 }
 
+// Whether a program that is graded doesn't pass.
+fn has_failing(rows: &[GradeRow<'_>]) -> bool
+    ensures { result ≡ list_any (λ row. not (row_passes row)) rows.now }
+{
+    for row in rows {
+        if !row.passes() {
+            return true;
+        }
+    }
+    false
+}
+
+// The exit status of programs that are graded.
+fn status_of_grades(rows: &[GradeRow<'_>]) -> Status
+    ensures { result ≡ spec.status_of_grades rows.now }
+{
+    if has_failing(rows) {
+        Status::Faulted
+    } else {
+        Status::Done
+    }
+}
+
 /// The exit status that goes with what was found, however it is told.
 pub fn status_of(found: &Settled<'_>) -> Status
     ensures { result ≡ spec.status_of_found found.now }
@@ -152,9 +176,11 @@ pub fn status_of(found: &Settled<'_>) -> Status
         Settled::Expanded(_) => Status::Done,
         Settled::Planned(_) => Status::Done,
         Settled::Exported(_) => Status::Done,
+        Settled::ExportedAlone(_) => Status::Done,
         Settled::Explored(found) => status_of_findings(&found.findings),
         Settled::Surveyed(found) => status_of_overall(&found.told),
         Settled::Paired(pair) => status_of_pair(&pair.comparison),
+        Settled::Graded(found) => status_of_grades(&found.rows),
         Settled::Compared(_) => Status::Done,
     }
 }
