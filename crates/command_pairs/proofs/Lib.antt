@@ -1,3 +1,4 @@
 pub mod PairParts
 pub mod Fitting
 pub mod PairInputs
+pub mod GradeRows

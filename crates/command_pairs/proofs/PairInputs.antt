@@ -72,7 +72,7 @@ module _ (now before : List ℕ → Option (List ℕ) → Type 0) (same : IsSame
   most_held (inputs.Drawn d) p q n h = h
   most_held (inputs.OfKind w) p q n h = h
 
-  pub pair_refused : (w : InputWords) (pre : Option Checked) (p q : Checked) (h : Halted) → IsRefusedPair now w pre p q h → IsRefusedPair
-      before w pre p q h
-  pair_refused w pre p q h (inl stops) = inl (words_stop w h stops)
-  pair_refused w pre p q h (inr refused) = inr (refused.0, most_held w p q refused.0 refused.1, refused.2)
+  pub pair_refused : (w : InputWords) (pre : Option Checked) (p q r : Checked) (h : Halted) → IsRefusedPair now w pre p q r h →
+      IsRefusedPair before w pre p q r h
+  pair_refused w pre p q r h (inl stops) = inl (words_stop w h stops)
+  pair_refused w pre p q r h (inr refused) = inr (refused.0, most_held w p r refused.0 refused.1, refused.2)

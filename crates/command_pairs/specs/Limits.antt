@@ -45,12 +45,21 @@ HasNoLimit words text (Some e) why = IsUnlimited words text e why
 pub record AreLimits (words : PairWords) (text : List ℕ) (l : Limits) : Type 0 where
   pub time : IsLimitBy words.second.sizes.items text (option_map (λ e. e.now) words.most_time) l.time
   pub work : IsLimitBy words.second.sizes.items text (option_map (λ e. e.now) words.most_work) l.work
+  pub stops : l.stops ≡ words.is_graded
 
 -- one of them is none
 abbrev pub HasNoLimits : PairWords → (text : List ℕ) → Stop → Type 0
 HasNoLimits words text why =
     HasNoLimit words.second.sizes.items text (option_map (λ e. e.now) words.most_time) why
     ⊎ HasNoLimit words.second.sizes.items text (option_map (λ e. e.now) words.most_work) why
+
+-- the most processors, by the same
+abbrev pub AreMostProcs : PairWords → (text : List ℕ) → Option ℕ → Type 0
+AreMostProcs words text most = IsLimitBy words.second.sizes.items text (option_map (λ e. e.now) words.most_procs) most
+
+abbrev pub HasNoMostProcs : PairWords → (text : List ℕ) → Halted → Type 0
+HasNoMostProcs words text h =
+    HasNoLimit words.second.sizes.items text (option_map (λ e. e.now) words.most_procs) h.stop × (h.about ≡ about.Nothing)
 
 abbrev pub HaveNoLimits : PairWords → (text : List ℕ) → Halted → Type 0
 HaveNoLimits words text h = HasNoLimits words text h.stop × (h.about ≡ about.Nothing)

@@ -5,11 +5,13 @@ use Rattle.std.specs.Option.{unwrap_or}
 use Rattle.pram_model.specs.Layout.{SharedEntry, total_size}
 use Rattle.pram_model.specs.Names.{same_text}
 use Rattle.pram_check.specs.Checked.{Checked}
+use Rattle.pram_check.specs.OtherRule.{under}
+use Rattle.pram_model.specs.declared.rule.Rule.{Rule}
 use Rattle.scopes.specs.Scopes.{inputs_of}
 use Rattle.memory_texts.specs.Chosen.{is_chosen, parts}
 use Rattle.memory_texts.specs.declared.choice.Choice.{Choice}
 use Rattle.memory_texts.specs.declared.choice.Choice.TheVariants.{All, Named, Nothing}
-use Rattle.comparing.specs.Common.{common, common_named, first_front_cells, front_cells}
+use Rattle.comparing.specs.Common.{common, common_named, first_front_cells, front_cells, whole}
 use Rattle.drawn_kinds.specs.Names.{declarations}
 use Rattle.comparing.specs.Found.{AreOfKind, drawn_inputs, found, found_is, longest, most_told, too_long}
 use Rattle.comparing.specs.declared.compared.CommonRange.{CommonRange}
@@ -31,7 +33,7 @@ use Rattle.program_texts.specs.declared.stop.Stop.TheVariants as stop
 use Rattle.command_facts.specs.declared.found.FoundPair.{FoundPair}
 use Rattle.diagnoses.specs.declared.halted.Halted.{Halted}
 use Rattle.command_facts.specs.Held.{IsInputIn, StopsAtInput, StopsAtProgram}
-use Rattle.command_pairs.specs.Limits.{AreLimits, HaveNoLimits}
+use Rattle.command_pairs.specs.Limits.{AreLimits, AreMostProcs, HaveNoLimits, HasNoMostProcs}
 use Rattle.command_facts.specs.Refused.{AreNumbers, IsProgramIn, IsProgramOfText, IsProgramWhereNamed, StopsWhereNamed}
 
 -- ---- what is compared
@@ -40,11 +42,15 @@ use Rattle.command_facts.specs.Refused.{AreNumbers, IsProgramIn, IsProgramOfText
 abbrev pub range_named : Choice → (first second : List SharedEntry) → SharedEntry → Option CommonRange
 range_named choice first second e = if is_chosen choice e.name then common_named first second e.name else None
 
--- the cells of all declarations that both have, or of those that are named, in the order of the first program
-abbrev pub ranges_of : Choice → (first second : List SharedEntry) → List CommonRange
-ranges_of All first second = common first second
-ranges_of Nothing first second = []
-ranges_of (Named word) first second = filter_map (range_named (Named word) first second) first
+-- of all declarations that both have; where the second program is graded, of all that the first has
+abbrev pub all_ranges : (graded : Bool) → (first second : List SharedEntry) → List CommonRange
+all_ranges graded first second = if graded then whole first second else common first second
+
+-- all these cells, or those of the declarations that are named, in the order of the first program
+abbrev pub ranges_of : Choice → (graded : Bool) → (first second : List SharedEntry) → List CommonRange
+ranges_of All graded first second = all_ranges graded first second
+ranges_of Nothing graded first second = []
+ranges_of (Named word) graded first second = filter_map (range_named (Named word) first second) first
 
 -- a name that is neither that of the output nor of a declaration that both have
 abbrev pub is_uncommon : (first second : List SharedEntry) → (name : List ℕ) → Bool
@@ -56,17 +62,23 @@ uncommon_name All first second = None
 uncommon_name Nothing first second = None
 uncommon_name (Named word) first second = find (is_uncommon first second) (parts word.now)
 
--- the output and all that both declare, or what is named, by the limits that are asked for, of the second program, which has this text
+-- the output and all that is compared of the declarations, or what is named, by the limits that are asked for, of the second program,
+-- which has this text
 pub record IsCompared (words : PairWords) (first second : List SharedEntry) (text : List ℕ) (c : Compared) : Type 0 where
   pub there : uncommon_name words.only first second ≡ None
   pub output : c.output ≡ is_chosen words.only (codes "output")
-  pub ranges : c.ranges.items ≡ ranges_of words.only first second
+  pub ranges : c.ranges.items ≡ ranges_of words.only words.is_graded first second
   pub limits : AreLimits words text c.limits
 
 -- ---- the inputs
 
 abbrev pub IsInputOfFile : (List ℕ → Option (List ℕ) → Type 0) → InputFile → List ℤ → Type 0
 IsInputOfFile holds file values = IsInputIn (holds file.name.now) values
+
+-- the program beside which the first begins with declarations of which cells are drawn: the second, or, where that is graded, the first
+-- itself, so that the inputs are the same whatever is graded
+abbrev pub drawn_beside : (graded : Bool) → (p q : Checked) → Checked
+drawn_beside graded p q = if graded then p else q
 
 -- how many cells are drawn: as many as the words say, or those of the declarations with which both programs begin
 abbrev pub cells_drawn : DrawnWords → (p q : Checked) → ℕ
@@ -108,21 +120,33 @@ pub record IsFoundBy (w : Option Checked) (p q : Checked) (c : Compared) (bound 
   pub fit : too_long w p q values ≡ None
   pub found : found_is f ≡ found w p q c bound (most_told values) is
 
-abbrev pub IsFoundOn : (List ℕ → Option (List ℕ) → Type 0) → Option Checked → (p q : Checked) → Compared → InputWords → (bound : ℕ)
+-- the inputs are those of the first program beside a program r
+abbrev pub IsFoundOn : (List ℕ → Option (List ℕ) → Type 0) → Option Checked → (p q r : Checked) → Compared → InputWords → (bound : ℕ)
     → Comparison → Type 0
-IsFoundOn holds w p q c words bound f =
-    (is : List (List ℤ)) × AreInputs holds words p q is × IsFoundBy w p q c bound (most_values words p q is) is f
+IsFoundOn holds w p q r c words bound f =
+    (is : List (List ℤ)) × AreInputs holds words p r is × IsFoundBy w p q c bound (most_values words p r is) is f
 
--- of the programs of the two files, by the text of the second one, and by the precondition, where a file is named for it
+-- a program under the rule that is asked for, or under its own
+abbrev pub under_rule : Option Rule → Checked → Checked
+under_rule None program = program
+under_rule (Some rule) program = under rule program
+
+-- of the programs of the two files, the second under the rule that is asked for, by the text of the second one, and by the precondition,
+-- where a file is named for it
 pub record IsPaired (holds : List ℕ → Option (List ℕ) → Type 0) (words : PairWords) (f : FoundPair) : Type 0 where
   pub first : IsProgramIn holds words.first f.first
   pub text : List ℕ
-  pub second : IsProgramOfText holds words.second text f.second
+  pub written : Checked
+  pub second : IsProgramOfText holds words.second text written
+  pub ran : f.second ≡ under_rule words.under written
+  pub declared : f.rule ≡ written.rule
+  pub procs : AreMostProcs words text f.most_procs
   pub precondition : IsProgramWhereNamed holds words.precondition f.precondition
-  pub drawn : f.drawn ≡ drawn_of words.inputs f.first f.second
+  pub drawn : f.drawn ≡ drawn_of words.inputs f.first (drawn_beside words.is_graded f.first f.second)
   pub compared : Compared
   pub is_compared : IsCompared words f.first.layout f.second.layout text compared
-  pub found : IsFoundOn holds f.precondition f.first f.second compared words.inputs words.bound f.comparison
+  pub found : IsFoundOn holds f.precondition f.first f.second (drawn_beside words.is_graded f.first f.second) compared words.inputs
+      words.bound f.comparison
 
 -- ---- why nothing is
 
@@ -175,24 +199,28 @@ IsTooLong w p q values (stop.Refused refusal.OutOfMemory) a = a ≡ about.Nothin
 IsTooLong w p q values _ a = ⊥
 
 -- the runs are refused
-abbrev pub IsRefusedPair : (List ℕ → Option (List ℕ) → Type 0) → InputWords → Option Checked → (p q : Checked) → Halted → Type 0
-IsRefusedPair holds words w p q h =
-    StopsAtWords holds words h ⊎ ((values : ℕ) × AreMost holds words p q values × IsTooLong w p q values h.stop h.about)
+abbrev pub IsRefusedPair : (List ℕ → Option (List ℕ) → Type 0) → InputWords → Option Checked → (p q r : Checked) → Halted → Type 0
+IsRefusedPair holds words w p q r h =
+    StopsAtWords holds words h ⊎ ((values : ℕ) × AreMost holds words p r values × IsTooLong w p q values h.stop h.about)
 
 -- a limit has no number by the text of the second program
 abbrev pub StopsAtLimits : (List ℕ → Option (List ℕ) → Type 0) → PairWords → Halted → Type 0
-StopsAtLimits holds words h = (text : List ℕ) × holds words.second.name.now (Some text) × HaveNoLimits words text h
+StopsAtLimits holds words h =
+    (text : List ℕ) × holds words.second.name.now (Some text) × (HaveNoLimits words text h ⊎ HasNoMostProcs words text h)
 
 -- behind all files of programs: at what is to be compared, at a limit, at an input, or at the runs
 pub record StopsBehindAll (holds : List ℕ → Option (List ℕ) → Type 0) (words : PairWords) (h : Halted) : Type 0 where
   pub first : Checked
+  pub written : Checked
   pub second : Checked
   pub is_first : IsProgramIn holds words.first first
-  pub is_second : IsProgramIn holds words.second second
+  pub is_second : IsProgramIn holds words.second written
+  pub ran : second ≡ under_rule words.under written
   pub precondition : Option Checked
   pub is_precondition : IsProgramWhereNamed holds words.precondition precondition
   pub refused : IsUncommonIn words first.layout second.layout h.stop h.about
-      ⊎ (StopsAtLimits holds words h ⊎ IsRefusedPair holds words.inputs precondition first second h)
+      ⊎ (StopsAtLimits holds words h
+      ⊎ IsRefusedPair holds words.inputs precondition first second (drawn_beside words.is_graded first second) h)
 
 -- why nothing is found: for the first file, for the second, for that of the precondition, or behind all
 abbrev pub StopsAtPair : (List ℕ → Option (List ℕ) → Type 0) → PairWords → Halted → Type 0

@@ -72,7 +72,11 @@ fn both<'a>(alloc: Global, words: &PairWords<'a>, text: &[u8]) -> Result<Limits,
 {
     let time = limit_of(alloc, &words.second.sizes, text, words.most_time)?;
     let work = limit_of(alloc, &words.second.sizes, text, words.most_work)?;
-    Ok(Limits { time, work })
+    Ok(Limits {
+        time,
+        work,
+        stops: words.is_graded,
+    })
 }
 
 /// The limits of the second program, which has this text.
@@ -87,6 +91,22 @@ pub(crate) fn limits_of<'a>(
 {
     match both(alloc, words, text) {
         Ok(limits) => Ok(limits),
+        Err(stop) => Err(Halted::from(stop)),
+    }
+}
+
+/// The most processors that the second program may declare, which has this text.
+pub(crate) fn most_procs_of<'a>(
+    alloc: Global,
+    words: &PairWords<'a>,
+    text: &[u8],
+) -> Result<Option<u64>, Halted<'a>>
+    requires plain { IsPlain text.now }
+    ensures most { IfOk result (spec.AreMostProcs words.now text.now) }
+    ensures refused { IfErr result (spec.HasNoMostProcs words.now text.now) }
+{
+    match limit_of(alloc, &words.second.sizes, text, words.most_procs) {
+        Ok(most) => Ok(most),
         Err(stop) => Err(Halted::from(stop)),
     }
 }

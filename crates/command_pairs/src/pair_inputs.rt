@@ -22,6 +22,7 @@ pub(crate) fn load_inputs<'a, S: Sources>(
     ensures held { IfOk result (λ inputs. AllZip (spec.IsInputOfFile (S.Sources.holds sources.old)) files.now
         (map values_of inputs.items)) }
     ensures refused { IfErr result (spec.StopsAtInputs (S.Sources.holds sources.old) files.now) }
+    ensures same { IsSame (S.Sources.holds sources.new) (S.Sources.holds sources.old) }
 {
     let mut inputs = Vec::new(alloc);
     for file in files {

@@ -4,7 +4,7 @@ use Rattle.comparing.specs.Found.{longest, too_long, values_of}
 use Rattle.comparing.specs.declared.refusal.ComparisonRefusal.{ComparisonRefusal}
 use Rattle.command_pairs.specs.Pairs.{IsFoundBy}
 use Rattle.command_pairs.proofs.Fitting.{none_told}
-use Rattle.command_pairs.proofs.pairing.on_files.Goals as goal
+use Rattle.command_pairs.proofs.trying.on_files.Goals as goal
 
 pub halted-requires : goal.halted-requires
 halted-requires g c =

@@ -2,7 +2,7 @@ use Rattle.std.proofs.Common.{◌≡◌, drop, length}
 use Rattle.std.specs.List.{find}
 use Rattle.memory_texts.specs.Chosen.{parts}
 use Rattle.command_pairs.specs.Pairs.{is_uncommon}
-use Rattle.command_pairs.proofs.pairing.uncommon_part.Given as goal
+use Rattle.command_pairs.proofs.choosing.uncommon_part.Given as goal
 
 abbrev pub invariant-loop-part : goal.invariant-loop-part
 invariant-loop-part l =

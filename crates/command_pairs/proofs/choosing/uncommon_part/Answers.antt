@@ -8,7 +8,7 @@ use Rattle.std.specs.Prelude.{Some}
 use Rattle.memory_texts.specs.Chosen.{parts}
 use Rattle.command_pairs.specs.Pairs.{is_uncommon}
 use Rattle.command_pairs.proofs.PairParts.{found_more}
-use Rattle.command_pairs.proofs.pairing.uncommon_part.Goals as goal
+use Rattle.command_pairs.proofs.choosing.uncommon_part.Goals as goal
 
 pub returns-then-is_uncommon : goal.returns-then-is_uncommon
 returns-then-is_uncommon c =

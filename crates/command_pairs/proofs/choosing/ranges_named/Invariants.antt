@@ -1,7 +1,7 @@
 use Rattle.std.proofs.Common.{◌≡◌, take}
 use Rattle.std.specs.List.{filter_map}
 use Rattle.command_pairs.specs.Pairs.{range_named}
-use Rattle.command_pairs.proofs.pairing.ranges_named.Given as goal
+use Rattle.command_pairs.proofs.choosing.ranges_named.Given as goal
 
 -- there are those of the declarations so far
 abbrev pub invariant-loop-i : goal.invariant-loop-i

@@ -3,7 +3,7 @@ use Rattle.std.specs.List.{cons_option, filter_map}
 use Rattle.comparing.specs.declared.compared.CommonRange.{CommonRange}
 use Rattle.scopes.proofs.Lists.{chosen_until, there}
 use Rattle.command_pairs.specs.Pairs.{range_named}
-use Rattle.command_pairs.proofs.pairing.ranges_named.Goals as goal
+use Rattle.command_pairs.proofs.choosing.ranges_named.Goals as goal
 
 pub loop-i-preserved : goal.loop-i-preserved
 loop-i-preserved c =
