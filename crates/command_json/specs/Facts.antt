@@ -70,6 +70,8 @@ IsUntold (settled.Explanation subject) = Unit {0}
 IsUntold (settled.Expanded s) = Unit {0}
 IsUntold (settled.Planned code) = Unit {0}
 IsUntold (settled.Exported code) = Unit {0}
+IsUntold (settled.ExportedAlone code) = Unit {0}
+IsUntold (settled.Graded f) = Unit {0}
 IsUntold _ = ⊥
 
 -- why no lines are made: memory was refused, or what was found is not told so

@@ -181,6 +181,8 @@ fn text_of<'a>(alloc: Global, found: &Settled<'_>) -> Result<String, Stop<'a>>
         Settled::Expanded(_) => Err(Stop::Number(JSON)),
         Settled::Planned(_) => Err(Stop::Number(JSON)),
         Settled::Exported(_) => Err(Stop::Number(JSON)),
+        Settled::ExportedAlone(_) => Err(Stop::Number(JSON)),
+        Settled::Graded(_) => Err(Stop::Number(JSON)),
     }
 }
 

@@ -71,6 +71,7 @@ Takes given.Under word = IsRule word
 Takes given.Count word = AreDrawn word
 Takes given.TimeAtMost word = IsNumber word
 Takes given.WorkAtMost word = IsNumber word
+Takes given.ProcsAtMost word = IsNumber word
 Takes given.Size word = ⊥
 Takes given.Sweep word = ⊥
 Takes given.Format word = (word ≡ codes "text") ⊎ (word ≡ codes "json")

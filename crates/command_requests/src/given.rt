@@ -28,6 +28,7 @@ pub enum Given {
     Count,
     TimeAtMost,
     WorkAtMost,
+    ProcsAtMost,
     Size,
     Format,
     /// The workers that `cost` tells of, of which there may be any number.
@@ -37,7 +38,7 @@ pub enum Given {
 }
 
 /// Those for which words of their own names are given.
-pub(crate) const NAMED: [Given; 25] = [
+pub(crate) const NAMED: [Given; 26] = [
     Given::Bound,
     Given::Seconds,
     Given::Random,
@@ -60,6 +61,7 @@ pub(crate) const NAMED: [Given; 25] = [
     Given::Count,
     Given::TimeAtMost,
     Given::WorkAtMost,
+    Given::ProcsAtMost,
     Given::Size,
     Given::Format,
     Given::Subject,
@@ -93,6 +95,7 @@ impl Given {
             Given::Count => b"--count",
             Given::TimeAtMost => b"--time-at-most",
             Given::WorkAtMost => b"--work-at-most",
+            Given::ProcsAtMost => b"--procs-at-most",
             Given::Size => b"--size",
             Given::Format => b"--format",
             Given::ToldWorkers => b"--workers",

@@ -2,6 +2,7 @@
 #![tactic(auto)]
 
 mod always_words;
+mod arrange_words;
 mod cost_words;
 mod expanding;
 mod explain_word;
@@ -31,6 +32,7 @@ mod word;
 mod wrong;
 
 pub use always_words::AlwaysWords;
+pub use arrange_words::{ArrangeForm, ArrangeWords};
 pub use cost_words::CostWords;
 pub use expanding::expanded;
 pub use explain_word::asks_to_explain;
@@ -41,7 +43,7 @@ pub use input_words::{DrawnWords, FewInputs, InputFile, InputWords, KindWords, M
 pub use laws::what_is_told_is_wrong;
 pub use not_text::NotText;
 pub use opening::Opening;
-pub use pair_words::PairWords;
+pub use pair_words::{GradeWords, PairWords};
 pub use reader::Reader;
 pub use request::{ProgramFile, Request, SizeWord};
 pub use run_words::{MeaningWords, RunWords};

@@ -1,9 +1,10 @@
 //! What a call of the program asks for.
 
 use crate::always_words::AlwaysWords;
+use crate::arrange_words::ArrangeWords;
 use crate::cost_words::CostWords;
 use crate::opening::Opening;
-use crate::pair_words::PairWords;
+use crate::pair_words::{GradeWords, PairWords};
 use crate::run_words::{MeaningWords, RunWords};
 use crate::scope_words::ScopeWords;
 use crate::specification_files::SpecificationFiles;
@@ -41,10 +42,14 @@ pub enum Request<'a> {
     Check(ProgramFile<'a>),
     /// The text of the language that a text stands for is written, whether or not that is a program.
     Expand(ProgramFile<'a>),
+    /// The texts of files, which are read by the grammar alone, are laid out anew.
+    Arrange(ArrangeWords<'a>),
     /// The code of a program is shown.
     Plan(ProgramFile<'a>),
-    /// The code of a program is written as a program in C.
+    /// The code of a program is written as a program in C over MPI.
     Export(ProgramFile<'a>),
+    /// The code of a program is written as a program in C for one memory.
+    PlainC(ProgramFile<'a>),
     /// A program is run by its definition, and of memory some declarations are shown.
     Meaning {
         file: ProgramFile<'a>,
@@ -101,6 +106,8 @@ pub enum Request<'a> {
     },
     /// Two programs are run by their definitions on the same inputs.
     Pair(PairWords<'a>),
+    /// Programs are run by their definitions on the same inputs as a first one, and are graded by it.
+    Grade(GradeWords<'a>),
     /// A listing is run by workers, and of memory some declarations are shown.
     Listing {
         file: &'a str,

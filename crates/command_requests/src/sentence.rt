@@ -37,6 +37,7 @@ fn wanted(given: Given) -> &'static [u8]
         Given::Count => b"a number from 1 to 1000000",
         Given::TimeAtMost => b"a number, or an expression of the sizes of FILE2, as 4*log(n)+10",
         Given::WorkAtMost => b"a number, or an expression of the sizes of FILE2, as 4*log(n)+10",
+        Given::ProcsAtMost => b"a number, or an expression of the sizes of FILE2, as 4*log(n)+10",
         Given::Size => {
             b"NAME=VALUE, once for each size that the program declares, VALUE from 0 to 9223372036854775807"
         }

@@ -119,7 +119,7 @@ pub(crate) fn takes(given: Given, word: &str) -> bool
 {
     match given {
         Given::Bound | Given::Workers | Given::From | Given::To | Given::Seed => is_number(word),
-        Given::TimeAtMost | Given::WorkAtMost => is_number(word),
+        Given::TimeAtMost | Given::WorkAtMost | Given::ProcsAtMost => is_number(word),
         Given::Seconds | Given::Schedule | Given::ToldWorkers => is_count(word),
         Given::Map => is_map(word),
         Given::Reserve | Given::Bsp => is_pair(word),

@@ -17,7 +17,7 @@ mod tracing;
 mod unlike;
 
 pub use exploring::find_scope;
-pub use finding_code::find_code;
+pub use finding_code::{find_code, find_plain_c};
 pub use finding_meaning::{find_cost, find_meaning};
 pub use finding_rules::find_rules;
 pub use finding_run::{find_code_run, find_run, find_trace};

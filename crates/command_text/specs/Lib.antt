@@ -2,6 +2,7 @@ pub mod Traces
 pub mod Costs
 pub mod Steps
 pub mod Spans
+pub mod Grades
 pub mod Texts
 pub mod Explained
 pub mod Stepped

@@ -26,6 +26,7 @@ use Rattle.comparing.specs.Found as pairs
 use Rattle.comparing.specs.ComparisonText as pair_texts
 use Rattle.scopes.specs.Found.{found_is}
 use Rattle.scopes.specs.FindingsText.{findings_text}
+use Rattle.mpi_export.specs.Alone.{alone_text}
 use Rattle.mpi_export.specs.Program.{c_text}
 use Rattle.journal.specs.Entries.{Entry}
 use Rattle.pages.specs.Pages.{IsPage}
@@ -41,12 +42,13 @@ use Rattle.command_facts.specs.declared.found.Settled.{Settled}
 use Rattle.command_facts.specs.declared.found.Settled.TheVariants as settled
 use Rattle.command_text.specs.declared.terminal.Terminal.{Terminal}
 use Rattle.command_text.specs.Costs.{costs_text}
+use Rattle.command_text.specs.Grades.{grade_text}
 use Rattle.command_text.specs.Spans.{chosen_spans}
 use Rattle.command_text.specs.Steps.{IsTelling, told_text}
 use Rattle.command_text.specs.Traces.{counts_text, outcome_text}
 
 abbrev pub version_text : List ℕ
-version_text = line (codes "pramc 1.8.0")
+version_text = line (codes "pramc 1.9.0")
 
 -- `accepted cells 16 procs 8 rule erew`
 abbrev pub accepted_line : Checked → List ℕ
@@ -104,11 +106,13 @@ IsTextOf (settled.Accepted l) text = text ≡ accepted_line l.program
 IsTextOf (settled.Expanded s) text = text ≡ text_in s
 IsTextOf (settled.Planned code) text = text ≡ spelling code
 IsTextOf (settled.Exported code) text = text ≡ c_text code
+IsTextOf (settled.ExportedAlone code) text = text ≡ alone_text code
 IsTextOf (settled.Compared c) text = text ≡ comparison_text c
 IsTextOf (settled.Explored f) text = text ≡ findings_text f.program.layout f.specification (found_is f.findings)
 IsTextOf (settled.Surveyed f) text = text ≡ told_of_all f.program.layout f.scope f.told
 IsTextOf (settled.Paired p) text =
     text ≡ pair_texts.comparison_text p.first.layout p.second.layout p.precondition p.drawn (pairs.found_is p.comparison)
+IsTextOf (settled.Graded f) text = text ≡ grade_text f
 IsTextOf (settled.Run r told) text = text ≡ shown_by told r.loaded.program.layout (verdict_of r.outcome)
 IsTextOf (settled.Costed r told c) text = text ≡ costs_text (verdict_of r.outcome) c told.schedule told.lines ++ outcome_text r
 IsTextOf (settled.Traced r told t) text = text ≡ counts_text told.drawn told (outcome_text r) t

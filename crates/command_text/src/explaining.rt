@@ -373,9 +373,11 @@ pub(crate) fn explain<V: Watch, E: Out>(
         Settled::Expanded(_) => {}
         Settled::Planned(_) => {}
         Settled::Exported(_) => {}
+        Settled::ExportedAlone(_) => {}
         Settled::Explored(_) => {}
         Settled::Surveyed(_) => {}
         Settled::Paired(_) => {}
+        Settled::Graded(_) => {}
         Settled::Compared(_) => {}
         Settled::Swept(_) => {}
     }

@@ -5,6 +5,7 @@ mod answering;
 mod choosing;
 mod explaining;
 mod flowing;
+mod grading;
 mod paging;
 mod picturing;
 mod stepping;

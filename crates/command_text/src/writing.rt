@@ -12,6 +12,7 @@ ghost use Rattle.comparing.specs.Found as pairs;
 ghost use Rattle.comparing.specs.ComparisonText as pair_texts;
 ghost use Rattle.scopes.specs.Found.{found_is};
 ghost use Rattle.scopes.specs.FindingsText.{findings_text};
+ghost use Rattle.mpi_export.specs.Alone.{alone_text};
 ghost use Rattle.mpi_export.specs.Program.{c_text};
 ghost use Rattle.comparing.specs.RulesText.{comparison_text};
 ghost use Rattle.superstep_listing.specs.Listing.{spelling};
@@ -27,7 +28,7 @@ use costs::{Cost, write_cost, write_lines};
 use help::{Subject, write_explanation};
 use itoa::Buffer;
 use memory_texts::{Choice, show_chosen};
-use mpi_export::write_program;
+use mpi_export::{AlonePlan, write_alone, write_program};
 use pram_check::Program;
 use pram_trees::Layout;
 use program_texts::{Status, Stop, finish, show};
@@ -135,6 +136,15 @@ pub(crate) fn write_export<'a, O: Out>(out: &mut O, code: &Code) -> Result<Statu
         (O.Out.state out.old) (O.Out.state out.new) result }
 {
     write_program(code, out)?;
+    finish(out, Status::Done)
+}
+
+/// Writes a plan as a program in C for one memory.
+pub(crate) fn write_plain_c<'a, O: Out>(out: &mut O, plan: &AlonePlan) -> Result<Status, Stop<'a>>
+    ensures written { Wrote Done (alone_text plan.now)
+        (O.Out.state out.old) (O.Out.state out.new) result }
+{
+    write_alone(plan, out)?;
     finish(out, Status::Done)
 }
 

@@ -1,6 +1,6 @@
 //! The grammar of command lines, for the parser, by the tables of subcommands and options.
 
-use crate::options::{CommandOption, Follows, options_of};
+use crate::options::{CommandOption, FILES, Follows, options_of};
 use crate::subcommands::{Place, SUBCOMMANDS, Subcommand};
 use clap::{Arg, ArgAction, Command};
 use command_requests::VERSION;
@@ -22,12 +22,17 @@ fn option<'a>(alloc: Global, words: &CommandOption) -> Arg<'a> {
 
 // What the parser is told of a word in its place.
 fn argument<'a>(alloc: Global, words: &Place) -> Arg<'a> {
-    let arg = Arg::new(alloc, words.name).help(words.help);
-    if words.is_required {
-        arg.required(true)
-    } else {
-        arg
+    let mut arg = Arg::new(alloc, words.name).help(words.help);
+    if words.name == FILES {
+        arg = arg.value_name("FILE");
     }
+    if words.is_many {
+        arg = arg.num_args(1..).action(ArgAction::Append);
+    }
+    if words.is_required {
+        arg = arg.required(true);
+    }
+    arg
 }
 
 fn with_places<'a>(

@@ -64,13 +64,21 @@ pub(crate) enum Group {
     Shared,
     // a listing in the place of a program
     Listed,
+    // which form of C is written
+    Formed,
     // the inputs on which two programs are compared
     Tried,
     // what is compared of two programs, and their limits
     Compared,
+    // what is done with a text that is laid out
+    LaidOut,
+    // how many processors a program that is graded may declare
+    Graded,
 }
 
 pub(crate) const FILE: &str = "FILE";
+
+pub(crate) const FILES: &str = "FILE..";
 
 pub(crate) const SECOND: &str = "FILE2";
 
@@ -151,6 +159,12 @@ pub(crate) const COUNT: &str = "count";
 pub(crate) const TIME_AT_MOST: &str = "time-at-most";
 
 pub(crate) const WORK_AT_MOST: &str = "work-at-most";
+
+pub(crate) const CHECK: &str = "check";
+
+pub(crate) const STDOUT: &str = "stdout";
+
+pub(crate) const PROCS_AT_MOST: &str = "procs-at-most";
 
 const EXPLAINED: &str = "explain";
 
@@ -395,6 +409,12 @@ const LISTED: &[CommandOption] = &[CommandOption {
     help: "Writes this listing in place of a program",
 }];
 
+const FORMED: &[CommandOption] = &[CommandOption {
+    name: TO,
+    follows: Follows::WordOr("FORM", "mpi"),
+    help: "The form: mpi, c or openmp",
+}];
+
 const TRIED: &[CommandOption] = &[
     CommandOption {
         name: INPUT,
@@ -441,6 +461,25 @@ const COMPARED: &[CommandOption] = &[
     },
 ];
 
+const LAID_OUT: &[CommandOption] = &[
+    CommandOption {
+        name: CHECK,
+        follows: Follows::Nothing,
+        help: "Names the files that would change, and writes none",
+    },
+    CommandOption {
+        name: STDOUT,
+        follows: Follows::Nothing,
+        help: "Writes the texts to standard output, and no file",
+    },
+];
+
+const GRADED: &[CommandOption] = &[CommandOption {
+    name: PROCS_AT_MOST,
+    follows: Follows::Word("E"),
+    help: "The most procs of FILE2, the same",
+}];
+
 /// The options of a group, in the order of the help.
 pub(crate) fn options_of(group: Group) -> &'static [CommandOption] {
     match group {
@@ -464,7 +503,10 @@ pub(crate) fn options_of(group: Group) -> &'static [CommandOption] {
         Group::Ruled => RULED,
         Group::Shared => SHARED,
         Group::Listed => LISTED,
+        Group::Formed => FORMED,
         Group::Tried => TRIED,
         Group::Compared => COMPARED,
+        Group::LaidOut => LAID_OUT,
+        Group::Graded => GRADED,
     }
 }

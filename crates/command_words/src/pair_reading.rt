@@ -4,11 +4,11 @@ ghost use Rattle.std.specs.Prelude.{IfErr};
 ghost use Rattle.command_requests.specs.Words.{IsOfWords};
 
 use crate::options::{
-    BOUND, CELLS, COUNT, DRAW, INPUT, ONLY, PERMUTATIONS, RANDOM, SEED, TIME_AT_MOST, VALUES,
-    WORK_AT_MOST,
+    BOUND, CELLS, COUNT, DRAW, INPUT, ONLY, PERMUTATIONS, PROCS_AT_MOST, RANDOM, SEED,
+    TIME_AT_MOST, VALUES, WORK_AT_MOST,
 };
 use crate::run_reading::{kind_of, number_of, seed_of};
-use crate::scope_reading::{count_of, few_inputs};
+use crate::scope_reading::{count_of, few_inputs, rule_of};
 use clap::ArgMatches;
 use command_requests::{
     DrawnWords, InputFile, InputWords, KindWords, MOST_CELLS, MOST_DRAWN, PairWords, ProgramFile,
@@ -161,6 +161,27 @@ pub(crate) fn pair_words<'a>(
         only,
         most_time: words.get_str(TIME_AT_MOST),
         most_work: words.get_str(WORK_AT_MOST),
+        most_procs: None,
+        under: None,
+        is_graded: false,
         bound,
     })
+}
+
+/// The same, where the second program is graded by the first.
+pub(crate) fn graded_words<'a>(
+    alloc: Global,
+    words: &ArgMatches<'a>,
+    first: ProgramFile<'a>,
+    second: ProgramFile<'a>,
+    precondition: Option<ProgramFile<'a>>,
+) -> Result<PairWords<'a>, Stop<'a>>
+    ensures { IfErr result IsOfWords }
+{
+    let under = rule_of(words)?;
+    let mut pair = pair_words(alloc, words, first, second, precondition)?;
+    pair.under = under;
+    pair.most_procs = words.get_str(PROCS_AT_MOST);
+    pair.is_graded = true;
+    Ok(pair)
 }

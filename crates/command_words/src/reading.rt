@@ -6,10 +6,10 @@ ghost use Rattle.command_requests.specs.Words.{AsksForVersion, IsOfWords};
 
 use crate::grammar::grammar;
 use crate::options::{
-    BOUND, BSP, ENSURE, FILE, FLOW, FORMAT, HTML, LINES, LISTING_FILE, OUTCOME, SCHEDULE, SECOND,
-    SECONDS, SIZE, SVG, SWEEP, WHERE, WORD,
+    BOUND, BSP, CHECK, ENSURE, FILE, FILES, FLOW, FORMAT, HTML, LINES, LISTING_FILE, OUTCOME,
+    SCHEDULE, SECOND, SECONDS, SIZE, STDOUT, SVG, SWEEP, TO, WHERE, WORD,
 };
-use crate::pair_reading::pair_words;
+use crate::pair_reading::{graded_words, pair_words};
 use crate::run_reading::{
     choice_of, cost_words, meaning_words, number_of, opening_of, run_words, step_words,
     sweep_words, trace_words,
@@ -17,7 +17,10 @@ use crate::run_reading::{
 use crate::scope_reading::{always_words, scope_words};
 use clap::ArgMatches;
 use clap::error::ErrorKind;
-use command_requests::{ProgramFile, Request, SizeWord, SpecificationFiles, asks_for_version};
+use command_requests::{
+    ArrangeForm, ArrangeWords, GradeWords, PairWords, ProgramFile, Request, SizeWord,
+    SpecificationFiles, asks_for_version,
+};
 use help::subject_of;
 use program_texts::{Refusal, Stop};
 use std::alloc::{AllocError, Global};
@@ -158,6 +161,38 @@ fn asked_expansion<'a>(alloc: Global, matches: &ArgMatches<'a>) -> Result<Reques
 {
     check_format(matches, Over::Run)?;
     Ok(Request::Expand(file_of(alloc, matches)?))
+}
+
+// The files whose texts are laid out, which take no sizes.
+fn files_of<'a>(
+    alloc: Global,
+    matches: &ArgMatches<'a>,
+) -> Result<Vec<ProgramFile<'a>>, AllocError> {
+    let mut files = Vec::new(alloc);
+    if let Some(names) = matches.get_strs(FILES) {
+        for name in names {
+            files.push(ProgramFile {
+                name: *name,
+                sizes: Vec::new(alloc),
+            })?;
+        }
+    }
+    Ok(files)
+}
+
+// Where both are asked for, files are named and no text is written.
+fn asked_layout<'a>(alloc: Global, matches: &ArgMatches<'a>) -> Result<Request<'a>, Stop<'a>>
+    ensures { IfErr result IsOfWords }
+{
+    let form = if matches.get_flag(CHECK) {
+        ArrangeForm::Checked
+    } else if matches.get_flag(STDOUT) {
+        ArrangeForm::Shown
+    } else {
+        ArrangeForm::InPlace
+    };
+    let files = files_of(alloc, matches)?;
+    Ok(Request::Arrange(ArrangeWords { files, form }))
 }
 
 fn asked_plan<'a>(alloc: Global, matches: &ArgMatches<'a>) -> Result<Request<'a>, Stop<'a>>
@@ -305,11 +340,67 @@ fn asked_pair<'a>(alloc: Global, matches: &ArgMatches<'a>) -> Result<Request<'a>
     Ok(Request::Pair(words))
 }
 
+// The names of programs that are graded, in alphabetical order.
+fn graded_names<'a>(alloc: Global, matches: &ArgMatches<'a>) -> Result<Vec<&'a str>, AllocError> {
+    let mut names = Vec::new(alloc);
+    if let Some(words) = matches.get_strs(SECOND) {
+        for word in words {
+            names.push(*word)?;
+        }
+    }
+    names.sort()?;
+    Ok(names)
+}
+
+// The words by which one of them is compared with the first program, with the same sizes.
+fn graded_pair<'a>(
+    alloc: Global,
+    matches: &ArgMatches<'a>,
+    name: &'a str,
+) -> Result<PairWords<'a>, Stop<'a>>
+    ensures { IfErr result IsOfWords }
+{
+    let first = file_of(alloc, matches)?;
+    let sizes = size_words(alloc, matches)?;
+    let precondition = file_behind(alloc, matches, WHERE)?;
+    graded_words(
+        alloc,
+        matches,
+        first,
+        ProgramFile { name, sizes },
+        precondition,
+    )
+}
+
+// Programs that are graded by a first one.
+fn asked_grade<'a>(alloc: Global, matches: &ArgMatches<'a>) -> Result<Request<'a>, Stop<'a>>
+    ensures { IfErr result IsOfWords }
+{
+    check_format(matches, Over::Run)?;
+    let mut pairs = Vec::new(alloc);
+    for name in graded_names(alloc, matches)? {
+        let Ok(()) = pairs.push(graded_pair(alloc, matches, name)?) else {
+            return Err(Stop::Refused(Refusal::OutOfMemory));
+        };
+    }
+    let reference = file_of(alloc, matches)?;
+    Ok(Request::Grade(GradeWords { reference, pairs }))
+}
+
 fn asked_program_in_c<'a>(alloc: Global, matches: &ArgMatches<'a>) -> Result<Request<'a>, Stop<'a>>
     ensures { IfErr result IsOfWords }
 {
     check_format(matches, Over::Run)?;
-    Ok(Request::Export(file_of(alloc, matches)?))
+    match matches.get_str(TO) {
+        None | Some("mpi") => Ok(Request::Export(file_of(alloc, matches)?)),
+        Some("c") | Some("openmp") => Ok(Request::PlainC(file_of(alloc, matches)?)),
+        Some(word) => Err(Stop::Number(word)),
+    }
+}
+
+// Whether a listing, which has no sizes, is asked for in the form that there is of one.
+fn fits_listing(matches: &ArgMatches<'_>) -> bool {
+    matches.get_strs(SIZE).is_none() && matches!(matches.get_str(TO), None | Some("mpi"))
 }
 
 // A program or a listing, in C.
@@ -320,7 +411,7 @@ fn asked_export<'a>(alloc: Global, matches: &ArgMatches<'a>) -> Result<Request<'
     match (file, listing) {
         (Some(_), None) => asked_program_in_c(alloc, matches),
         (None, Some(file)) => {
-            if matches.get_strs(SIZE).is_some() {
+            if !fits_listing(matches) {
                 return Err(Stop::Number("--listing"));
             }
             Ok(Request::ListingInC { file })
@@ -467,7 +558,9 @@ pub(crate) fn read_words<'a>(alloc: Global, words: &'a [String]) -> Result<Reque
         Some(("explore", inner)) => asked_exploration(alloc, inner),
         Some(("always", inner)) => asked_always(alloc, inner),
         Some(("compare", inner)) => asked_pair(alloc, inner),
+        Some(("grade", inner)) => asked_grade(alloc, inner),
         Some(("expand", inner)) => asked_expansion(alloc, inner),
+        Some(("fmt", inner)) => asked_layout(alloc, inner),
         Some(("export", inner)) => asked_export(alloc, inner),
         Some(("exec", inner)) => asked_listing(inner),
         Some((_, inner)) => asked_subject(inner),

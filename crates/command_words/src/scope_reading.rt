@@ -60,8 +60,8 @@ fn orders_of<'a>(word: &'a str) -> Result<Scope, Stop<'a>>
     })
 }
 
-// The rule under which the program is run, if the command line has one.
-fn rule_of<'a>(words: &ArgMatches<'a>) -> Result<Option<Rule>, Stop<'a>>
+/// The rule under which a program is run, if the command line has one.
+pub(crate) fn rule_of<'a>(words: &ArgMatches<'a>) -> Result<Option<Rule>, Stop<'a>>
     ensures { IfErr result IsOfWords }
 {
     match words.get_str(UNDER) {

@@ -1,6 +1,6 @@
 //! The subcommands of the program, with their options and what its help says of them.
 
-use crate::options::{FILE, Group, SECOND, WORD};
+use crate::options::{FILE, FILES, Group, SECOND, WORD};
 
 /// A word of a subcommand in its place, and what the help says of it.
 #[derive(Clone, Copy)]
@@ -8,6 +8,8 @@ pub(crate) struct Place {
     pub(crate) name: &'static str,
     pub(crate) is_required: bool,
     pub(crate) help: &'static str,
+    /// Whether it may be followed by more of its kind.
+    pub(crate) is_many: bool,
 }
 
 /// A subcommand: what it is over, its options in the order of its help, and what that says.
@@ -26,12 +28,14 @@ const OVER_PROGRAM: &[Place] = &[Place {
     name: FILE,
     is_required: true,
     help: PROGRAM,
+    is_many: false,
 }];
 
 const OVER_SOME_PROGRAM: &[Place] = &[Place {
     name: FILE,
     is_required: false,
     help: PROGRAM,
+    is_many: false,
 }];
 
 const OVER_PROGRAMS: &[Place] = &[
@@ -39,24 +43,50 @@ const OVER_PROGRAMS: &[Place] = &[
         name: FILE,
         is_required: true,
         help: PROGRAM,
+        is_many: false,
     },
     Place {
         name: SECOND,
         is_required: true,
         help: "The text of the program that it is compared with",
+        is_many: false,
     },
 ];
+
+const OVER_GRADED: &[Place] = &[
+    Place {
+        name: FILE,
+        is_required: true,
+        help: "The text of the program by which others are graded",
+        is_many: false,
+    },
+    Place {
+        name: SECOND,
+        is_required: true,
+        help: "The text of a program that is graded, and of each more given so",
+        is_many: true,
+    },
+];
+
+const OVER_TEXTS: &[Place] = &[Place {
+    name: FILES,
+    is_required: true,
+    help: "Texts of PRAM programs",
+    is_many: true,
+}];
 
 const OVER_LISTING: &[Place] = &[Place {
     name: FILE,
     is_required: true,
     help: "A listing of superstep code",
+    is_many: false,
 }];
 
 const OVER_SUBJECT: &[Place] = &[Place {
     name: WORD,
     is_required: false,
     help: "A refusal, as E6, a fault, as read-conflict, a command, or language or options",
+    is_many: false,
 }];
 
 /// All subcommands.
@@ -216,6 +246,25 @@ pub(crate) const SUBCOMMANDS: &[Subcommand] = &[
             More: pramc explain compare",
     },
     Subcommand {
+        name: "grade",
+        about: "Grades programs by a first one, on the same inputs",
+        places: OVER_GRADED,
+        groups: &[
+            Group::Explain,
+            Group::Scoped,
+            Group::Ordered,
+            Group::Counting,
+            Group::Bounded,
+            Group::Tried,
+            Group::Compared,
+            Group::Graded,
+            Group::Ruled,
+            Group::Sizes,
+        ],
+        example: "Example: pramc grade examples/maximum.pram examples/maximum_doubly_log.pram --size n=4 --permutations 4 --only output\n\
+            More: pramc explain grade",
+    },
+    Subcommand {
         name: "expand",
         about: "Writes the text that its sizes give",
         places: OVER_PROGRAM,
@@ -223,10 +272,17 @@ pub(crate) const SUBCOMMANDS: &[Subcommand] = &[
         example: "Example: pramc expand examples/tree_sum.pram --size n=16\nMore: pramc explain expand",
     },
     Subcommand {
+        name: "fmt",
+        about: "Lays the texts of programs out anew, each in its file",
+        places: OVER_TEXTS,
+        groups: &[Group::Explain, Group::LaidOut],
+        example: "Example: pramc fmt --check examples/sum.pram\nMore: pramc explain fmt",
+    },
+    Subcommand {
         name: "export",
-        about: "Writes the superstep code of the program as C over MPI",
+        about: "Writes the superstep code of the program as C",
         places: OVER_SOME_PROGRAM,
-        groups: &[Group::Explain, Group::Listed, Group::Sizes],
+        groups: &[Group::Explain, Group::Listed, Group::Formed, Group::Sizes],
         example: "Example: pramc export examples/sum.pram > sum.c\nMore: pramc explain export",
     },
     Subcommand {

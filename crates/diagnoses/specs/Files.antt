@@ -29,6 +29,7 @@ abbrev pub of_unread : Unread → Message
 of_unread (unread.Missing near) = missing (option_map (λ v. v.items) near)
 of_unread unread.Directory = said None (codes "this is a directory")
 of_unread unread.Other = said None (codes "this file can't be read")
+of_unread unread.Unwritable = said None (codes "this file can't be written")
 
 -- why a file can't be read, where that is known
 abbrev pub file_message : About → Message

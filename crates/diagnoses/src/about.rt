@@ -2,7 +2,7 @@
 
 use crate::source::Source;
 
-/// Why a file can't be read.
+/// Why a file can't be read, or written.
 #[derive(Debug, Drop)]
 pub enum Unread {
     /// There is none of its name; and the name of one beside it that is spelled nearly so, if there is one.
@@ -11,6 +11,8 @@ pub enum Unread {
     Directory,
     /// For another reason.
     Other,
+    /// It can't be written.
+    Unwritable,
 }
 
 /// What a message may speak of, beside a refusal's line.
@@ -24,6 +26,6 @@ pub enum About<'a> {
     Line { source: Source<'a>, line: usize },
     /// How many values an input has, and how many cells there are for them.
     Values { values: usize, cells: u32 },
-    /// Why a file can't be read.
+    /// Why a file can't be read, or written.
     File(Unread),
 }

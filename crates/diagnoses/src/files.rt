@@ -63,6 +63,7 @@ fn of_unread(alloc: Global, unread: &Unread) -> Result<Message, AllocError>
         Unread::Missing(near) => missing(alloc, near),
         Unread::Directory => plain(alloc, b"this is a directory"),
         Unread::Other => plain(alloc, b"this file can't be read"),
+        Unread::Unwritable => plain(alloc, b"this file can't be written"),
     }
 }
 

@@ -15,8 +15,9 @@ use Rattle.help.specs.declared.explained.runs.TheConstants.{INPUT_TOO_LONG, BAD_
 use Rattle.help.specs.declared.explained.runs.TheConstants.{OUT_OF_MEMORY, WRITE_FAILED, OUT_OF_RESERVE, COMMAND_LINE, UNREADABLE_FILE}
 use Rattle.help.specs.declared.explained.faults.TheConstants.{OVERFLOW, DIVIDE_BY_ZERO, OUT_OF_RANGE, TOO_WIDE}
 use Rattle.help.specs.declared.explained.faults.TheConstants.{READ_CONFLICT, WRITE_CONFLICT}
-use Rattle.help.specs.declared.explained.commands.TheConstants.{CHECK, PLAN, MEANING, COST, STEPS, RULES, EXPAND, EXPLAIN}
+use Rattle.help.specs.declared.explained.commands.TheConstants.{CHECK, PLAN, MEANING, COST, STEPS, RULES, EXPAND, EXPLAIN, FMT}
 use Rattle.help.specs.declared.explained.scopes.TheConstants.{ALWAYS, COMPARE, EXPLORE, EXPORT}
+use Rattle.help.specs.declared.explained.grades.TheConstants.{GRADE}
 use Rattle.help.specs.declared.explained.workers.TheConstants.{RUN, TRACE, EXEC}
 use Rattle.help.specs.declared.explained.options.TheConstants.{OPTIONS}
 use Rattle.help.specs.declared.explained.overviews.TheConstants.{LANGUAGE, EVERYTHING}
@@ -34,9 +35,11 @@ subject_word subject.Rules = codes "rules"
 subject_word subject.Explore = codes "explore"
 subject_word subject.Always = codes "always"
 subject_word subject.Compare = codes "compare"
+subject_word subject.Grade = codes "grade"
 subject_word subject.Run = codes "run"
 subject_word subject.Trace = codes "trace"
 subject_word subject.Expand = codes "expand"
+subject_word subject.Fmt = codes "fmt"
 subject_word subject.Export = codes "export"
 subject_word subject.Exec = codes "exec"
 subject_word subject.Explain = codes "explain"
@@ -97,9 +100,11 @@ explanation subject.Rules = RULES
 explanation subject.Explore = EXPLORE
 explanation subject.Always = ALWAYS
 explanation subject.Compare = COMPARE
+explanation subject.Grade = GRADE
 explanation subject.Run = RUN
 explanation subject.Trace = TRACE
 explanation subject.Expand = EXPAND
+explanation subject.Fmt = FMT
 explanation subject.Export = EXPORT
 explanation subject.Exec = EXEC
 explanation subject.Explain = EXPLAIN

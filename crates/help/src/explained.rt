@@ -2,6 +2,7 @@
 pub(crate) mod commands;
 pub(crate) mod explanation;
 pub(crate) mod faults;
+pub(crate) mod grades;
 pub(crate) mod names;
 pub(crate) mod options;
 pub(crate) mod overviews;

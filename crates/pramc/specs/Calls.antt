@@ -11,6 +11,7 @@ use Rattle.command_facts.specs.declared.found.Found.TheVariants as found
 use Rattle.command_facts.specs.declared.found.Settled.TheVariants as settled
 use Rattle.command_facts.specs.Found.{IsLoaded}
 use Rattle.command_facts.specs.Held.{IsListingIn, IsTextIn, StopsAtListing, StopsAtProgram, StopsAtText}
+use Rattle.command_pairs.specs.Grades.{IsGraded, StopsAtGrade}
 use Rattle.command_pairs.specs.Pairs.{IsPaired, StopsAtPair}
 use Rattle.command_runs.specs.Refused.{NamesForeign, NamesNone, NamesUnknown, RefusesCode, RefusesCodeRun, RefusesMeaning, RefusesWorkers}
 use Rattle.command_runs.specs.Runs.{IsCodeFound, IsCodeOfFile, IsComparisonFound, IsCostFound, IsMeaningFound, IsRunFound, IsStepsFound}
@@ -27,6 +28,7 @@ Finds holds (request.Check file) (found.Settled (settled.Accepted l)) = IsLoaded
 Finds holds (request.Expand file) (found.Settled (settled.Expanded s)) = IsTextIn (holds file.name.now) file.sizes.items s
 Finds holds (request.Plan file) (found.Settled (settled.Planned code)) = IsCodeOfFile holds file code
 Finds holds (request.Export file) (found.Settled (settled.Exported code)) = IsCodeOfFile holds file code
+Finds holds (request.PlainC file) (found.Settled (settled.ExportedAlone code)) = IsCodeOfFile holds file code
 Finds holds (request.Meaning file words shown) (found.Settled (settled.Run r told)) =
     IsMeaningFound holds file words shown r × (told ≡ shown)
 Finds holds (request.Cost file words costs) (found.Settled (settled.Costed r told c)) =
@@ -40,9 +42,15 @@ Finds holds (request.Sweep file words) (found.Settled (settled.Swept s)) = IsSwe
 Finds holds (request.Exploration file files scope bound) (found.Settled (settled.Explored f)) = IsExplored holds file files scope bound f
 Finds holds (request.Always file words bound) (found.Settled (settled.Surveyed f)) = IsSurveyed holds file words bound f
 Finds holds (request.Pair words) (found.Settled (settled.Paired f)) = IsPaired holds words f
+Finds holds (request.Grade words) (found.Settled (settled.Graded f)) = IsGraded holds words f
 Finds holds (request.Listing file words shown) (found.Settled (settled.Executed c)) = IsCodeFound holds file.now words shown c
 Finds holds (request.ListingInC file) (found.Settled (settled.Exported code)) = IsListingIn (holds file.now) code × IsWellFormed code
 Finds holds _ _ = ⊥
+
+-- what a call asks for is found before anything is told of it: texts that are laid out are told one by one
+abbrev pub IsFoundFirst : Request → Type 0
+IsFoundFirst (request.Arrange words) = ⊥
+IsFoundFirst _ = Unit {0}
 
 -- why a call finds nothing
 abbrev pub Refuses : (List ℕ → Option (List ℕ) → Type 0) → Request → Halted → Type 0
@@ -50,8 +58,10 @@ Refuses holds request.Version h = ⊥
 Refuses holds (request.Explanation subject) h = ⊥
 Refuses holds (request.Check file) h = StopsAtProgram (holds file.name.now) file h
 Refuses holds (request.Expand file) h = StopsAtText (holds file.name.now) file h
+Refuses holds (request.Arrange words) h = ⊥
 Refuses holds (request.Plan file) h = RefusesCode holds file h
 Refuses holds (request.Export file) h = RefusesCode holds file h
+Refuses holds (request.PlainC file) h = RefusesCode holds file h
 Refuses holds (request.Meaning file words shown) h = RefusesMeaning holds file words.opening (NamesUnknown shown) h
 Refuses holds (request.Cost file words costs) h = RefusesMeaning holds file words.opening NamesNone h
 Refuses holds (request.Steps file words steps) h = RefusesMeaning holds file words.opening (NamesForeign steps) h
@@ -62,6 +72,7 @@ Refuses holds (request.Sweep file words) h = StopsAtSweep holds file words h
 Refuses holds (request.Exploration file files scope bound) h = StopsAtExploration holds file files scope h
 Refuses holds (request.Always file words bound) h = StopsAtSurvey holds file words h
 Refuses holds (request.Pair words) h = StopsAtPair holds words h
+Refuses holds (request.Grade words) h = StopsAtGrade holds words h
 Refuses holds (request.Listing file words shown) h = RefusesCodeRun holds file.now words shown h
 Refuses holds (request.ListingInC file) h = StopsAtListing (holds file.now) file.now h
 

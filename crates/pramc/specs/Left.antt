@@ -6,8 +6,11 @@ use Rattle.program_texts.specs.declared.status.Status.TheVariants as status
 use Rattle.program_texts.specs.declared.stop.Stop.{Stop}
 use Rattle.diagnoses.specs.declared.about.About.{About}
 use Rattle.diagnoses.specs.declared.halted.Halted.{Halted}
+use Rattle.command_requests.specs.declared.arrange_words.ArrangeWords.{ArrangeWords}
 use Rattle.command_requests.specs.declared.request.Request.{Request}
+use Rattle.command_requests.specs.declared.request.Request.TheVariants as request
 use Rattle.command_facts.specs.declared.found.Found.{Found}
+use Rattle.command_layouts.specs.Left.{LeavesArranged}
 use Rattle.pramc.specs.Calls.{Finds, IsStop}
 
 -- After a call of these words. What was found is of all that the files hold which the request names. What is refused is said on standard
@@ -18,5 +21,8 @@ pub data Leaves (leaves : List (List ℕ) → Found → (out out_new err err_new
     (out out_new err err_new : OutState) : Status → Type 0 where
   Answered : (request : Request) (found : Found) (ends : Status) → asked ≡ Ok request → Finds holds request found
       → leaves words found out out_new err err_new ends → Leaves leaves refuses holds words asked out out_new err err_new ends
+  LaidOut : (arrange : ArrangeWords) (ends : Status) → asked ≡ Ok (request.Arrange arrange)
+      → LeavesArranged (refuses words) holds arrange out out_new err err_new ends
+      → Leaves leaves refuses holds words asked out out_new err err_new ends
   Stopped : (h : Halted) → IsStop holds asked h → out_new ≡ out → refuses words h.stop h.about err err_new
       → Leaves leaves refuses holds words asked out out_new err err_new status.Refused

@@ -2,10 +2,12 @@
 
 ghost use Rattle.std.specs.Prelude.{Ok, map};
 ghost use Rattle.std.specs.String.{string_bytes};
+ghost use Rattle.pramc.specs.Calls.{IsFoundFirst};
 ghost use Rattle.pramc.specs.Left.{Leaves};
 
 use crate::finding::find;
 use command_facts::{Found, Voice};
+use command_layouts::say_arranged;
 use command_requests::Request;
 use diagnoses::Halted;
 use observing::Watch;
@@ -36,6 +38,38 @@ fn say_found<T: Voice, V: Watch, O: Out, E: Out>(
     }
 }
 
+// A request of which all is found before anything is told.
+fn answer_found<
+    R: Threads + Wait + Sync,
+    T: Voice,
+    S: Sources,
+    V: Watch + Gate + Sync,
+    O: Out,
+    E: Out,
+>(
+    rt: &R,
+    alloc: Global,
+    voice: &T,
+    request: Request<'_>,
+    words: &[String],
+    sources: &mut S,
+    watch: &mut V,
+    out: &mut O,
+    err: &mut E,
+) -> Status
+    requires first { IsFoundFirst request }
+    ensures left { Leaves (T.leaves voice.now) (T.refuses voice.now) (S.Sources.holds sources.old) (map string_bytes words.now)
+        (Ok request.entry) (O.Out.state out.old) (O.Out.state out.new) (E.Out.state err.old) (E.Out.state err.new) result }
+{
+    match find(rt, alloc, request, sources, watch) {
+        Ok(found) => say_found(alloc, voice, words, found, watch, out, err),
+        Err(halted) => {
+            voice.refuse(alloc, words, &halted, err);
+            Status::Refused
+        }
+    }
+}
+
 // A request that was read.
 fn answer_request<
     R: Threads + Wait + Sync,
@@ -58,12 +92,11 @@ fn answer_request<
     ensures left { Leaves (T.leaves voice.now) (T.refuses voice.now) (S.Sources.holds sources.old) (map string_bytes words.now)
         (Ok request.entry) (O.Out.state out.old) (O.Out.state out.new) (E.Out.state err.old) (E.Out.state err.new) result }
 {
-    match find(rt, alloc, request, sources, watch) {
-        Ok(found) => say_found(alloc, voice, words, found, watch, out, err),
-        Err(halted) => {
-            voice.refuse(alloc, words, &halted, err);
-            Status::Refused
+    match request {
+        Request::Arrange(arrange) => {
+            say_arranged(alloc, voice, words, &arrange, sources, out, err)
         }
+        _ => answer_found(rt, alloc, voice, request, words, sources, watch, out, err),
     }
 }
 

@@ -1,17 +1,17 @@
 //! What calls find in their files.
 
 ghost use Rattle.std.specs.Prelude.{IfOk, IfErr};
-ghost use Rattle.pramc.specs.Calls.{Finds, Refuses};
+ghost use Rattle.pramc.specs.Calls.{Finds, IsFoundFirst, Refuses};
 
 use command_facts::{Found, Settled, load_listing, load_program, load_text};
-use command_pairs::find_pair;
+use command_pairs::{find_grade, find_pair};
 use command_requests::{
-    AlwaysWords, CostWords, MeaningWords, Opening, PairWords, ProgramFile, Request, RunWords,
-    ScopeWords, SpecificationFiles, StepWords, SweepWords, TraceWords,
+    AlwaysWords, CostWords, GradeWords, MeaningWords, Opening, PairWords, ProgramFile, Request,
+    RunWords, ScopeWords, SpecificationFiles, StepWords, SweepWords, TraceWords,
 };
 use command_runs::{
-    find_code, find_code_run, find_cost, find_meaning, find_overall, find_rules, find_run,
-    find_scope, find_steps, find_trace,
+    find_code, find_code_run, find_cost, find_meaning, find_overall, find_plain_c, find_rules,
+    find_run, find_scope, find_steps, find_trace,
 };
 use command_sweeps::find_sweep;
 use diagnoses::Halted;
@@ -69,6 +69,18 @@ fn exported<'a, S: Sources>(
 {
     let code = find_code(alloc, file, sources)?;
     Ok(Found::Settled(Settled::Exported(code)))
+}
+
+fn exported_alone<'a, S: Sources>(
+    alloc: Global,
+    file: &ProgramFile<'a>,
+    sources: &mut S,
+) -> Result<Found<'a>, Halted<'a>>
+    ensures found { IfOk result (Finds (S.Sources.holds sources.old) (Request.PlainC file.now)) }
+    ensures refused { IfErr result (Refuses (S.Sources.holds sources.old) (Request.PlainC file.now)) }
+{
+    let plan = find_plain_c(alloc, file, sources)?;
+    Ok(Found::Settled(Settled::ExportedAlone(plan)))
 }
 
 fn meant<'a, S: Sources, V: Watch>(
@@ -218,6 +230,18 @@ fn paired<'a, S: Sources>(
     Ok(Found::Settled(Settled::Paired(pair)))
 }
 
+fn graded<'a, S: Sources>(
+    alloc: Global,
+    words: &GradeWords<'a>,
+    sources: &mut S,
+) -> Result<Found<'a>, Halted<'a>>
+    ensures found { IfOk result (Finds (S.Sources.holds sources.old) (Request.Grade words.now)) }
+    ensures refused { IfErr result (Refuses (S.Sources.holds sources.old) (Request.Grade words.now)) }
+{
+    let grade = find_grade(alloc, words, sources)?;
+    Ok(Found::Settled(Settled::Graded(grade)))
+}
+
 fn executed<'a, R: Threads + Wait + Sync, S: Sources, V: Watch + Gate + Sync>(
     rt: &R,
     alloc: Global,
@@ -261,6 +285,7 @@ pub(crate) fn find<'a, R: Threads + Wait + Sync, S: Sources, V: Watch + Gate + S
     sources: &mut S,
     watch: &mut V,
 ) -> Result<Found<'a>, Halted<'a>>
+    requires first { IsFoundFirst request }
     // What is found is of just what the named files hold, by the request's words: its sizes, input, rule, bound,
     // workers, map, reserve, scope or second program.
     ensures found { IfOk result (Finds (S.Sources.holds sources.old) request.entry) }
@@ -273,8 +298,10 @@ pub(crate) fn find<'a, R: Threads + Wait + Sync, S: Sources, V: Watch + Gate + S
         Request::Explanation(subject) => Ok(Found::Settled(Settled::Explanation(subject))),
         Request::Check(file) => accepted(alloc, &file, sources),
         Request::Expand(file) => expanded(alloc, &file, sources),
+        Request::Arrange(_) => Ok(Found::Settled(Settled::Version)),
         Request::Plan(file) => planned(alloc, &file, sources),
         Request::Export(file) => exported(alloc, &file, sources),
+        Request::PlainC(file) => exported_alone(alloc, &file, sources),
         Request::Meaning { file, words, shown } => {
             meant(alloc, &file, words, shown, sources, watch)
         }
@@ -309,6 +336,7 @@ pub(crate) fn find<'a, R: Threads + Wait + Sync, S: Sources, V: Watch + Gate + S
         ),
         Request::Always { file, words, bound } => surveyed(alloc, &file, words, bound, sources),
         Request::Pair(words) => paired(alloc, &words, sources),
+        Request::Grade(words) => graded(alloc, &words, sources),
         Request::Listing { file, words, shown } => {
             executed(rt, alloc, file, words, shown, sources, watch)
         }

@@ -171,6 +171,27 @@ Options:
 Exit status: 0 it is written, whether or not it is a program; 2 it is refused.
 ";
 
+pub(crate) const FMT: [u8; 729] = *b"pramc fmt FILE..: lays the texts of programs out anew.
+
+In each file nothing changes but white space: two spaces a level, one between
+words and signs, at most one empty line in a row. Comments, size lines and
+braces stay as they are, and a statement that stood on one line stays there.
+What standard input holds, as the FILE -, goes to standard output.
+
+Type this:
+
+$ pramc fmt --check examples/*.pram
+
+Options:
+
+--check           names the files that would change, and writes none
+--stdout          writes the texts to standard output, and no file
+--explain         shows the line that is wrong, and says why
+
+Exit status: 0 they are laid out; 1 with --check, a file would change; 2 one is
+refused, of which nothing is written.
+";
+
 pub(crate) const EXPLAIN: [u8; 632] = *b"pramc explain WORD: says what a word is.
 
 The word is that of a refusal, as E6, or of a fault, as read-conflict; or it is

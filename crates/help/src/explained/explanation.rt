@@ -5,10 +5,11 @@ ghost use Rattle.text_out.specs.Out.{Writes};
 ghost use Rattle.help.specs.Explained as spec;
 ghost use Rattle.help.specs.Explained.{explanation};
 
-use crate::explained::commands::{CHECK, COST, EXPAND, EXPLAIN, MEANING, PLAN, RULES, STEPS};
+use crate::explained::commands::{CHECK, COST, EXPAND, EXPLAIN, FMT, MEANING, PLAN, RULES, STEPS};
 use crate::explained::faults::{
     DIVIDE_BY_ZERO, OUT_OF_RANGE, OVERFLOW, READ_CONFLICT, TOO_WIDE, WRITE_CONFLICT,
 };
+use crate::explained::grades::GRADE;
 use crate::explained::names::{
     ASSIGNED_LOOP_VARIABLE, DOUBLE_NAME, LIMIT, UNKNOWN_NAME, WRONG_KIND,
 };
@@ -82,9 +83,11 @@ fn explanation_of(subject: Subject) -> &'static [u8]
         Subject::Explore => &EXPLORE,
         Subject::Always => &ALWAYS,
         Subject::Compare => &COMPARE,
+        Subject::Grade => &GRADE,
         Subject::Run => &RUN,
         Subject::Trace => &TRACE,
         Subject::Expand => &EXPAND,
+        Subject::Fmt => &FMT,
         Subject::Export => &EXPORT,
         Subject::Exec => &EXEC,
         Subject::Explain => &EXPLAIN,

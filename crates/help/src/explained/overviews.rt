@@ -51,7 +51,7 @@ Limits: numbers of 64 bits, 16384 processors, 1048576 cells, 16384 tokens,
 8 shared reads in a statement, 64 levels of blocks and of expressions.
 ";
 
-pub(crate) const EVERYTHING: [u8; 1395] =
+pub(crate) const EVERYTHING: [u8; 1457] =
     *b"What there is to explain. Type a word of these, as: pramc explain E6
 
 Refusals, of a text, a run or the command line:
@@ -75,10 +75,11 @@ Commands:
   meaning  runs it by its definition        trace   tells its exchanges
   cost     counts its time and work         plan    writes its superstep code
   steps    tells it statement by statement  exec    runs superstep code
-  rules    runs it under each rule          export  writes that as C over MPI
+  rules    runs it under each rule          export  writes that code as C
   explore  runs it on every small input     expand  fills in its sizes
   always   what holds on every input        explain says what a word is
-  compare  runs two on the same inputs
+  compare  runs two on the same inputs      fmt     lays its text out anew
+  grade    grades many by one
 
 And besides:
 

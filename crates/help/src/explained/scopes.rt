@@ -96,19 +96,21 @@ Exit status: 0 all are the same, and FILE2 keeps to the most; 1 on one input it
 isn't so; 2 it was refused.
 ";
 
-pub(crate) const EXPORT: [u8; 833] =
-    *b"pramc export FILE: the superstep code of a program as C over MPI.
+pub(crate) const EXPORT: [u8; 983] = *b"pramc export FILE: the superstep code of a program as C.
 
-It writes one file of C11: a runtime, and the code in tables. Any MPI compiles
-it, and it runs on as many ranks as mpirun gives it, up to 1024. It prints what
-`pramc run` prints. The code is proved up to this text; what C, its compiler
-and MPI make of it isn't.
+It writes one file of C11. It prints what `pramc run` prints. The code is
+proved up to this text; what C, its compiler and MPI make of it isn't.
+
+--to c      or openmp, for one memory: each instruction is a call, and those of
+            the processors stand in loops. With -fopenmp it runs by threads.
+--to mpi    over MPI, where --to is left out: the code in tables. It runs on as
+            many ranks as mpirun gives it, up to 1024.
 
 Type this:
 
-$ pramc export examples/sum.pram > sum.c
-$ mpicc -std=c11 -O2 -o sum sum.c
-$ mpirun -n 4 ./sum
+$ pramc export examples/sum.pram --to c > sum.c
+$ cc -O3 -o sum sum.c
+$ ./sum
 55
 ended
 

@@ -31,12 +31,16 @@ pub enum Subject {
     Always,
     /// `compare`.
     Compare,
+    /// `grade`.
+    Grade,
     /// `run`.
     Run,
     /// `trace`.
     Trace,
     /// `expand`.
     Expand,
+    /// `fmt`.
+    Fmt,
     /// `export`.
     Export,
     /// `exec`.
@@ -51,7 +55,7 @@ pub enum Subject {
     Everything,
 }
 
-const SUBJECTS: [Subject; 45] = [
+const SUBJECTS: [Subject; 47] = [
     Subject::Refusal(Number::NotAscii),
     Subject::Refusal(Number::TextTooLong),
     Subject::Refusal(Number::BadToken),
@@ -88,9 +92,11 @@ const SUBJECTS: [Subject; 45] = [
     Subject::Explore,
     Subject::Always,
     Subject::Compare,
+    Subject::Grade,
     Subject::Run,
     Subject::Trace,
     Subject::Expand,
+    Subject::Fmt,
     Subject::Export,
     Subject::Exec,
     Subject::Explain,
@@ -115,9 +121,11 @@ fn word_of(subject: Subject) -> &'static str
         Subject::Explore => "explore",
         Subject::Always => "always",
         Subject::Compare => "compare",
+        Subject::Grade => "grade",
         Subject::Run => "run",
         Subject::Trace => "trace",
         Subject::Expand => "expand",
+        Subject::Fmt => "fmt",
         Subject::Export => "export",
         Subject::Exec => "exec",
         Subject::Explain => "explain",

@@ -1,11 +1,12 @@
-use Rattle.std.proofs.Common.{refl}
-use Rattle.pramc.specs.Left.{Answered, Stopped}
+use Rattle.std.proofs.Common.{ap, Ok}
+use Rattle.pramc.specs.Left.{LaidOut}
+use Rattle.pramc.proofs.Requests.{found_first}
 use Rattle.pramc.proofs.answering.answer_request.Goals as goal
 
-pub returns-in-Ok : goal.returns-in-Ok
-returns-in-Ok g c = record {
-  left = Answered c.args.request c.in-Ok.found c.say_found.result refl c.in-Ok.ensures.found c.say_found.ensures.left;
+pub returns-in-Arrange : goal.returns-in-Arrange
+returns-in-Arrange g c = record {
+  left = LaidOut c.in-Arrange.arrange c.say_arranged.result (ap Ok c.in-Arrange.is) c.say_arranged.ensures;
 }
 
-pub returns-in-Err : goal.returns-in-Err
-returns-in-Err g c = record { left = Stopped c.in-Err.halted c.in-Err.ensures.refused refl c.refuse.ensures.said }
+pub answer_found-requires : goal.answer_found-requires
+answer_found-requires g c = found_first c.args.request c.in_default.not-Arrange
