@@ -2,7 +2,7 @@
 # what is tried by hand need the toolchain's command `rt`.
 
 .PHONY: all prove release test gate unproved check bench calls refusals wrong-bodies fuzz memory unthreaded mpi-test dist
-.PHONY: clean install uninstall
+.PHONY: site clean install uninstall
 
 sources := $(shell find crates -name out -prune -o \( -name '*.rt' -o -name '*.antt' \) -print) crates.txt HANDLES
 
@@ -106,12 +106,18 @@ memory:
 unthreaded:
 	bash crates/run_tests/unthreaded/check.sh
 
-# Writes an archive and a package for Debian to hand on, in bin/dist.
+# Writes an archive, a package for Debian and a wheel for Python to hand on, in bin/dist.
 dist: bin/pramc
 	bash gate/dist.sh
 
+TO ?= bin/site
+
+# Writes the documents and the examples as a folder of plain HTML; needs pandoc or python3-markdown.
+site: bin/pramc
+	@python3 gate/site.py $(TO)
+
 clean:
-	rm -rf bin crates/*/out
+	rm -rf bin crates/*/out python/build python/pramc.egg-info
 
 PREFIX ?= /usr/local
 shared = $(DESTDIR)$(PREFIX)/share
