@@ -5,7 +5,7 @@ _pramc() {
     COMPREPLY=()
     if [ "$COMP_CWORD" -eq 1 ]; then
         # made by gate/editors.py --write: commands
-        words="check plan meaning cost steps rules run trace explore always compare expand export exec explain help --help --version"
+        words="check plan meaning cost steps rules run trace explore always compare grade expand fmt export exec explain help --help --version"
         # end
     else
         case $before in
@@ -14,7 +14,7 @@ _pramc() {
         --map) words="identity affine:" ;;
         --under) words="erew crew common priority sum" ;;
         --format) words="text json csv gnu" ;;
-        --size | --bound | --seconds | --random | --draw | --seed | --show | --schedule | --workers | --sweep | --from | --to | --only | --reserve | --bsp | --cells | --values | --permutations | --count | --time-at-most | --work-at-most) return ;;
+        --size | --bound | --seconds | --random | --draw | --seed | --show | --schedule | --workers | --sweep | --from | --to | --only | --reserve | --bsp | --cells | --values | --permutations | --count | --time-at-most | --work-at-most | --procs-at-most) return ;;
         # end
         *)
             case ${COMP_WORDS[1]} in
@@ -30,11 +30,13 @@ _pramc() {
             explore) words="--cells --values --permutations --where --ensure --shrink --bound --under --workers --size --format --explain --help" ;;
             always) words="--cells --values --bound --under --size --format --explain --help" ;;
             compare) words="--cells --values --permutations --where --bound --input --random --draw --count --seed --only --time-at-most --work-at-most --size --format --explain --help" ;;
+            grade) words="--cells --values --permutations --where --bound --input --random --draw --count --seed --only --time-at-most --work-at-most --procs-at-most --under --size --explain --help" ;;
             expand) words="--size --explain --help" ;;
-            export) words="--listing --size --explain --help" ;;
+            fmt) words="--check --stdout --explain --help" ;;
+            export) words="--listing --to --size --explain --help" ;;
             exec) words="--bound --input --memory --random --draw --seed --workers --map --reserve --show --quiet --format --explain --help" ;;
-            explain) words="E1 E2 E3 E4 E5 E6 E7 E8 E9 E10 E11 E12 E13 E14 E15 E16 E17 E18 E19 P1 P2 overflow divide-by-zero out-of-range too-wide read-conflict write-conflict check plan meaning cost steps rules explore always compare run trace expand export exec explain language options --help" ;;
-            help) words="check plan meaning cost steps rules run trace explore always compare expand export exec explain" ;;
+            explain) words="E1 E2 E3 E4 E5 E6 E7 E8 E9 E10 E11 E12 E13 E14 E15 E16 E17 E18 E19 P1 P2 overflow divide-by-zero out-of-range too-wide read-conflict write-conflict check plan meaning cost steps rules explore always compare grade run trace expand fmt export exec explain language options --help" ;;
+            help) words="check plan meaning cost steps rules run trace explore always compare grade expand fmt export exec explain" ;;
             # end
             *) return ;;
             esac

@@ -1,8 +1,9 @@
 #!/usr/bin/env bash
-# dist.sh [PROGRAM [FOLDER]]: writes pramc-VERSION-x86_64-linux.tar.xz, and where dpkg-deb is there pramc_VERSION_amd64.deb, to FOLDER
-# (bin/dist). Each has the program, its man page, its completions, the syntax for editors, the examples, the documents and the licence. Of
-# one program and one state of the documents they are the same bytes: all times are those of the version's day in CHANGELOG.md, or
-# SOURCE_DATE_EPOCH.
+# dist.sh [PROGRAM [FOLDER]]: writes pramc-VERSION-x86_64-linux.tar.xz, where dpkg-deb is there pramc_VERSION_amd64.deb, and where python3
+# is there the wheel pramc-VERSION-py3-none-manylinux_GLIBC_x86_64.whl, to FOLDER (bin/dist). The first two have the program, its man page,
+# its completions, the syntax for editors, the examples, the documents and the licence; the wheel has the program and the package for
+# Python. Of one program and one state of the documents they are the same bytes: all times are those of the version's day in CHANGELOG.md,
+# or SOURCE_DATE_EPOCH.
 set -eu -o pipefail
 top=$(cd "$(dirname "$0")/.." && pwd)
 program=$(realpath "${1:-$top/bin/pramc}")
@@ -25,6 +26,7 @@ documents() {
     mkdir -p "$1"
     cp "$top/README.md" "$top/CHANGELOG.md" "$1/"
     cp -r "$top/docs" "$top/examples" "$1/"
+    install -D "$top/python/README.md" "$1/python/README.md"
     chmod -R u=rwX,go=rX "$1"
 }
 
@@ -89,5 +91,10 @@ if command -v dpkg-deb > /dev/null; then
     package "$glibc"
 else
     echo "no package for Debian: dpkg-deb is not there"
+fi
+if command -v python3 > /dev/null; then
+    python3 "$top/gate/wheel.py" "$program" "$folder" "$glibc"
+else
+    echo "no wheel: python3 is not there"
 fi
 echo "pramc $version runs with glibc $glibc and later"

@@ -1,7 +1,8 @@
 #!/usr/bin/env bash
 # dist_test.sh [PROGRAM]: makes the archive and the package of the program (bin/pramc) twice, which gives the same bytes; unpacks the one
 # and installs the other in an empty root, runs the first example, reads the man page and completes a command there, and takes the package
-# away again, with which nothing of it is left. All is in a temporary folder.
+# away again, with which nothing of it is left. The wheel is installed by pip, or unpacked where there is no pip, and its program is run from
+# Python and from the shell with nothing in PATH. All is in a temporary folder.
 set -eu -o pipefail
 top=$(cd "$(dirname "$0")/.." && pwd)
 program=$(realpath "${1:-$top/bin/pramc}")
@@ -93,10 +94,42 @@ package() {
     echo "$(basename "$work"/one/*.deb): installed, used ${way:+in a root of its own }and taken away"
 }
 
+# The wheel's package in an empty folder.
+wheel_placed() {
+    if python3 -m pip --version > /dev/null 2>&1; then
+        PIP_ROOT_USER_ACTION=ignore python3 -m pip install -q --no-index --no-deps --no-warn-script-location --disable-pip-version-check \
+            --target "$work/wheel" "$work"/one/*.whl || fail "pip doesn't install the wheel"
+        [ "$(PYTHONPATH=$work/wheel "$work/wheel/bin/pramc" --version)" = "$("$program" --version)" ] ||
+            fail "the wheel's command is another one"
+    else
+        python3 -m zipfile -e "$work"/one/*.whl "$work/wheel"
+        chmod 755 "$work/wheel/pramc/bin/pramc"
+    fi
+}
+
+# What Python says by the wheel's package alone.
+by_wheel() {
+    local python
+    python=$(command -v python3)
+    (cd "$work" && env -i PYTHONPATH="$work/wheel" "$python" -B -c "$1" "${@:2}")
+}
+
+wheel() {
+    wheel_placed
+    cmp "$program" "$work/wheel/pramc/bin/pramc" || fail "the wheel has another program"
+    by_wheel 'import sys, pathlib, pramc; print(pramc.run(pathlib.Path(sys.argv[1])))' "$top/examples/sum.pram" > "$work/printed"
+    cmp "$work/printed" "$top/examples/sum.out" || fail "the first example prints something else from Python"
+    [ "$(by_wheel 'import pramc; print(pramc.program())')" = "$work/wheel/pramc/bin/pramc" ] || fail "the wheel's package finds another program"
+    echo "$(basename "$work"/one/*.whl): installed and used from Python"
+}
+
 bash "$top/gate/dist.sh" "$program" "$work/one"
 bash "$top/gate/dist.sh" "$program" "$work/two" > /dev/null
 diff -r "$work/one" "$work/two" || fail "the same sources give other bytes"
 archive
 if compgen -G "$work/one/*.deb" > /dev/null; then
     package
+fi
+if compgen -G "$work/one/*.whl" > /dev/null; then
+    wheel
 fi

@@ -136,7 +136,7 @@ def refusing():
 
 def explained():
     """The options that the text of each command names."""
-    text = "".join(source(f"help/src/explained/{it}.rt") for it in ("commands", "scopes", "workers"))
+    text = "".join(source(f"help/src/explained/{it}.rt") for it in ("commands", "grades", "scopes", "workers"))
     texts = dict(re.findall(r'const (\w+): .*?\*b"(.*?)";', text, re.S))
     for name, several in commands().items():
         if several:
@@ -162,7 +162,8 @@ def completions():
     yield "subjects", completed("pramc", "explain", "") - {"--help"}, set(subjects())
     yield "maps", completed("pramc", "run", "--map", ""), {"identity", "affine:"}
     yield "rules", completed("pramc", "explore", "--under", ""), rules()
-    formats = re.findall(r'Some\("(\w+)"\)', source("command_words/src/reading.rt"))
+    reading = source("command_words/src/reading.rt").split("fn format_of")[1].split("\n}\n")[0]
+    formats = re.findall(r'Some\("(\w+)"\)', reading)
     yield "formats", completed("pramc", "run", "--format", ""), set(formats)
 
 

@@ -5,7 +5,7 @@ json_texts.py PROGRAM: each object of JSON is on a line of its own and has each 
 the exit status is the same. So it is with a run that is cut short, with changed texts that are refused, whose lines and columns are counted
 here, and with words that are. What `steps --locals` and `steps --columns` say is what its JSON says; a sweep over the sizes of an example,
 of which some are cut short or refused, says the same as text, as JSON and as CSV; and two programs on several inputs say of each what they
-say of it alone.
+say of it alone. Each line is one that docs/schema/pramc.schema.json knows.
 """
 import csv
 import json
@@ -18,8 +18,10 @@ from pathlib import Path
 
 from gallery import EXAMPLES, INPUTS, foot, programs, sizes
 from jobs import JOBS
+from schema import COMMANDS as KNOWN, unknown
 
 PROGRAM = Path(sys.argv[1]).resolve()
+READ = []  # of each call that asks for JSON, the lines that the schema doesn't know
 MEMORY = re.compile(r"(\w+)(?:\[(\d+)\.\.(\d+)\])? = (.+)")
 FAULT = re.compile(r"fault (\S+) (.+) line (\d+)")
 ACCEPTED = re.compile(r"accepted cells (\d+) procs (\d+) rule (\w+)")
@@ -45,6 +47,8 @@ REFUSED = re.compile(r"refused (E\d+) (\w+)(?: at (\d+))?(?: (\w+))?")
 
 def called(words):
     done = subprocess.run([PROGRAM, *map(str, words)], capture_output=True, text=True, timeout=60)
+    if "json" in words:
+        READ.append(unknown(words[0] if words[0] in KNOWN else "check", done.stdout, done.stderr))
     return done.returncode, done.stdout, done.stderr
 
 
@@ -455,10 +459,11 @@ def main():
         found += sum(pool.map(lambda it: of_pairs(*it, Path(folder)), programs()), [])
         found += sum(pool.map(lambda it: of_sizes(*it), programs()), [])
     found += of_words()
-    for it in sum(found, []):
+    for it in sum([*found, *READ], []):
         print(it)
+    print(f"json: the schema knows the lines of {READ.count([])} of {len(READ)} calls")
     print(f"json: {found.count([])} of {len(found)} calls say as JSON what they say in words")
-    sys.exit(1 if any(found) else 0)
+    sys.exit(1 if any([*found, *READ]) else 0)
 
 
 if __name__ == "__main__":

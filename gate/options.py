@@ -106,7 +106,7 @@ def synopsis():
 def takers(several, everywhere):
     """Which commands take an option, in words."""
     missing = [it for it in everywhere if it not in several]
-    return f"all but {' and '.join(missing)}" if len(missing) < 3 else ", ".join(several)
+    return f"all but {joined(missing)}" if len(missing) < 4 else ", ".join(several)
 
 
 def entries():
@@ -217,7 +217,7 @@ def said_of(option):
     """What the text of all options says of one: its name, and its help behind that."""
     name = f"--{option.word} {option.value}".rstrip()
     said = option.help[0].lower() + option.help[1:] + (f", else {option.default}" if option.default else "")
-    return textwrap.wrap(f"{name:17} {said}", 80, subsequent_indent="    ")
+    return textwrap.wrap(f"{name:10} {said}", 80, subsequent_indent="    ")
 
 
 def overview():
@@ -229,10 +229,10 @@ def overview():
     for sayings in entries().values():
         for it, takers_of_it in sayings.items():
             several.setdefault(tuple(takers_of_it), []).append(it)
-    lines = ["The options, and which commands take them.", "", "Of all:", "--help            says what there is to type"]
+    lines = ["The options, and which commands take them.", "", "Of all:", f"{'--help':10} says what there is to type"]
     for words, options in sorted(several.items(), key=lambda it: -len(it[0])):
         missing = [it for it in everywhere if it not in words]
-        head = f"All but {joined(missing)}:" if len(missing) < 3 else f"Of {joined(words)}:"
+        head = min(f"All but {joined(missing)}:", f"Of {joined(words)}:", key=len)
         lines += ["", *textwrap.wrap(head, 80), *(line for it in options for line in said_of(it))]
     lines += ["", "Of --input, --memory, --random and --draw one is given; other cells are 0."]
     lines += ["A FILE named - is standard input, once in a call.", ""]
