@@ -12,6 +12,7 @@ pub mod SweepReadable
 pub mod ExplorationReadable
 pub mod OverallReadable
 pub mod PairReadable
+pub mod GradeReadable
 pub mod MessageReadable
 pub mod Lines
 pub mod Parts

@@ -53,7 +53,7 @@ small_differing first second d = (small_values 2 d.input, small_difference first
 pub readable_differing : (first second : List SharedEntry) (d : Differing) → IsReadable (differing_facts first second d)
 readable_differing first second d = readable (differing_fields first second d) (small_differing first second d)
 
-small_first : (first second : List SharedEntry) (told : List Differing) → HasSmall 3 (first_fields first second told)
+pub small_first : (first second : List SharedEntry) (told : List Differing) → HasSmall 3 (first_fields first second told)
 small_first first second [] = tt
 small_first first second (d ∷ told) = small_differing first second d
 

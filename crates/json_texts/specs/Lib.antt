@@ -17,6 +17,7 @@ pub mod SweepFacts
 pub mod ExplorationFacts
 pub mod OverallFacts
 pub mod PairFacts
+pub mod GradeFacts
 pub mod Streams
 pub mod StreamLaws
 pub mod Streamed

@@ -216,8 +216,8 @@ fn put_told(object: &mut Object, comparison: &Comparison) -> Result<(), AllocErr
     }
 }
 
-// The first of those that are told.
-fn put_first(
+/// The first of those that are told.
+pub(crate) fn put_first(
     alloc: Global,
     object: &mut Object,
     first: &Layout,

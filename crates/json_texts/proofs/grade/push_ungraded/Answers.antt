@@ -1,0 +1,7 @@
+use Rattle.std.proofs.Common.{subst, sym}
+use Rattle.json_texts.specs.Small.{IsReadable}
+use Rattle.json_texts.proofs.GradeReadable.{readable_ungraded}
+use Rattle.json_texts.proofs.grade.push_ungraded.Goals as goal
+
+pub push_line-requires : goal.push_line-requires
+push_line-requires c = record { readable = subst IsReadable (sym c.in_ok-facts.ensures) (readable_ungraded c.args.file.now c.args.source.now c.args.stop.now) }
