@@ -5,7 +5,7 @@ ghost use Rattle.text_out.specs.Out.{OutState, with_failure};
 ghost use Rattle.system_files.specs.Held.{HandsOn, HasNoEnd, IsLines, held_in};
 
 use crate::folder::{names_in, parted};
-use crate::replacing::replace;
+use crate::replacing::write_file;
 use crate::sources::{Beside, SourceFault, Sources, WriteRefused};
 use std::alloc::{Alloc, AllocError, Global};
 use std::fs::{File, Files};
@@ -208,7 +208,7 @@ impl<'a, R: Files + Alloc + Clone + Drop> Sources for SystemFiles<'a, R> {
         if name == INPUT {
             return Err(WriteRefused::Unwritable);
         }
-        replace(self.system, alloc, name, bytes)
+        write_file(self.system, alloc, name, bytes)
     }
 }
 

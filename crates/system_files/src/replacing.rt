@@ -1,4 +1,4 @@
-//! A file of the system is written anew.
+//! A file of the system is written, anew where there is one.
 
 use crate::sources::WriteRefused;
 use std::alloc::{Alloc, AllocError, Global};
@@ -22,9 +22,10 @@ fn check<R: Files>(system: &R, name: &str) -> io::Result<()> {
     Ok(())
 }
 
-fn is_link<R: Files>(system: &R, name: &str) -> bool {
+// Whether the name is that of a file itself, and of no link or device.
+fn is_plain<R: Files>(system: &R, name: &str) -> bool {
     match symlink_metadata(system, name) {
-        Ok(found) => found.is_symlink(),
+        Ok(found) => found.is_file(),
         Err(_) => false,
     }
 }
@@ -40,6 +41,22 @@ fn fill<F: Write + OpenFile + Drop>(file: F, bytes: &[u8]) -> io::Result<()> {
     let mut file = file;
     file.write_all(bytes)?;
     file.sync_all()
+}
+
+fn is_missing<R: Files>(system: &R, name: &str) -> bool {
+    match symlink_metadata(system, name) {
+        Ok(_) => false,
+        Err(fault) => fault.kind() == ErrorKind::NotFound,
+    }
+}
+
+// The bytes in a new file of that name, which isn't left half written.
+fn write_new<R: Files>(system: &R, name: &str, bytes: &[u8]) -> io::Result<()> {
+    let told = fill(File::create_new(system, name)?, bytes);
+    if told.is_err() {
+        let _ = remove_file(system, name);
+    }
+    told
 }
 
 // The new file takes the place of the old one, with its permissions.
@@ -66,9 +83,20 @@ fn new_name(alloc: Global, name: &str) -> Result<String, AllocError> {
     format!(in alloc; "{name}.pramc")
 }
 
-/// Writes bytes in the place of what a file holds. They are written beside it first, so that a failure leaves it as it was; through a link,
-/// and where nothing can be made beside it, they are written in its place.
-pub(crate) fn replace<R: Files + Alloc>(
+// The bytes in the place of what is there, where they may be written.
+fn write_over<R: Files>(system: &R, new: &str, name: &str, bytes: &[u8]) -> io::Result<()> {
+    check(system, name)?;
+    if is_plain(system, name) {
+        write_beside(system, new, name, bytes)
+    } else {
+        write_in_place(system, name, bytes)
+    }
+}
+
+/// Writes bytes in the place of what a file holds, or in a new file where there is none. They are written beside one that is there first, so
+/// that a failure leaves it as it was; through a link, to what is no file, and where nothing can be made beside it, they are written in its
+/// place.
+pub(crate) fn write_file<R: Files + Alloc>(
     system: &R,
     alloc: Global,
     name: &str,
@@ -77,13 +105,10 @@ pub(crate) fn replace<R: Files + Alloc>(
     let Ok(new) = new_name(alloc, name) else {
         return Err(WriteRefused::OutOfMemory);
     };
-    if let Err(fault) = check(system, name) {
-        return Err(refused(fault.kind()));
-    }
-    let told = if is_link(system, name) {
-        write_in_place(system, name, bytes)
+    let told = if is_missing(system, name) {
+        write_new(system, name, bytes)
     } else {
-        write_beside(system, new.as_str(), name, bytes)
+        write_over(system, new.as_str(), name, bytes)
     };
     match told {
         Ok(()) => Ok(()),

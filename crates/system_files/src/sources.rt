@@ -66,7 +66,7 @@ pub trait Sources {
     fn beside(&mut self, alloc: Global, name: &str) -> Result<Beside, AllocError>
         ensures same { IsSame (holds self.new) (holds self.old) };
 
-    /// Writes bytes in the place of what a file of that name holds, which has to be there.
+    /// Writes bytes in the place of what a file of that name holds, or in a new one where there is none.
     fn write(&mut self, alloc: Global, name: &str, bytes: &[u8]) -> Result<(), WriteRefused>
         // Where it is written the name may stand for these bytes.
         ensures written { OnOk result (holds self.new name.now (Some bytes.now)) }
