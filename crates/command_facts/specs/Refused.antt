@@ -5,9 +5,11 @@ use Rattle.pram_check.specs.Checked.{Checked}
 use Rattle.program_texts.specs.Report.{IsProgramOf}
 use Rattle.program_texts.specs.declared.from_text.Refusal.{Refusal}
 use Rattle.program_texts.specs.declared.from_text.Refusal.TheVariants as refusal
+use Rattle.program_texts.specs.declared.stop.Stop.{Stop}
 use Rattle.program_texts.specs.declared.stop.Stop.TheVariants as stop
 use Rattle.diagnoses.specs.declared.about.About.{About}
 use Rattle.diagnoses.specs.declared.about.About.TheVariants as about
+use Rattle.diagnoses.specs.declared.about.Unread.TheVariants as unread
 use Rattle.diagnoses.specs.declared.halted.Halted.{Halted}
 use Rattle.sized_texts.specs.Pieces.{Expansion}
 use Rattle.command_requests.specs.declared.opening.Opening.{Opening}
@@ -64,3 +66,11 @@ StopsAtOpening holds layout (opening.Input name) h = StopsAtInput (holds name.no
 StopsAtOpening holds layout (opening.Memory name) h = StopsAtMemory (holds name.now) name.now layout h
 StopsAtOpening holds layout (opening.Drawn drawing) h = (h.stop ≡ stop.Refused refusal.OutOfMemory) × (h.about ≡ about.Nothing)
 StopsAtOpening holds layout (opening.OfKind kind seed) h = (h.stop ≡ stop.Refused refusal.OutOfMemory) × (h.about ≡ about.Nothing)
+
+-- ---- files that are written
+
+-- the file of that name isn't written: it can't be (P2), or memory was refused (E16)
+abbrev pub IsUnwritten : (name : List ℕ) → Stop → About → Type 0
+IsUnwritten name (stop.Unreadable word) (about.File unread.Unwritable) = word.now ≡ name
+IsUnwritten name (stop.Refused refusal.OutOfMemory) about.Nothing = Unit {0}
+IsUnwritten name _ _ = ⊥

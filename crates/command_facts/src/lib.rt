@@ -13,6 +13,7 @@ mod opening;
 mod optional;
 mod status;
 mod told_run;
+mod unwritten;
 mod voice;
 
 pub use editors::write_for_editors;
@@ -29,4 +30,5 @@ pub use messages::message_for;
 pub use opening::{load_input, load_opening};
 pub use optional::load_where_named;
 pub use status::status_of;
+pub use unwritten::halted_write;
 pub use voice::Voice;

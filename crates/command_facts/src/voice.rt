@@ -23,6 +23,9 @@ pub trait Voice {
     /// What stands on standard error where a call of these words is refused.
     ghost refuses: { Self → List (List ℕ) → ghost_stop.Stop → ghost_about.About → (err err_new : OutState) → Type 0 };
 
+    /// What stands on standard error where an input was written into a file of this name.
+    ghost wrote: { Self → List ℕ → (err err_new : OutState) → Type 0 };
+
     /// Says what was found and is known whole.
     fn say_settled<V: Watch, O: Out, E: Out>(
         &self,
@@ -56,4 +59,9 @@ pub trait Voice {
         // Standard error is left as the voice's relation has it for this refusal.
         ensures said { refuses self.now (map string_bytes words.now) halted.now.stop halted.now.about (E.Out.state err.old)
             (E.Out.state err.new) };
+
+    /// Says that an input was written into a file of this name. That it fails changes no status.
+    fn say_written<E: Out>(&self, name: &str, err: &mut E)
+        // Standard error is left as the voice's relation has it for this name.
+        ensures said { wrote self.now name.now (E.Out.state err.old) (E.Out.state err.new) };
 }

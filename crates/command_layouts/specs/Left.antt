@@ -8,12 +8,12 @@ use Rattle.program_texts.specs.declared.stop.Stop.{Stop}
 use Rattle.program_texts.specs.declared.stop.Stop.TheVariants as stop
 use Rattle.diagnoses.specs.declared.about.About.{About}
 use Rattle.diagnoses.specs.declared.about.About.TheVariants as about
-use Rattle.diagnoses.specs.declared.about.Unread.TheVariants as unread
 use Rattle.diagnoses.specs.declared.halted.Halted.{Halted}
 use Rattle.command_requests.specs.declared.arrange_words.ArrangeForm.{ArrangeForm}
 use Rattle.command_requests.specs.declared.arrange_words.ArrangeWords.{ArrangeWords}
 use Rattle.command_requests.specs.declared.request.ProgramFile.{ProgramFile}
 use Rattle.command_facts.specs.Held.{StopsAtProgram}
+use Rattle.command_facts.specs.Refused.{IsUnwritten}
 use Rattle.command_layouts.specs.declared.arranging.ArrangedFile.{ArrangedFile}
 use Rattle.command_layouts.specs.declared.gathering.Gathered.{Gathered}
 use Rattle.command_layouts.specs.Arranged.{IsArranged, is_written, status_behind, told_text}
@@ -70,17 +70,11 @@ abbrev pub GathersSome : (refuses : Stop → About → (err err_new : OutState) 
 GathersSome refuses holds form err err_new =
     (files : List ProgramFile) × (found : Found) × Gathers refuses holds form err files err_new found
 
--- a file isn't written, for its name (P2) or for want of memory (E16)
-abbrev pub IsUnwritten : ArrangedFile → Stop → About → Type 0
-IsUnwritten file (stop.Unreadable word) (about.File unread.Unwritable) = word.now ≡ file.name.now
-IsUnwritten file (stop.Refused refusal.OutOfMemory) about.Nothing = Unit {0}
-IsUnwritten file _ _ = ⊥
-
 -- A file is written; or it isn't, which is said. Behind it that is the exit status, where it was the one before.
 pub data WritesOne (refuses : Stop → About → (err err_new : OutState) → Type 0) (file : ArrangedFile) (before : Status)
     (err err_new : OutState) : Status → Type 0 where
   Written : err_new ≡ err → WritesOne refuses file before err err_new before
-  Unwritten : (why : Stop) (a : About) → IsUnwritten file why a → refuses why a err err_new
+  Unwritten : (why : Stop) (a : About) → IsUnwritten file.name.now why a → refuses why a err err_new
       → WritesOne refuses file before err err_new status.Refused
 
 -- Files are written, one after the other. Where one isn't the others go on.

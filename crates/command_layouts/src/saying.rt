@@ -9,29 +9,13 @@ ghost use Rattle.command_layouts.specs.Left as spec;
 
 use crate::arranging::ArrangedFile;
 use crate::gathering::{Gathered, gather};
-use command_facts::Voice;
+use command_facts::{Voice, halted_write};
 use command_requests::ArrangeWords;
-use diagnoses::{About, Halted, Unread};
+use diagnoses::Halted;
 use program_texts::{Refusal, Status, Stop, finish};
 use std::alloc::Global;
-use system_files::{Sources, WriteRefused};
+use system_files::Sources;
 use text_out::Out;
-
-// Why a file isn't written.
-fn unwritten<'a>(file: &ArrangedFile<'a>, why: WriteRefused) -> Halted<'a>
-    ensures { spec.IsUnwritten file.now result.stop result.about }
-{
-    match why {
-        WriteRefused::Unwritable => Halted {
-            stop: Stop::Unreadable(file.name),
-            about: About::File(Unread::Unwritable),
-        },
-        WriteRefused::OutOfMemory => Halted {
-            stop: Stop::Refused(Refusal::OutOfMemory),
-            about: About::Nothing,
-        },
-    }
-}
 
 // Writes a file.
 fn write_one<T: Voice, S: Sources, E: Out>(
@@ -49,7 +33,7 @@ fn write_one<T: Voice, S: Sources, E: Out>(
     match sources.write(alloc, file.name, &file.new) {
         Ok(()) => status,
         Err(why) => {
-            voice.refuse(alloc, call, &unwritten(file, why), err);
+            voice.refuse(alloc, call, &halted_write(file.name, why), err);
             Status::Refused
         }
     }

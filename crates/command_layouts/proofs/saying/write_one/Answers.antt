@@ -6,4 +6,4 @@ pub returns-in-Ok : goal.returns-in-Ok
 returns-in-Ok g c = left.Written refl
 
 pub returns-in-Err : goal.returns-in-Err
-returns-in-Err g c = left.Unwritten c.unwritten.result.stop c.unwritten.result.about c.unwritten.ensures c.refuse.ensures.said
+returns-in-Err g c = left.Unwritten c.halted_write.result.stop c.halted_write.result.about c.halted_write.ensures c.refuse.ensures.said
