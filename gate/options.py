@@ -14,7 +14,7 @@ OPTION = re.compile(
 COMMAND = re.compile(r'Subcommand \{\s*name: "(\w+)".*?places: (\w+),\s*groups: &\[(.*?)\],', re.S)
 # What the values of options are completed to, where that is no file; of other values nothing is.
 COMPLETED = {"MAP": "identity affine:", "RULE": "erew crew common priority sum", "FORMAT": "text json csv gnu"}
-FILES = ("FILE", "LISTING", "PRE", "POST")
+FILES = ("FILE", "LISTING", "PRE", "POST", "OUT")
 # The options that the parser of words has by itself, for the man page.
 OF_PARSER = r""".TP
 .BR \-V ", " \-\-version
@@ -77,7 +77,7 @@ def placed(text, words):
 
 def commands():
     """All commands, in their order; what explains a refusal is last of the options of each."""
-    options = (WORDS / "options.rt").read_text()
+    options = (WORDS / "names.rt").read_text() + (WORDS / "options.rt").read_text()
     text = (WORDS / "subcommands.rt").read_text()
     groups, places = grouped(options), placed(text, constants(options))
     found = []
