@@ -4,8 +4,8 @@
 json_texts.py PROGRAM: each object of JSON is on a line of its own and has each name once; it says what the text of the same call says, and
 the exit status is the same. So it is with a run that is cut short, with changed texts that are refused, whose lines and columns are counted
 here, and with words that are. What `steps --locals` and `steps --columns` say is what its JSON says; a sweep over the sizes of an example,
-of which some are cut short or refused, says the same as text, as JSON and as CSV; and two programs on several inputs say of each what they
-say of it alone. Each line is one that docs/schema/pramc.schema.json knows.
+of which some are cut short or refused, says the same as text, as JSON and as CSV; two programs on several inputs say of each what they
+say of it alone; and programs that are graded say the same. Each line is one that docs/schema/pramc.schema.json knows.
 """
 import csv
 import json
@@ -42,6 +42,9 @@ SWEPT = re.compile(rf"(\w+) (\d+)(?:{COUNTS})? (ended|goes on|(?:fault|refused) 
 COLUMNS = ["time", "work", "width", "reads", "writes", "exchanges", "words", "outcome"]
 INPUT = re.compile(r"input((?: -?\d+)*): (.+)")
 VALUES = r"(-?\d+|missing), and (-?\d+|missing)"
+GRADED = re.compile(r"(.+?) (pass|fail) correct (\d+) of (\d+) faults (\d+) goes-on (\d+) above (\d+) time (\d+) work (\d+) procs (\d+)"
+                    r"(?: above \d+)? rule (\w+)(?: (input.*))?")
+UNGRADED = re.compile(r"(.+?) fail (refused .+)")
 REFUSED = re.compile(r"refused (E\d+) (\w+)(?: at (\d+))?(?: (\w+))?")
 
 
@@ -221,6 +224,32 @@ def differing(line):
     return said | {name: it for name, it in zip(("first", "second"), item.groups()[1:]) if it != "missing"}
 
 
+def whose(words, first, second):
+    """What differs between programs in these files, of which the words tell the second first."""
+    if above := re.fullmatch(r"(time|work) (\d+) above (\d+)", words):
+        return {"differs": above[1], "taken": int(above[2]), "limit": int(above[3])}
+    told, other = words.removesuffix(f" in {first}").split(f" in {second}, ")
+    what, is_value, value = told.rpartition(" is ")
+    if not is_value:
+        return {"differs": "outcome", "first": way(other), "second": way(told)}
+    item = re.fullmatch(r"output item (\d+)", what)
+    said = {"differs": "output", "item": int(item[1])} if item else {"differs": "cell", "cell": what}
+    return said | {name: it for name, it in (("first", other), ("second", value)) if it != "missing"}
+
+
+def graded(line, first, texts, limits):
+    """A program that is graded by that in the first file, where these texts are refused, with these limits."""
+    if refused := UNGRADED.fullmatch(line):
+        return {"file": refused[1], "passes": False, "refusal": refusal(refused[2], texts[refused[1]])[0]}
+    name, verdict, *counts, rule, differs = GRADED.fullmatch(line).groups()
+    names = ("correct", "counting", "faulted", "go_on", "above", "time", "work", "procs")
+    said = {"file": name, "passes": verdict == "pass", "rule": rule, **dict(zip(names, map(int, counts))), **limits}
+    if differs:
+        values, words = INPUT.fullmatch(differs).groups()
+        said |= {"input": values.split(), **whose(words, first, name)}
+    return said
+
+
 def refusal(line, text):
     """A refusal, with the line and the column of its place in that text."""
     number, name, at, limit = REFUSED.fullmatch(line).groups()
@@ -342,6 +371,19 @@ def wrong_pair(words, inputs):
     return [f"pramc {' '.join(map(str, words))} on {inputs}: status {code}\n{said}\n{out}{err}"]
 
 
+def wrong_grades(first, texts, options, limits):
+    """What is wrong with the JSON of programs that are graded, if anything is: of files with these texts, by that in the first file."""
+    words = ["grade", first, *texts, *options]
+    status, text, _ = called(words)
+    code, out, err = called([*words, "--format", "json"])
+    *lines, last = text.splitlines()
+    passing, programs = re.fullmatch(r"(\d+) of (\d+) pass", last).groups()
+    said = [graded(it, str(first), texts, limits) for it in lines] + [{"passing": int(passing), "programs": int(programs)}]
+    if (code, err, read(out), len(lines)) == (status, "", said, len(texts)):
+        return []
+    return [f"pramc {' '.join(map(str, words))}: status {code}, not {status}\n{said}\n{out}{err}"]
+
+
 def shown_place(place):
     """How a place is shown in words: where it is, its line, and a caret below its column."""
     where = ":".join(str(place[it]) for it in ("file", "line", "column") if it in place)
@@ -402,7 +444,12 @@ def of_pairs(name, text, folder):
         inputs.append(folder / f"{name}_pair_{at}.in")
         inputs[-1].write_text(values)
     calls = [([file, file], 20000), ([file, file, "--time-at-most", "1"], 20000), ([file, other], 20000), ([other, file], 5)]
-    return [wrong_pair(["compare", *it, "--bound", str(bound)], inputs) for it, bound in calls]
+    found = [wrong_pair(["compare", *it, "--bound", str(bound)], inputs) for it, bound in calls]
+    typo = folder / f"{name}_typo.pram"
+    typo.write_text(next(changed_texts(text)))
+    texts, given = {str(it): it.read_text() for it in (file, other, typo)}, [word for it in inputs for word in ("--input", it)]
+    limits = [([], {}), (["--procs-at-most", "1"], {"procs_at_most": 1}), (["--work-at-most", "1"], {}), (["--under", "erew"], {})]
+    return found + [wrong_grades(file, texts, [*given, "--bound", "20000", *options], limit) for options, limit in limits]
 
 
 def of_example(name, text, folder):

@@ -11,7 +11,7 @@ from pathlib import Path
 FILE = Path(__file__).resolve().parent.parent / "docs/schema/pramc.schema.json"
 SAID = {"description", "title", "$schema", "$id", "$defs"}  # what nothing is read by
 TYPES = {"string": str, "array": list, "object": dict, "boolean": bool, "null": type(None)}
-COMMANDS = ("check", "meaning", "run", "exec", "cost", "rules", "explore", "always", "compare", "steps", "trace")
+COMMANDS = ("check", "meaning", "run", "exec", "cost", "rules", "explore", "always", "compare", "grade", "steps", "trace")
 
 
 def is_of(it, kind):

@@ -38,6 +38,7 @@ LINES = {
     "needless": "rule crew; procs 1; shared s; begin s for := 1; end",
     "limit": "rule crew; procs 0; begin end",
     "size": "# size n = 8\nrule crew; procs {m}; begin end",
+    "writes": "rule crew; procs 1; shared a[1..9]; begin a[2] := 5; end",
 }
 CALLS = [
     "check even", "check typo", "check block", "check needless", "check limit", "check size", "check even --nothing", "check nowhere",
@@ -52,6 +53,8 @@ CALLS = [
     "compare even turn --cells 2 --values 0..2 --bound 9 --where even", "compare even even --count 2 --random 1..2",
     "compare even even --permutations 2 --time-at-most 0", "compare wide even --input ones",
     "compare even minus --permutations 2 --bound 9",
+    "grade even even turn wide typo nowhere --cells 1 --values 0..1 --bound 9 --procs-at-most 1",
+    "grade even writes --cells 1 --values 0..1 --only a", "grade even even --permutations 2 --work-at-most 0",
 ]
 
 
@@ -71,7 +74,8 @@ def of_documents():
                 command = WORD.search(words)
                 name = f"lines_of_{command[1]}" if command else None
                 for line in output.splitlines():
-                    is_beside = line.startswith("! ") or '"refused":"' in line and '"outcome"' not in line
+                    is_told = '"outcome"' in line or '"passes"' in line
+                    is_beside = line.startswith("! ") or '"refused":"' in line and not is_told
                     if is_object(line.removeprefix("! ")):
                         yield "lines_beside" if is_beside else name, line.removeprefix("! ")
 

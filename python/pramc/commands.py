@@ -12,13 +12,14 @@ from .costs import Cost, Sweep, cost_of, sweep_of
 from .errors import UsageError
 from .filling import filled, inputs_by_size, started
 from .outcomes import Accepted, Outcome, UnderRule, outcome_of, under_rule_of
-from .request import ByName, Interval, Request, Text, Values, name, names_text, number, only
-from .scopes import Always, Comparison, Exploration, always_of, comparison_of, exploration_of
+from .request import ByName, Interval, Request, Text, Values, items, name, names_text, number, only
+from .scopes import Always, Comparison, Exploration, Grade, always_of, comparison_of, exploration_of, grade_of
 from .telling import Steps, Trace, steps_of, trace_of
 
 Sizes = Optional[Mapping[str, int]]
 Names = Union[str, Iterable[str], None]
 Bound = Optional[int]
+Limit = Union[int, str, None]  # a number, or an expression of the sizes
 Over = Union[str, Mapping[str, Iterable[int]]]  # the sizes of a sweep: "n=4..64*2", or {"n": [4, 8, 16]}
 
 
@@ -119,17 +120,19 @@ def rules(
 
 def explore(
     text: Text, *, cells: Optional[int] = None, values: Optional[Interval] = None, permutations: Optional[int] = None,
-    where: Optional[Text] = None, ensure: Optional[Text] = None, shrink: bool = False, under: Optional[str] = None,
-    sizes: Sizes = None, bound: Bound = None, workers: Optional[int] = None
+    where: Optional[Text] = None, ensure: Optional[Text] = None, shrink: bool = False, witness: Optional[str] = None,
+    under: Optional[str] = None, sizes: Sizes = None, bound: Bound = None, workers: Optional[int] = None
 ) -> Exploration:
     """Runs a program on every input of `cells` values of the interval `values`, or on all orders of 1 to `permutations`.
 
-    `where` and `ensure` are programs: which inputs count, and which results are right."""
+    `where` and `ensure` are programs: which inputs count, and which results are right. The first input on which something goes wrong is
+    written into the file of the name `witness`."""
     request = started("explore", text, sizes, bound)
     scope(request, cells, values, permutations)
     request.text_option("where", where)
     request.text_option("ensure", ensure)
     request.flag("shrink", shrink)
+    request.option("witness", witness)
     request.option("under", under)
     request.option("workers", workers)
     return exploration_of(request.object())
@@ -150,20 +153,38 @@ def compare(
     text: Text, other: Text, *, cells: Optional[int] = None, values: Optional[Interval] = None, permutations: Optional[int] = None,
     inputs: Optional[Sequence[Values]] = None, count: Optional[int] = None, random: Optional[Interval] = None,
     draw: Optional[str] = None, seed: Optional[int] = None, where: Optional[Text] = None, only: Names = None,
-    time_at_most: Union[int, str, None] = None, work_at_most: Union[int, str, None] = None, sizes: Sizes = None, bound: Bound = None
+    time_at_most: Limit = None, work_at_most: Limit = None, sizes: Sizes = None, bound: Bound = None
 ) -> Comparison:
     """Runs two programs on the same inputs: of a scope, those of `inputs`, or `count` drawn ones. Limits are of the second program."""
     request = started("compare", text, sizes, bound)
     request.words.insert(2, request.file("other", other))
     scope(request, cells, values, permutations)
-    for at, it in enumerate(several(inputs)):
-        request.option("input", request.values_file(f"input_{at}", it))
-    request.interval("random", random)
-    request.text_option("where", where)
-    limits = (("time-at-most", time_at_most), ("work-at-most", work_at_most))
-    for word, value in (("count", count), ("draw", draw), ("seed", seed), ("only", optional_names(only)), *limits):
-        request.option(word, value)
+    tried(request, inputs, count, random, draw, seed, where)
+    compared(request, only, time_at_most, work_at_most)
     return comparison_of(request.objects()[0])
+
+
+def grade(
+    text: Text, others: Mapping[str, Text], *, cells: Optional[int] = None, values: Optional[Interval] = None,
+    permutations: Optional[int] = None, inputs: Optional[Sequence[Values]] = None, count: Optional[int] = None,
+    random: Optional[Interval] = None, draw: Optional[str] = None, seed: Optional[int] = None, where: Optional[Text] = None,
+    only: Names = None, under: Optional[str] = None, time_at_most: Limit = None, work_at_most: Limit = None,
+    procs_at_most: Limit = None, sizes: Sizes = None, bound: Bound = None
+) -> Dict[str, Grade]:
+    """Grades programs by a first one on the same inputs, each under a name of yours: `grade(text, {"ada": .., "ben": ..}, cells=4)`.
+
+    `under` is a rule under which each of the others is run."""
+    request = started("grade", text, sizes, bound)
+    request.by_file()
+    names = {request.numbered_file("graded", it): word for word, it in items(others, "others")}
+    request.words[2:2] = names
+    scope(request, cells, values, permutations)
+    tried(request, inputs, count, random, draw, seed, where)
+    compared(request, only, time_at_most, work_at_most)
+    request.option("procs-at-most", procs_at_most)
+    request.option("under", under)
+    found = {names[it["file"]]: grade_of(it) for it in request.objects()[0] if "file" in it}
+    return {word: found[word] for word in names.values()}
 
 
 # ---- what several have
@@ -173,6 +194,25 @@ def shown(request: Request, show: Names, quiet: bool) -> None:
     """Which declarations the outcome has."""
     request.option("show", optional_names(show))
     request.flag("quiet", quiet)
+
+
+def tried(
+    request: Request, inputs: Optional[Sequence[Values]], count: Optional[int], random: Optional[Interval], draw: Optional[str],
+    seed: Optional[int], where: Optional[Text]
+) -> None:
+    """The inputs on which programs are compared, beside those of a scope."""
+    for at, it in enumerate(several(inputs)):
+        request.option("input", request.values_file(f"input_{at}", it))
+    request.interval("random", random)
+    request.text_option("where", where)
+    for word, value in (("count", count), ("draw", draw), ("seed", seed)):
+        request.option(word, value)
+
+
+def compared(request: Request, only: Names, time_at_most: Limit, work_at_most: Limit) -> None:
+    """What of programs is compared, and their limits."""
+    for word, value in (("only", optional_names(only)), ("time-at-most", time_at_most), ("work-at-most", work_at_most)):
+        request.option(word, value)
 
 
 def several(inputs: Optional[Sequence[Values]]) -> Sequence[Values]:

@@ -138,6 +138,10 @@ class Request:
         self.files[called] = self.known(called, text)
         return called
 
+    def numbered_file(self, called: str, text: Text) -> str:
+        """The name of a file with that text, where there are several of a kind."""
+        return self.file(f"{called}_{len(self.files)}", text)
+
     def text_option(self, word: str, text: Optional[Text]) -> None:
         """An option with a file, if there is a text for it."""
         if text is not None:

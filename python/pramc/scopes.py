@@ -5,6 +5,7 @@ from dataclasses import dataclass
 from typing import Any, Dict, List, Mapping, Optional, Tuple, Union
 
 from .outcomes import Fault, fault_of, numbers, optional_number
+from .refusals import Refusal, refusal_of
 
 Input = Tuple[int, ...]
 
@@ -79,6 +80,35 @@ class Comparison:
     @property
     def is_same(self) -> bool:
         return self.same == (self.inputs if self.counting is None else self.counting)
+
+
+@dataclass(frozen=True)
+class Marks:
+    """How a program does that is graded: on how many of the inputs that count it is `correct`, faults, goes on, or is `above` a limit.
+
+    `time` and `work` are the most that any of its runs took, `rule` is that of its text, `procs_at_most` is there with that limit, and
+    `difference` where an input differs: the first one, with the first program's value as `first`."""
+
+    counting: int
+    correct: int
+    faulted: int
+    go_on: int
+    above: int
+    time: int
+    work: int
+    rule: str
+    procs: int
+    procs_at_most: Optional[int]
+    difference: Optional[Difference]
+
+
+@dataclass(frozen=True)
+class Grade:
+    """Whether a program passes that is graded: its marks, or where it is refused why."""
+
+    passes: bool
+    marks: Optional[Marks]
+    refusal: Optional[Refusal]
 
 
 @dataclass(frozen=True)
@@ -187,6 +217,19 @@ def comparison_of(lines: List[Mapping[str, Any]]) -> Comparison:
     *differences, end = lines
     more = [optional_number(end, it) for it in ("counting", "cells")]
     return Comparison(end["inputs"], end["same"], tuple(map(difference_of, differences)), *more)
+
+
+def marks_of(said: Mapping[str, Any]) -> Marks:
+    counts = [int(said[it]) for it in ("counting", "correct", "faulted", "go_on", "above", "time", "work")]
+    difference = difference_of(said) if "differs" in said else None
+    return Marks(*counts, said["rule"], int(said["procs"]), optional_number(said, "procs_at_most"), difference)
+
+
+def grade_of(said: Mapping[str, Any]) -> Grade:
+    refusal = said.get("refusal")
+    if refusal is not None:
+        return Grade(said["passes"], None, refusal_of(refusal, {}, {}))
+    return Grade(said["passes"], marks_of(said), None)
 
 
 def reason_of(said: Mapping[str, Any]) -> Reason:

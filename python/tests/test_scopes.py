@@ -1,9 +1,11 @@
 """Many inputs together: values of the page on the language (docs/LANGUAGE.md) and of the tutorial."""
+import tempfile
 import unittest
+from pathlib import Path
 
 import pramc
 
-from .programs import ADA, BEN, COUNTS_ON, DOUBLES, EVEN, GATHER, HALVED, HALVES, NEXT, OPEN, OWED, SCATTER, SUM, SUM_N
+from .programs import ADA, BEN, COUNTS_ON, DOUBLES, EVEN, GATHER, HALVED, HALVES, NEXT, OPEN, OWED, SCATTER, SUM, SUM_N, TYPO
 
 GREATEST = 2**63 - 1
 
@@ -34,6 +36,13 @@ class Explorations(unittest.TestCase):
         scope = {"cells": 1, "values": (-3, 3), "ensure": HALVED}
         self.assertEqual(pramc.explore(HALVES, **scope).fails_at, (-3,))
         self.assertEqual(pramc.explore(HALVES, **scope, shrink=True).fails_at, (0,))
+
+    def test_a_witness(self):
+        scope = {"cells": 1, "values": (-3, 3), "ensure": HALVED}
+        with tempfile.TemporaryDirectory() as folder:
+            out = Path(folder, "bad.in")
+            self.assertEqual(pramc.explore(HALVES, **scope, witness=str(out)).fails_at, (-3,))
+            self.assertEqual(out.read_text(), "-3\n")
 
     def test_one_that_goes_on(self):
         text = "rule crew; procs 1; shared s;\nbegin\n  while s = 2 do s := 2; end\nend\n"
@@ -93,6 +102,60 @@ class Comparisons(unittest.TestCase):
 
     def test_sizes_and_bound(self):
         self.assertEqual(pramc.compare(SUM_N, SUM_N, permutations=2, sizes={"n": 2}, bound=1).same, 2)
+
+
+class Grades(unittest.TestCase):
+    def test_a_class(self):
+        handed_in = {"ben": BEN, "ada": ADA}
+        found = pramc.grade(OWED, handed_in, cells=4, values=(0, 4), only="output", under="erew", time_at_most=21)
+        self.assertEqual([(word, it.passes, it.refusal) for word, it in found.items()], [("ben", False, None), ("ada", False, None)])
+        ben, ada = found["ben"].marks, found["ada"].marks
+        self.assertEqual((ben.counting, ben.correct, ben.faulted, ben.go_on, ben.above), (625, 311, 0, 0, 0))
+        self.assertEqual((ben.time, ben.work, ben.rule, ben.procs, ben.procs_at_most), (8, 12, "erew", 4, None))
+        first = ben.difference
+        self.assertEqual((first.input, first.differs, first.item, first.first, first.second), ((0, 0, 1, 0), "output", 1, 1, 0))
+        self.assertEqual((ada.correct, ada.go_on, ada.time), (0, 625, 21))
+        self.assertEqual((ada.difference.first, ada.difference.second), ("ended", "goes on"))
+
+    def test_processors(self):
+        for most, passes in ((3, False), ("2 * 2", True)):
+            found = pramc.grade(OWED, {"same": OWED}, permutations=4, procs_at_most=most)["same"]
+            self.assertEqual((found.passes, found.marks.correct, found.marks.difference), (passes, 24 if passes else 0, None))
+        self.assertEqual((found.marks.procs, found.marks.procs_at_most), (4, 4))
+
+    def test_work(self):
+        found = pramc.grade(SUM, {"same": SUM}, inputs=[[]], work_at_most=11)["same"].marks
+        self.assertEqual((found.above, found.difference.differs, found.difference.taken, found.difference.limit), (1, "work", 12, 11))
+
+    def test_a_fault(self):
+        found = pramc.grade(GATHER, {"scatter": SCATTER}, cells=3, values=(0, 2))["scatter"].marks
+        self.assertEqual((found.faulted, found.difference.second), (21, pramc.Fault("write-conflict", "a[0]", 4)))
+
+    def test_one_that_is_refused(self):
+        found = pramc.grade(SUM, {"typo": TYPO, "sum": SUM}, permutations=4)
+        self.assertTrue(found["sum"].passes)
+        refusal = found["typo"].refusal
+        self.assertEqual((found["typo"].passes, found["typo"].marks), (False, None))
+        self.assertEqual((refusal.number, refusal.name, refusal.offset), ("E6", "UnknownName", TYPO.index("aa")))
+        self.assertEqual((refusal.line, refusal.column), (9, 9))
+
+    def test_a_first_one_that_is_refused(self):
+        self.assertRaises(pramc.Refused, pramc.grade, TYPO, {"sum": SUM}, permutations=4)
+
+    def test_none(self):
+        self.assertRaises(pramc.UsageError, pramc.grade, SUM, {}, permutations=4)
+        self.assertRaises(pramc.UsageError, pramc.grade, SUM, SUM, permutations=4)
+
+    def test_inputs(self):
+        where = "rule crew; procs 1; shared a[1..4]; begin print a[1] = 1; end"
+        self.assertEqual(pramc.grade(SUM, {"same": SUM}, permutations=4, where=where)["same"].marks.counting, 6)
+        drawn = {"count": 5, "random": (1, 9), "seed": 3}
+        self.assertEqual(pramc.grade(SUM, {"same": SUM}, **drawn)["same"].marks.correct, 5)
+        self.assertEqual(pramc.grade(NEXT, {"same": NEXT}, count=2, draw="ring")["same"].marks.correct, 2)
+
+    def test_sizes_and_bound(self):
+        found = pramc.grade(SUM_N, {"same": SUM_N}, permutations=2, sizes={"n": 2}, bound=1)["same"].marks
+        self.assertEqual((found.counting, found.correct, found.go_on), (2, 0, 2))
 
 
 class AllInputs(unittest.TestCase):

@@ -29,6 +29,7 @@ use Rattle.json_texts.specs.PairFacts.{pair_facts}
 use Rattle.json_texts.specs.RuleFacts.{comparison_facts}
 use Rattle.json_texts.specs.SweepFacts.{sweep_facts}
 use Rattle.json_texts.specs.TraceFacts.{trace_facts}
+use Rattle.command_json.specs.Grades.{grade_facts}
 
 -- what exchanges cost, where that is asked for and a number of 128 bits
 abbrev pub cost_asked : Option (ℕ × ℕ) → List Exchange → Option ℕ
@@ -55,6 +56,7 @@ AreFactsOf (settled.Traced r w t) told =
 AreFactsOf (settled.Explored f) told = told ≡ exploration_facts f.program.layout f.specification (found_is f.findings) ∷ []
 AreFactsOf (settled.Surveyed f) told = told ≡ survey_facts f.program.layout f.scope f.told ∷ []
 AreFactsOf (settled.Paired p) told = told ≡ pair_facts p.first.layout p.second.layout p.precondition p.drawn (pairs.found_is p.comparison)
+AreFactsOf (settled.Graded f) told = told ≡ grade_facts f
 AreFactsOf (settled.Swept s) told = told ≡ sweep_facts s.sweep.name s.rows.items s.growths
 AreFactsOf (settled.Executed c) told = told ≡ code_facts c ∷ []
 AreFactsOf _ told = ⊥
@@ -71,7 +73,6 @@ IsUntold (settled.Expanded s) = Unit {0}
 IsUntold (settled.Planned code) = Unit {0}
 IsUntold (settled.Exported code) = Unit {0}
 IsUntold (settled.ExportedAlone code) = Unit {0}
-IsUntold (settled.Graded f) = Unit {0}
 IsUntold _ = ⊥
 
 -- why no lines are made: memory was refused, or what was found is not told so

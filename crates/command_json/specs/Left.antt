@@ -53,6 +53,10 @@ pub record IsMemoryTold (old new : OutState) : Type 0 where
 abbrev pub IsRefusalSaid : (words : List (List ℕ)) → Stop → About → OutState → OutState → Type 0
 IsRefusalSaid words why a old new = IsRefusalTold words why a old new ⊎ IsMemoryTold old new
 
+-- Of a file that is written nothing is said: its input stands in the object on standard output.
+abbrev pub IsUnsaid : (name : List ℕ) → OutState → OutState → Type 0
+IsUnsaid name old new = new ≡ old
+
 -- `{"bound":123456,"seconds":5}`
 abbrev pub time_line : (seconds bound : ℕ) → List ℕ
 time_line seconds bound = codes "{\"bound\":" ++ (decimal bound ++ (codes ",\"seconds\":" ++ (decimal seconds ++ codes "}\n")))

@@ -1,3 +1,4 @@
+pub mod Grades
 pub mod Facts
 pub mod Stepped
 pub mod Left

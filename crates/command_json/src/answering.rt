@@ -2,7 +2,7 @@
 
 ghost use Rattle.std.specs.Prelude.{map};
 ghost use Rattle.std.specs.String.{string_bytes};
-ghost use Rattle.command_json.specs.Left.{IsRefusalSaid, LeavesFound};
+ghost use Rattle.command_json.specs.Left.{IsRefusalSaid, IsUnsaid, LeavesFound};
 ghost use Rattle.command_json.specs.Stepped.{IsToldBy};
 
 use crate::reporting::{report, tell_found_in_time, tell_time};
@@ -85,9 +85,10 @@ fn tell<O: Out, E: Out>(
 
 /// What a call finds, said as JSON.
 ///
-/// `check`, `meaning`, `cost`, `rules`, `explore`, `always`, `run` and `exec` write one object; `compare` one for each input that is told and one for
-/// all; `steps` and `trace` an object a line, and on the last line how the run came out. What is refused is one object on standard error,
-/// with what there is to say of it. `expand`, `plan`, `export`, `explain` and the version are not told as JSON (P1).
+/// `check`, `meaning`, `cost`, `rules`, `explore`, `always`, `run` and `exec` write one object; `compare` one for each input that is told
+/// and one for all; `grade` one for each program and one for all; `steps` and `trace` an object a line, and on the last line how the run
+/// came out. What is refused is one object on standard error, with what there is to say of it. `expand`, `plan`, `export`, `explain` and
+/// the version are not told as JSON (P1).
 #[derive(Clone, Copy, Debug)]
 pub struct Json {
     /// Whether standard output is a terminal, where the watch isn't told of a run whose lines are written as it goes.
@@ -101,6 +102,9 @@ impl Voice for Json {
 
     // Standard error has the line of JSON of the refusal, or that of E16 where memory for it was refused; or a beginning.
     ghost refuses = { λ json words why about err err_new. IsRefusalSaid words why about err err_new };
+
+    // Standard error stays as it was.
+    ghost wrote = { λ json name err err_new. IsUnsaid name err err_new };
 
     fn say_settled<V: Watch, O: Out, E: Out>(
         &self,
@@ -129,4 +133,6 @@ impl Voice for Json {
     fn refuse<E: Out>(&self, alloc: Global, words: &[String], halted: &Halted<'_>, err: &mut E) {
         report(alloc, err, words, halted);
     }
+
+    fn say_written<E: Out>(&self, _name: &str, _err: &mut E) {}
 }

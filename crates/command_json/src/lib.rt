@@ -2,6 +2,7 @@
 #![tactic(auto)]
 
 mod answering;
+mod grading;
 mod reporting;
 mod stepping;
 mod telling;

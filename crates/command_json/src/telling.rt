@@ -14,6 +14,7 @@ ghost use Rattle.json_texts.specs.TraceFacts.{trace_facts};
 ghost use Rattle.write_rules.specs.Verdict.{verdict_of};
 ghost use Rattle.command_json.specs.Facts as spec;
 
+use crate::grading::grade_text;
 use crate::writing::write_json;
 use command_facts::{
     FoundCode, FoundOverall, FoundPair, FoundRun, FoundScope, FoundSweep, FoundTrace, Settled,
@@ -175,6 +176,7 @@ fn text_of<'a>(alloc: Global, found: &Settled<'_>) -> Result<String, Stop<'a>>
         Settled::Explored(found) => Ok(scope_text(alloc, found)?),
         Settled::Surveyed(found) => Ok(survey_text(alloc, found)?),
         Settled::Paired(pair) => Ok(pair_text(alloc, pair)?),
+        Settled::Graded(found) => Ok(grade_text(alloc, found)?),
         Settled::Executed(run) => Ok(code_text(alloc, run)?),
         Settled::Version => Err(Stop::Number(JSON)),
         Settled::Explanation(_) => Err(Stop::Number(JSON)),
@@ -182,7 +184,6 @@ fn text_of<'a>(alloc: Global, found: &Settled<'_>) -> Result<String, Stop<'a>>
         Settled::Planned(_) => Err(Stop::Number(JSON)),
         Settled::Exported(_) => Err(Stop::Number(JSON)),
         Settled::ExportedAlone(_) => Err(Stop::Number(JSON)),
-        Settled::Graded(_) => Err(Stop::Number(JSON)),
     }
 }
 

@@ -58,6 +58,7 @@ command_sentence word =
     ++ codes "`--random` and `--draw`\n")
     else if same_text word (codes "--listing") then (codes "`export` wants a FILE, or `--listing` in its place, which goes without "
     ++ codes "`--size`\n")
+    else if same_text word (codes "--witness") then codes "`--witness` wants the name of a file, and `-` is none\n"
     else []
 
 -- an option that doesn't go with others of the call

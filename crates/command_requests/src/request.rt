@@ -91,12 +91,14 @@ pub enum Request<'a> {
         file: ProgramFile<'a>,
         words: SweepWords<'a>,
     },
-    /// A program is run by its definition on every input of a scope that counts, each time for at most so many statements.
+    /// A program is run by its definition on every input of a scope that counts, each time for at most so many statements; and where a file
+    /// is named for it, the first input that is told is written there.
     Exploration {
         file: ProgramFile<'a>,
         specification: SpecificationFiles<'a>,
         scope: ScopeWords,
         bound: u32,
+        witness: Option<&'a str>,
     },
     /// A program is run once for all inputs of a scope, for at most so many statements.
     Always {

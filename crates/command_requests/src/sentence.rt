@@ -92,6 +92,8 @@ fn command_sentence(word: &[u8]) -> &'static [u8]
         b"`--permutations` goes with none of `--cells`, `--values`, `--random` and `--draw`\n"
     } else if is_same(word, b"--listing") {
         b"`export` wants a FILE, or `--listing` in its place, which goes without `--size`\n"
+    } else if is_same(word, b"--witness") {
+        b"`--witness` wants the name of a file, and `-` is none\n"
     } else {
         b""
     }

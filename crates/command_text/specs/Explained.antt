@@ -1,6 +1,7 @@
 -- What is said on standard error.
 use Rattle.std.specs.Prelude.{◌≡◌, ◌⊎◌, ℕ, ℤ, List, [], ◌++◌, Bool, true, false, Option, Some, None, codes, decimal}
 use Rattle.text_out.specs.Out.{OutState}
+use Rattle.text_places.specs.Escaped.{escaped}
 use Rattle.pram_check.specs.Checked.{Checked}
 use Rattle.endless_runs.specs.Endless.{HasCycle, NeverEnds}
 use Rattle.endless_runs.specs.declared.cycle.Cycle.{Cycle}
@@ -82,6 +83,14 @@ bound_sentence bound = codes "the run met its bound of " ++ (decimal bound ++ co
 abbrev pub time_sentence : (seconds bound : ℕ) → List ℕ
 time_sentence seconds bound =
     codes "--seconds " ++ (decimal seconds ++ (codes " ended the run after statement " ++ (decimal bound ++ codes "\n")))
+
+-- `wrote the input to bad.in`
+abbrev pub written_line : (name : List ℕ) → List ℕ
+written_line name = codes "wrote the input to " ++ (escaped name ++ codes "\n")
+
+-- it stands on standard error, as far as that takes it
+abbrev pub IsWrittenSaid : (name : List ℕ) → OutState → OutState → Type 0
+IsWrittenSaid name old new = IsReported old new (written_line name)
 
 -- `this never ends: the loop of line 9 comes back to the same state after 4 statements`
 abbrev pub cycle_sentence : Cycle → List ℕ

@@ -2,11 +2,11 @@
 
 ghost use Rattle.std.specs.Prelude.{map};
 ghost use Rattle.std.specs.String.{string_bytes};
-ghost use Rattle.command_text.specs.Explained.{IsRefusalReported};
+ghost use Rattle.command_text.specs.Explained.{IsRefusalReported, IsWrittenSaid};
 ghost use Rattle.command_text.specs.Left.{LeavesFound};
 ghost use Rattle.command_text.specs.Stepped.{IsToldInTime};
 
-use crate::explaining::{explain, explain_run, report};
+use crate::explaining::{explain, explain_run, report, say_written};
 use crate::stepping::write_stepped;
 use crate::telling::write_found;
 use crate::terminal::Terminal;
@@ -94,6 +94,9 @@ impl Voice for Terminal {
     // Standard error has the line of the refusal and what explains it, or the lines of editors; or a beginning of that.
     ghost refuses = { λ on words why about err err_new. IsRefusalReported on words why about err err_new };
 
+    // Standard error has the line that names the file, or a beginning of it.
+    ghost wrote = { λ on name err err_new. IsWrittenSaid name err err_new };
+
     fn say_settled<V: Watch, O: Out, E: Out>(
         &self,
         alloc: Global,
@@ -120,5 +123,9 @@ impl Voice for Terminal {
 
     fn refuse<E: Out>(&self, alloc: Global, words: &[String], halted: &Halted<'_>, err: &mut E) {
         report(alloc, err, words, halted, *self);
+    }
+
+    fn say_written<E: Out>(&self, name: &str, err: &mut E) {
+        say_written(err, name);
     }
 }

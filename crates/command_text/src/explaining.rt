@@ -26,6 +26,7 @@ use pram_trees::Layout;
 use program_texts::Stop;
 use std::alloc::Global;
 use text_out::{Out, WriteFault};
+use text_places::write_escaped;
 use write_rules::{Fault, Outcome};
 
 // The most cells of a run that is searched for a loop by which it never ends.
@@ -258,6 +259,23 @@ fn write_time<E: Out>(err: &mut E, seconds: u32, bound: u32) -> Result<(), Write
         Buffer::new().format(bound).as_bytes(),
         b"\n",
     ])
+}
+
+fn write_written<E: Out>(err: &mut E, name: &str) -> Result<(), WriteFault>
+    ensures written { Writes (E.Out.state err.old) (E.Out.state err.new) (spec.written_line name.now) result }
+{
+    err.write_all(b"wrote the input to ")?;
+    write_escaped(err, name.as_bytes())?;
+    err.write_all(b"\n")
+}
+
+/// Writes that an input was written into a file of this name. That it fails changes no status.
+pub(crate) fn say_written<E: Out>(err: &mut E, name: &str)
+    ensures said { spec.IsWrittenSaid name.now (E.Out.state err.old) (E.Out.state err.new) }
+{
+    if write_written(err, name).is_ok() {
+        let _ = err.flush();
+    }
 }
 
 // Writes that there was no more time for a run.

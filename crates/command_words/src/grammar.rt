@@ -1,6 +1,7 @@
 //! The grammar of command lines, for the parser, by the tables of subcommands and options.
 
-use crate::options::{CommandOption, FILES, Follows, options_of};
+use crate::names::FILES;
+use crate::options::{CommandOption, Follows, options_of};
 use crate::subcommands::{Place, SUBCOMMANDS, Subcommand};
 use clap::{Arg, ArgAction, Command};
 use command_requests::VERSION;

@@ -3,9 +3,11 @@
 
 mod command_line;
 mod grammar;
+mod names;
 mod options;
 mod pair_reading;
 mod reading;
+mod refusing;
 mod run_reading;
 mod scope_reading;
 mod subcommands;

@@ -1,5 +1,12 @@
 //! The options of the program, by their names, with what its help says of them.
 
+use crate::names::{
+    BOUND, BSP, CELLS, CHECK, COLUMNS, COUNT, DRAW, ENSURE, FLOW, FORMAT, FROM, HTML, INPUT, LINES,
+    LISTING_FILE, LOCALS, MAP, MEMORY, ONLY, OUTCOME, PERMUTATIONS, PROCS_AT_MOST, QUIET, RANDOM,
+    RESERVE, SCHEDULE, SECONDS, SEED, SHOW, SHRINK, SIZE, STDOUT, SVG, SWEEP, TIME_AT_MOST, TO,
+    UNDER, VALUES, WHERE, WITNESS, WORK_AT_MOST, WORKERS,
+};
+
 /// What stands behind an option.
 #[derive(Clone, Copy)]
 pub(crate) enum Follows {
@@ -58,6 +65,8 @@ pub(crate) enum Group {
     Ensured,
     // which inputs are told
     Smaller,
+    // where the first of them is written
+    Witnessed,
     // under which rule it is tried
     Ruled,
     // by how many workers inputs are tried
@@ -75,96 +84,6 @@ pub(crate) enum Group {
     // how many processors a program that is graded may declare
     Graded,
 }
-
-pub(crate) const FILE: &str = "FILE";
-
-pub(crate) const FILES: &str = "FILE..";
-
-pub(crate) const SECOND: &str = "FILE2";
-
-pub(crate) const WORD: &str = "WORD";
-
-pub(crate) const BOUND: &str = "bound";
-
-pub(crate) const SECONDS: &str = "seconds";
-
-pub(crate) const INPUT: &str = "input";
-
-pub(crate) const WORKERS: &str = "workers";
-
-pub(crate) const MAP: &str = "map";
-
-pub(crate) const RESERVE: &str = "reserve";
-
-pub(crate) const SCHEDULE: &str = "schedule";
-
-pub(crate) const LINES: &str = "lines";
-
-pub(crate) const FROM: &str = "from";
-
-pub(crate) const TO: &str = "to";
-
-pub(crate) const LOCALS: &str = "locals";
-
-pub(crate) const COLUMNS: &str = "columns";
-
-pub(crate) const OUTCOME: &str = "outcome";
-
-pub(crate) const BSP: &str = "bsp";
-
-pub(crate) const SVG: &str = "svg";
-
-pub(crate) const HTML: &str = "html";
-
-pub(crate) const FLOW: &str = "flow";
-
-pub(crate) const FORMAT: &str = "format";
-
-pub(crate) const SIZE: &str = "size";
-
-pub(crate) const MEMORY: &str = "memory";
-
-pub(crate) const RANDOM: &str = "random";
-
-pub(crate) const DRAW: &str = "draw";
-
-pub(crate) const SEED: &str = "seed";
-
-pub(crate) const ONLY: &str = "only";
-
-pub(crate) const SHOW: &str = "show";
-
-pub(crate) const QUIET: &str = "quiet";
-
-pub(crate) const SWEEP: &str = "sweep";
-
-pub(crate) const CELLS: &str = "cells";
-
-pub(crate) const VALUES: &str = "values";
-
-pub(crate) const PERMUTATIONS: &str = "permutations";
-
-pub(crate) const UNDER: &str = "under";
-
-pub(crate) const WHERE: &str = "where";
-
-pub(crate) const ENSURE: &str = "ensure";
-
-pub(crate) const SHRINK: &str = "shrink";
-
-pub(crate) const LISTING_FILE: &str = "listing";
-
-pub(crate) const COUNT: &str = "count";
-
-pub(crate) const TIME_AT_MOST: &str = "time-at-most";
-
-pub(crate) const WORK_AT_MOST: &str = "work-at-most";
-
-pub(crate) const CHECK: &str = "check";
-
-pub(crate) const STDOUT: &str = "stdout";
-
-pub(crate) const PROCS_AT_MOST: &str = "procs-at-most";
 
 const EXPLAINED: &str = "explain";
 
@@ -299,7 +218,7 @@ const DRAWN: &[CommandOption] = &[
     CommandOption {
         name: FLOW,
         follows: Follows::Nothing,
-        help: "Draws the flow of data between the shared cells, as SVG",
+        help: "Draws the flow of data between shared cells, as SVG",
     },
     CommandOption {
         name: ONLY,
@@ -345,7 +264,7 @@ const TRACED: &[CommandOption] = &[
     CommandOption {
         name: LINES,
         follows: Follows::Nothing,
-        help: "Tells of each the line of the statement that it serves",
+        help: "Tells of each the line of the statement it serves",
     },
     CommandOption {
         name: BSP,
@@ -382,13 +301,19 @@ const COUNTING: &[CommandOption] = &[CommandOption {
 const ENSURED: &[CommandOption] = &[CommandOption {
     name: ENSURE,
     follows: Follows::Word("POST"),
-    help: "Has POST say so of each end; it gets the cells by their names",
+    help: "Has POST say so of each end; it gets cells by their names",
 }];
 
 const SMALLER: &[CommandOption] = &[CommandOption {
     name: SHRINK,
     follows: Follows::Nothing,
     help: "Tells smaller inputs on which the same goes wrong",
+}];
+
+const WITNESSED: &[CommandOption] = &[CommandOption {
+    name: WITNESS,
+    follows: Follows::Word("OUT"),
+    help: "Writes the first input told to this file",
 }];
 
 const SHARED: &[CommandOption] = &[CommandOption {
@@ -465,7 +390,7 @@ const LAID_OUT: &[CommandOption] = &[
     CommandOption {
         name: CHECK,
         follows: Follows::Nothing,
-        help: "Names the files that would change, and writes none",
+        help: "Names files that would change, and writes none",
     },
     CommandOption {
         name: STDOUT,
@@ -500,6 +425,7 @@ pub(crate) fn options_of(group: Group) -> &'static [CommandOption] {
         Group::Counting => COUNTING,
         Group::Ensured => ENSURED,
         Group::Smaller => SMALLER,
+        Group::Witnessed => WITNESSED,
         Group::Ruled => RULED,
         Group::Shared => SHARED,
         Group::Listed => LISTED,

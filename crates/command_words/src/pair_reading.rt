@@ -3,7 +3,7 @@
 ghost use Rattle.std.specs.Prelude.{IfErr};
 ghost use Rattle.command_requests.specs.Words.{IsOfWords};
 
-use crate::options::{
+use crate::names::{
     BOUND, CELLS, COUNT, DRAW, INPUT, ONLY, PERMUTATIONS, PROCS_AT_MOST, RANDOM, SEED,
     TIME_AT_MOST, VALUES, WORK_AT_MOST,
 };

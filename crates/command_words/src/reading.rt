@@ -5,18 +5,18 @@ ghost use Rattle.std.specs.String.{string_bytes};
 ghost use Rattle.command_requests.specs.Words.{AsksForVersion, IsOfWords};
 
 use crate::grammar::grammar;
-use crate::options::{
+use crate::names::{
     BOUND, BSP, CHECK, ENSURE, FILE, FILES, FLOW, FORMAT, HTML, LINES, LISTING_FILE, OUTCOME,
     SCHEDULE, SECOND, SECONDS, SIZE, STDOUT, SVG, SWEEP, TO, WHERE, WORD,
 };
 use crate::pair_reading::{graded_words, pair_words};
+use crate::refusing::unmatched;
 use crate::run_reading::{
     choice_of, cost_words, meaning_words, number_of, opening_of, run_words, step_words,
     sweep_words, trace_words,
 };
-use crate::scope_reading::{always_words, scope_words};
+use crate::scope_reading::{always_words, scope_words, witness_of};
 use clap::ArgMatches;
-use clap::error::ErrorKind;
 use command_requests::{
     ArrangeForm, ArrangeWords, GradeWords, PairWords, ProgramFile, Request, SizeWord,
     SpecificationFiles, asks_for_version,
@@ -24,7 +24,6 @@ use command_requests::{
 use help::subject_of;
 use program_texts::{Refusal, Stop};
 use std::alloc::{AllocError, Global};
-use text_places::escaped_name;
 
 // How something is told. Whether it is JSON `asks_for_json` says, and whether it is in the lines of editors `asks_for_gnu`.
 #[derive(Clone, Copy, PartialEq, Eq)]
@@ -308,6 +307,7 @@ fn asked_exploration<'a>(alloc: Global, matches: &ArgMatches<'a>) -> Result<Requ
     check_format(matches, Over::Run)?;
     let scope = scope_words(matches)?;
     let bound = number_of(matches, BOUND)?;
+    let witness = witness_of(matches)?;
     let file = file_of(alloc, matches)?;
     let specification = specification_files(alloc, matches)?;
     Ok(Request::Exploration {
@@ -315,6 +315,7 @@ fn asked_exploration<'a>(alloc: Global, matches: &ArgMatches<'a>) -> Result<Requ
         specification,
         scope,
         bound,
+        witness,
     })
 }
 
@@ -439,95 +440,6 @@ fn asked_subject<'a>(matches: &ArgMatches<'a>) -> Result<Request<'a>, Stop<'a>>
         Some(subject) => Ok(Request::Explanation(subject)),
         None => Err(Stop::Number(word)),
     }
-}
-
-// How the parser's tip to write an option behind `--` begins. It would be the name of a file there.
-const TIP: &str = "  tip: to pass ";
-
-// How the parser's last line begins where it refuses words; its help ends with an example.
-const ASIDE: &str = "For more information";
-
-// A call's first word, if there is something to explain of it, as there is of each command.
-fn explained(words: &[String]) -> &str {
-    if let Some(word) = words.first() {
-        if subject_of(word.as_str()).is_some() {
-            return word.as_str();
-        }
-    }
-    ""
-}
-
-// Says what to type to read more.
-fn push_hint(text: &mut String, word: &str) -> Result<(), AllocError> {
-    text.push_str("More: pramc explain")?;
-    if !word.is_empty() {
-        text.push(' ')?;
-        text.push_str(word)?;
-    }
-    text.push('\n')?;
-    Ok(())
-}
-
-// The parser's words, without that tip, and what to type to read more.
-fn told(alloc: Global, words: &[String], error: &clap::Error) -> Result<String, AllocError> {
-    let text = format!(in alloc; "{error}")?;
-    let mut kept = String::new(alloc);
-    let mut is_behind = false;
-    for line in text.lines() {
-        let is_tip = line.starts_with(TIP);
-        // the empty line behind the tip goes with it
-        if !is_tip && !(is_behind && line.is_empty()) {
-            kept.push_str(line)?;
-            kept.push('\n')?;
-        }
-        if line.starts_with(ASIDE) {
-            push_hint(&mut kept, explained(words))?;
-        }
-        is_behind = is_tip;
-    }
-    Ok(kept)
-}
-
-// The first word that isn't told as it is, but the parser would write it so.
-fn steering(alloc: Global, words: &[String]) -> Result<Option<&str>, AllocError> {
-    for word in words {
-        if escaped_name(alloc, word.as_bytes())?.len() != word.len() {
-            return Ok(Some(word.as_str()));
-        }
-    }
-    Ok(None)
-}
-
-// The words of the parser, where it refused the command line; of one that could end its lines or steer a terminal that word.
-fn refused<'a>(alloc: Global, words: &'a [String], error: clap::Error) -> Stop<'a>
-    ensures { IsOfWords result }
-{
-    if error.kind() == ErrorKind::OutOfMemory {
-        return Stop::Refused(Refusal::OutOfMemory);
-    }
-    match steering(alloc, words) {
-        Ok(None) => {}
-        Ok(Some(word)) => return Stop::Number(word),
-        Err(AllocError) => return Stop::Refused(Refusal::OutOfMemory),
-    }
-    match told(alloc, words, &error) {
-        Ok(text) => Stop::Words(text),
-        Err(AllocError) => Stop::Refused(Refusal::OutOfMemory),
-    }
-}
-
-// The parser has found the version asked for among other words, or it refused the command line.
-fn unmatched<'a>(
-    alloc: Global,
-    words: &'a [String],
-    error: clap::Error,
-) -> Result<Request<'a>, Stop<'a>>
-    ensures { IfErr result IsOfWords }
-{
-    if error.kind() == ErrorKind::DisplayVersion {
-        return Ok(Request::Version);
-    }
-    Err(refused(alloc, words, error))
 }
 
 /// Reads the words behind the program's name.

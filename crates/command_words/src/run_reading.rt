@@ -4,7 +4,7 @@ ghost use Rattle.std.specs.Prelude.{◌<◌, ◌^◌, IfOk, IfErr};
 ghost use Rattle.std.specs.Option.{ForSome};
 ghost use Rattle.command_requests.specs.Words.{IsOfWords};
 
-use crate::options::{
+use crate::names::{
     BOUND, BSP, COLUMNS, DRAW, FLOW, FORMAT, FROM, HTML, INPUT, LINES, LOCALS, MAP, MEMORY, ONLY,
     OUTCOME, QUIET, RANDOM, RESERVE, SCHEDULE, SECONDS, SEED, SHOW, SVG, TO, WORKERS,
 };

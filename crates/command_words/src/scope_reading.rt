@@ -3,7 +3,7 @@
 ghost use Rattle.std.specs.Prelude.{◌≤◌, IfOk, IfErr};
 ghost use Rattle.command_requests.specs.Words.{IsOfWords};
 
-use crate::options::{CELLS, PERMUTATIONS, SHRINK, UNDER, VALUES, WORKERS};
+use crate::names::{CELLS, PERMUTATIONS, SHRINK, UNDER, VALUES, WITNESS, WORKERS};
 use crate::run_reading::number_of;
 use clap::ArgMatches;
 use command_requests::{AlwaysWords, FewInputs, MOST_CELLS, MOST_INPUTS, MOST_ORDERED, ScopeWords};
@@ -120,6 +120,16 @@ pub(crate) fn scope_words<'a>(words: &ArgMatches<'a>) -> Result<ScopeWords, Stop
         workers,
         shrink: words.get_flag(SHRINK),
     })
+}
+
+/// The file into which the first input that is told is written, if the command line has one. The name of standard input is none.
+pub(crate) fn witness_of<'a>(words: &ArgMatches<'a>) -> Result<Option<&'a str>, Stop<'a>>
+    ensures { IfErr result IsOfWords }
+{
+    match words.get_str(WITNESS) {
+        Some("-") => Err(Stop::Number("--witness")),
+        named => Ok(named),
+    }
 }
 
 // The interval of a word, if there is one.

@@ -1,6 +1,7 @@
 //! The subcommands of the program, with their options and what its help says of them.
 
-use crate::options::{FILE, FILES, Group, SECOND, WORD};
+use crate::names::{FILE, FILES, SECOND, WORD};
+use crate::options::Group;
 
 /// A word of a subcommand in its place, and what the help says of it.
 #[derive(Clone, Copy)]
@@ -205,6 +206,7 @@ pub(crate) const SUBCOMMANDS: &[Subcommand] = &[
             Group::Counting,
             Group::Ensured,
             Group::Smaller,
+            Group::Witnessed,
             Group::Bounded,
             Group::Ruled,
             Group::Shared,
@@ -260,6 +262,7 @@ pub(crate) const SUBCOMMANDS: &[Subcommand] = &[
             Group::Graded,
             Group::Ruled,
             Group::Sizes,
+            Group::Formats,
         ],
         example: "Example: pramc grade examples/maximum.pram examples/maximum_doubly_log.pram --size n=4 --permutations 4 --only output\n\
             More: pramc explain grade",

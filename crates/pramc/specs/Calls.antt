@@ -1,11 +1,15 @@
 -- What a call finds, or why it finds nothing.
-use Rattle.std.specs.Prelude.{◌≡◌, ◌⊎◌, ℕ, List, Option, Result, Ok, Err}
+use Rattle.std.specs.Prelude.{◌≡◌, ◌⊎◌, ℕ, List, Option, None, Result, Ok, Err}
+use Rattle.std.specs.Option.{option_map}
 use Rattle.bsp_verify.specs.WellFormed.{IsWellFormed}
 use Rattle.program_texts.specs.declared.stop.Stop.{Stop}
 use Rattle.diagnoses.specs.declared.about.About.TheVariants as about
 use Rattle.diagnoses.specs.declared.halted.Halted.{Halted}
+use Rattle.command_requests.specs.declared.request.ProgramFile.{ProgramFile}
 use Rattle.command_requests.specs.declared.request.Request.{Request}
 use Rattle.command_requests.specs.declared.request.Request.TheVariants as request
+use Rattle.command_requests.specs.declared.scope_words.ScopeWords.{ScopeWords}
+use Rattle.command_requests.specs.declared.specification_files.SpecificationFiles.{SpecificationFiles}
 use Rattle.command_facts.specs.declared.found.Found.{Found}
 use Rattle.command_facts.specs.declared.found.Found.TheVariants as found
 use Rattle.command_facts.specs.declared.found.Settled.TheVariants as settled
@@ -19,6 +23,11 @@ use Rattle.command_runs.specs.Runs.{IsTraceFound}
 use Rattle.command_runs.specs.Overalls.{IsSurveyed, StopsAtSurvey}
 use Rattle.command_runs.specs.Scopes.{IsExplored, StopsAtExploration}
 use Rattle.command_sweeps.specs.Sweeps.{IsSwept, StopsAtSweep}
+
+-- what is found on inputs
+abbrev pub IsExploration : (List ℕ → Option (List ℕ) → Type 0) → ProgramFile → SpecificationFiles → ScopeWords → (bound : ℕ) → Found → Type 0
+IsExploration holds file files scope bound (found.Settled (settled.Explored f)) = IsExplored holds file files scope bound f
+IsExploration holds file files scope bound _ = ⊥
 
 -- what a call finds
 abbrev pub Finds : (List ℕ → Option (List ℕ) → Type 0) → Request → Found → Type 0
@@ -39,13 +48,18 @@ Finds holds (request.Run file words shown) (found.Settled (settled.Run r told)) 
 Finds holds (request.Trace file words trace) (found.Settled (settled.Traced r told t)) =
     IsTraceFound holds file words trace r t × (told ≡ trace)
 Finds holds (request.Sweep file words) (found.Settled (settled.Swept s)) = IsSwept holds file words s
-Finds holds (request.Exploration file files scope bound) (found.Settled (settled.Explored f)) = IsExplored holds file files scope bound f
+Finds holds (request.Exploration file files scope bound witness) f = IsExploration holds file files scope bound f
 Finds holds (request.Always file words bound) (found.Settled (settled.Surveyed f)) = IsSurveyed holds file words bound f
 Finds holds (request.Pair words) (found.Settled (settled.Paired f)) = IsPaired holds words f
 Finds holds (request.Grade words) (found.Settled (settled.Graded f)) = IsGraded holds words f
 Finds holds (request.Listing file words shown) (found.Settled (settled.Executed c)) = IsCodeFound holds file.now words shown c
 Finds holds (request.ListingInC file) (found.Settled (settled.Exported code)) = IsListingIn (holds file.now) code × IsWellFormed code
 Finds holds _ _ = ⊥
+
+-- the file into which the first input is to be written on which something goes wrong, if a call names one
+abbrev pub witness_of : Request → Option (List ℕ)
+witness_of (request.Exploration file files scope bound witness) = option_map (λ name. name.now) witness
+witness_of _ = None
 
 -- what a call asks for is found before anything is told of it: texts that are laid out are told one by one
 abbrev pub IsFoundFirst : Request → Type 0
@@ -69,7 +83,7 @@ Refuses holds (request.Rules file opening bound) h = RefusesMeaning holds file o
 Refuses holds (request.Run file words shown) h = RefusesWorkers holds file words (NamesUnknown shown) h
 Refuses holds (request.Trace file words trace) h = RefusesWorkers holds file words NamesNone h
 Refuses holds (request.Sweep file words) h = StopsAtSweep holds file words h
-Refuses holds (request.Exploration file files scope bound) h = StopsAtExploration holds file files scope h
+Refuses holds (request.Exploration file files scope bound witness) h = StopsAtExploration holds file files scope h
 Refuses holds (request.Always file words bound) h = StopsAtSurvey holds file words h
 Refuses holds (request.Pair words) h = StopsAtPair holds words h
 Refuses holds (request.Grade words) h = StopsAtGrade holds words h

@@ -1,14 +1,17 @@
 //! How the program answers a request.
 
-ghost use Rattle.std.specs.Prelude.{Ok, map};
+ghost use Rattle.std.specs.Prelude.{◌≡◌, Ok, map};
+ghost use Rattle.std.specs.Option.{option_map};
 ghost use Rattle.std.specs.String.{string_bytes};
+ghost use Rattle.pramc.specs.Calls as calls;
 ghost use Rattle.pramc.specs.Calls.{IsFoundFirst};
-ghost use Rattle.pramc.specs.Left.{Leaves};
+ghost use Rattle.pramc.specs.Left.{Leaves, LeavesTold};
 
 use crate::finding::find;
-use command_facts::{Found, Voice};
+use command_facts::{Found, Settled, Voice};
 use command_layouts::say_arranged;
 use command_requests::Request;
+use command_witnesses::say_witness;
 use diagnoses::Halted;
 use observing::Watch;
 use program_texts::{Status, Stop};
@@ -19,21 +22,56 @@ use system_files::Sources;
 use text_out::Out;
 use workers::Gate;
 
-// What was found is said.
-fn say_found<T: Voice, V: Watch, O: Out, E: Out>(
+// The file into which the first input is to be written on which something goes wrong, if the call names one.
+fn witness_of<'a>(request: &Request<'a>) -> Option<&'a str>
+    ensures { option_map (λ name. name.now) result ≡ calls.witness_of request.now }
+{
+    match request {
+        Request::Exploration { witness, .. } => *witness,
+        _ => None,
+    }
+}
+
+// What was found and is known whole is said, and then such an input is written into that file.
+fn say_whole<T: Voice, S: Sources, V: Watch, O: Out, E: Out>(
     alloc: Global,
     voice: &T,
     words: &[String],
-    found: Found<'_>,
+    settled: &Settled<'_>,
+    witness: Option<&str>,
+    sources: &mut S,
     watch: &mut V,
     out: &mut O,
     err: &mut E,
 ) -> Status
-    ensures left { T.leaves voice.now (map string_bytes words.now) found.entry (O.Out.state out.old) (O.Out.state out.new)
+    ensures left { LeavesTold (T.leaves voice.now) (T.refuses voice.now) (T.wrote voice.now) (S.Sources.holds sources.new)
+        (map string_bytes words.now) (option_map (λ name. name.now) witness.entry) (Found.Settled settled.now) (O.Out.state out.old)
+        (O.Out.state out.new) (E.Out.state err.old) (E.Out.state err.new) result }
+{
+    let told = voice.say_settled(alloc, words, settled, watch, out, err);
+    say_witness(alloc, voice, words, witness, settled, told, sources, err)
+}
+
+// What was found is said, and of what is known whole such an input is written into that file.
+fn say_found<T: Voice, S: Sources, V: Watch, O: Out, E: Out>(
+    alloc: Global,
+    voice: &T,
+    words: &[String],
+    found: Found<'_>,
+    witness: Option<&str>,
+    sources: &mut S,
+    watch: &mut V,
+    out: &mut O,
+    err: &mut E,
+) -> Status
+    ensures left { LeavesTold (T.leaves voice.now) (T.refuses voice.now) (T.wrote voice.now) (S.Sources.holds sources.new)
+        (map string_bytes words.now) (option_map (λ name. name.now) witness.entry) found.entry (O.Out.state out.old) (O.Out.state out.new)
         (E.Out.state err.old) (E.Out.state err.new) result }
 {
     match found {
-        Found::Settled(settled) => voice.say_settled(alloc, words, &settled, watch, out, err),
+        Found::Settled(settled) => say_whole(
+            alloc, voice, words, &settled, witness, sources, watch, out, err,
+        ),
         Found::Stepped(steps) => voice.say_steps(alloc, words, steps, watch, out, err),
     }
 }
@@ -58,11 +96,15 @@ fn answer_found<
     err: &mut E,
 ) -> Status
     requires first { IsFoundFirst request }
-    ensures left { Leaves (T.leaves voice.now) (T.refuses voice.now) (S.Sources.holds sources.old) (map string_bytes words.now)
-        (Ok request.entry) (O.Out.state out.old) (O.Out.state out.new) (E.Out.state err.old) (E.Out.state err.new) result }
+    ensures left { Leaves (T.leaves voice.now) (T.refuses voice.now) (T.wrote voice.now) (S.Sources.holds sources.old)
+        (S.Sources.holds sources.new) (map string_bytes words.now) (Ok request.entry) (O.Out.state out.old) (O.Out.state out.new)
+        (E.Out.state err.old) (E.Out.state err.new) result }
 {
+    let witness = witness_of(&request);
     match find(rt, alloc, request, sources, watch) {
-        Ok(found) => say_found(alloc, voice, words, found, watch, out, err),
+        Ok(found) => say_found(
+            alloc, voice, words, found, witness, sources, watch, out, err,
+        ),
         Err(halted) => {
             voice.refuse(alloc, words, &halted, err);
             Status::Refused
@@ -89,8 +131,9 @@ fn answer_request<
     out: &mut O,
     err: &mut E,
 ) -> Status
-    ensures left { Leaves (T.leaves voice.now) (T.refuses voice.now) (S.Sources.holds sources.old) (map string_bytes words.now)
-        (Ok request.entry) (O.Out.state out.old) (O.Out.state out.new) (E.Out.state err.old) (E.Out.state err.new) result }
+    ensures left { Leaves (T.leaves voice.now) (T.refuses voice.now) (T.wrote voice.now) (S.Sources.holds sources.old)
+        (S.Sources.holds sources.new) (map string_bytes words.now) (Ok request.entry) (O.Out.state out.old) (O.Out.state out.new)
+        (E.Out.state err.old) (E.Out.state err.new) result }
 {
     match request {
         Request::Arrange(arrange) => {
@@ -103,8 +146,9 @@ fn answer_request<
 /// Answers the request of a call of these words by a voice, or says why they are none, and answers the exit status.
 ///
 /// Standard output has what was found, or a beginning of it where it failed (E17) or memory was refused on the way (E16), and nothing
-/// where the call is refused: P1 for the words, and what [`find`] refuses. The watch is told how far long runs are, but not of one whose
-/// statements are told on a terminal as it goes.
+/// where the call is refused: P1 for the words, and what [`find`] refuses. Behind that an input is written where a file is named for it, or it
+/// is said why it isn't (P2, E16). The watch is told how far long runs are, but not of one whose statements are told on a terminal as it
+/// goes.
 pub(crate) fn answer<
     'a,
     R: Threads + Wait + Sync,
@@ -124,8 +168,9 @@ pub(crate) fn answer<
     out: &mut O,
     err: &mut E,
 ) -> Status
-    ensures left { Leaves (T.leaves voice.now) (T.refuses voice.now) (S.Sources.holds sources.old) (map string_bytes words.now)
-        asked.entry (O.Out.state out.old) (O.Out.state out.new) (E.Out.state err.old) (E.Out.state err.new) result }
+    ensures left { Leaves (T.leaves voice.now) (T.refuses voice.now) (T.wrote voice.now) (S.Sources.holds sources.old)
+        (S.Sources.holds sources.new) (map string_bytes words.now) asked.entry (O.Out.state out.old) (O.Out.state out.new)
+        (E.Out.state err.old) (E.Out.state err.new) result }
 {
     match asked {
         Ok(request) => answer_request(rt, alloc, voice, request, words, sources, watch, out, err),

@@ -58,7 +58,7 @@ pub fn command<
 ) -> Status
     // The call leaves what its request does, in JSON exactly where the words ask for that, and explained exactly where
     // they do or standard error is a terminal.
-    ensures leaves { spec.LeavesAs (S.Sources.holds sources.old) terminal (map string_bytes words.now)
+    ensures leaves { spec.LeavesAs (S.Sources.holds sources.old) (S.Sources.holds sources.new) terminal (map string_bytes words.now)
         (O.Out.state out.old) (O.Out.state out.new) (E.Out.state err.old) (E.Out.state err.new) result }
 {
     let asked = reader.read(alloc, words);

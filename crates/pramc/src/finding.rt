@@ -1,7 +1,8 @@
 //! What calls find in their files.
 
 ghost use Rattle.std.specs.Prelude.{IfOk, IfErr};
-ghost use Rattle.pramc.specs.Calls.{Finds, IsFoundFirst, Refuses};
+ghost use Rattle.command_runs.specs.Scopes.{StopsAtExploration};
+ghost use Rattle.pramc.specs.Calls.{Finds, IsExploration, IsFoundFirst, Refuses};
 
 use command_facts::{Found, Settled, load_listing, load_program, load_text};
 use command_pairs::{find_grade, find_pair};
@@ -197,8 +198,8 @@ fn explored<'a, R: Threads + Sync, S: Sources, V: Watch>(
     sources: &mut S,
     watch: &mut V,
 ) -> Result<Found<'a>, Halted<'a>>
-    ensures found { IfOk result (Finds (S.Sources.holds sources.old) (Request.Exploration file.now files.now scope bound)) }
-    ensures refused { IfErr result (Refuses (S.Sources.holds sources.old) (Request.Exploration file.now files.now scope bound)) }
+    ensures found { IfOk result (IsExploration (S.Sources.holds sources.old) file.now files.now scope bound) }
+    ensures refused { IfErr result (StopsAtExploration (S.Sources.holds sources.old) file.now files.now scope) }
 {
     let found = find_scope(rt, alloc, file, files, scope, bound, sources, watch)?;
     Ok(Found::Settled(Settled::Explored(found)))
@@ -324,6 +325,7 @@ pub(crate) fn find<'a, R: Threads + Wait + Sync, S: Sources, V: Watch + Gate + S
             specification,
             scope,
             bound,
+            witness: _,
         } => explored(
             rt,
             alloc,

@@ -1,6 +1,6 @@
 //! What is said of `grade`.
 
-pub(crate) const GRADE: [u8; 1494] = *b"pramc grade FILE FILE2 ..: grades programs by a first one.
+pub(crate) const GRADE: [u8; 1544] = *b"pramc grade FILE FILE2 ..: grades programs by a first one.
 
 Each FILE2 has a line, in the order of names. It passes where it is right on
 every input: it ends there with the output and cells of FILE, within all limits.
@@ -27,6 +27,7 @@ Which inputs: as `pramc explain compare` says, by --input, --cells, --values,
 
 --bound N           the most statements that are run, else 1000000
 --size NAME=VALUE   another number for a size that all declare, as n=16
+--format json       tells it to programs, as JSON
 --explain           says more of a refusal of FILE
 
 Exit status: 0 all pass, 1 one doesn't, 2 the call or FILE was refused.

@@ -1,6 +1,6 @@
 //! What is said of all options. Made of the table of options by `gate/editors.py --write`.
 
-pub(crate) const OPTIONS: [u8; 4056] = *b"The options, and which commands take them.
+pub(crate) const OPTIONS: [u8; 4087] = *b"The options, and which commands take them.
 
 Of all:
 --help     says what there is to type
@@ -11,12 +11,12 @@ All but explain:
 All but fmt, exec and explain:
 --size NAME=VALUE a number for a size, in place of its default
 
-All but check, plan, expand, fmt, export and explain:
---bound N  the most statements that are run, else 1000000
-
-All but plan, grade, expand, fmt, export and explain:
+All but plan, expand, fmt, export and explain:
 --format FORMAT how it is told: text, or json for programs; of check also gnu,
     for editors, else text
+
+All but check, plan, expand, fmt, export and explain:
+--bound N  the most statements that are run, else 1000000
 
 Of meaning, cost, steps, rules, run, trace and exec:
 --input FILE a file with the values of the first cells
@@ -69,11 +69,12 @@ Of cost:
 
 Of explore:
 --workers P how many workers share the inputs, 1 to 32, else 1
---ensure POST has POST say so of each end; it gets the cells by their names
+--ensure POST has POST say so of each end; it gets cells by their names
 --shrink   tells smaller inputs on which the same goes wrong
+--witness OUT writes the first input told to this file
 
 Of trace:
---lines    tells of each the line of the statement that it serves
+--lines    tells of each the line of the statement it serves
 --svg      draws them, as SVG
 --outcome  tells the run's outcome behind them
 --bsp G,L  tells what they cost: for each G times its h, and L
@@ -84,7 +85,7 @@ Of steps:
 --to K     the last statement that is told, else 4294967295
 --locals   tells of variables, locals and printed numbers too
 --columns  tells the column of each statement too
---flow     draws the flow of data between the shared cells, as SVG
+--flow     draws the flow of data between shared cells, as SVG
 --only NAMES tells of these names alone, as a,m, or draws these
 --html     makes a page that steps through them all
 
@@ -96,7 +97,7 @@ Of grade:
 --procs-at-most E the most procs of FILE2, the same
 
 Of fmt:
---check    names the files that would change, and writes none
+--check    names files that would change, and writes none
 --stdout   writes the texts to standard output, and no file
 
 Of --input, --memory, --random and --draw one is given; other cells are 0.

@@ -1,6 +1,6 @@
 //! What is said of commands for those who write algorithms, and of plans that leave the machine.
 
-pub(crate) const EXPLORE: [u8; 1270] =
+pub(crate) const EXPLORE: [u8; 1344] =
     *b"pramc explore FILE: runs the program on every input of a small scope.
 
 It says on how many inputs the run ends, faults or goes on at its bound, and the
@@ -17,6 +17,7 @@ ended 120
 --where PRE         those alone on which PRE prints last a number other than 0
 --ensure POST       has POST say so of each end, by cells x and opening_x
 --shrink            tells smaller inputs on which the same goes wrong
+--witness OUT       writes the first input that is told into the file OUT
 --under RULE        under this rule of access, in place of the text's own
 --workers P         shares the inputs among P workers, 1 to 32
 --bound N           the most statements that are run, else 1000000

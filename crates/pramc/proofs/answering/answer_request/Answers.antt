@@ -1,4 +1,4 @@
-use Rattle.std.proofs.Common.{ap, Ok}
+use Rattle.std.proofs.Common.{ap, rules, Ok}
 use Rattle.pramc.specs.Left.{LaidOut}
 use Rattle.pramc.proofs.Requests.{found_first}
 use Rattle.pramc.proofs.answering.answer_request.Goals as goal
@@ -9,4 +9,4 @@ returns-in-Arrange g c = record {
 }
 
 pub answer_found-requires : goal.answer_found-requires
-answer_found-requires g c = found_first c.args.request c.in_default.not-Arrange
+answer_found-requires g c = (search rules, (search rules, found_first c.args.request c.in_default.not-Arrange))
