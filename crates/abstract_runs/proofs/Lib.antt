@@ -67,3 +67,4 @@ pub mod Trails
 pub mod Turning
 pub mod TurningOn
 pub mod Unmet
+pub mod Just

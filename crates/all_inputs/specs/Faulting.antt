@@ -15,6 +15,17 @@ reason_for TooWide f = f.too_wide
 reason_for ReadConflict f = f.read_conflict
 reason_for WriteConflict f = f.write_conflict
 
+-- there is no reason for any
+abbrev pub no_faults : Faults
+no_faults = record {
+  overflow = None;
+  divide_by_zero = None;
+  out_of_range = None;
+  too_wide = None;
+  read_conflict = None;
+  write_conflict = None;
+}
+
 -- a fault of that kind may come
 abbrev pub May : Kind → Faults → Type 0
 May kind f = IsSome (reason_for kind f)

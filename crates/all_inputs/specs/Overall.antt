@@ -1,5 +1,5 @@
 -- What is told of a program's runs on all inputs of a scope.
-use Rattle.std.specs.Prelude.{◌≡◌, ◌≤◌, ℕ, ℤ, List, [], ◌∷◌, length, take, drop, true, ◌||◌, Option, None, IsSomeAnd, is_some}
+use Rattle.std.specs.Prelude.{◌≡◌, ◌≤◌, ◌⊎◌, ℕ, ℤ, List, [], ◌∷◌, length, take, drop, true, false, ◌||◌, Option, None, Some, IsSomeAnd, is_some}
 use Rattle.std.specs.Prelude.{if◌then◌else◌}
 use Rattle.std.specs.List.{AllByRecursion}
 use Rattle.std.specs.Option.{option_map}
@@ -51,6 +51,27 @@ single_fault (e ∷ f ∷ entries) = None
 -- the fault that every run has: no other is told, none may go on and none ends
 abbrev pub only_fault : Overall → Option (ℕ × Kind)
 only_fault overall = if overall.told.may_go_on || is_some overall.end then None else single_fault overall.told.lines.items
+
+-- a scope of one input: it has no value, or one number for all
+abbrev pub HasOneInput : Scope → Type 0
+HasOneInput scope = (scope.values ≡ 0) ⊎ (scope.of.least ≡ scope.of.greatest)
+
+-- for each value the interval of it alone
+abbrev pub AreJust : List Interval → List ℤ → Type 0
+AreJust [] [] = Unit {0}
+AreJust (i ∷ is) (z ∷ zs) = (i.least ≡ z) × (i.greatest ≡ z) × AreJust is zs
+AreJust is zs = ⊥
+
+-- no fault is told
+abbrev pub TellsNoFault : Overall → Type 0
+TellsNoFault overall = overall.told.lines.items ≡ []
+
+-- the verdict itself is told, and nothing beside it
+abbrev pub IsJust : Overall → Verdict → Type 0
+IsJust overall (Ended output memory) = TellsNoFault overall × (overall.told.may_go_on ≡ false)
+    × IsSomeAnd overall.end (λ e. AreJust e.cells.items memory × (e.least ≡ e.most))
+IsJust overall (Faulted fault output) = only_fault overall ≡ Some (fault.line, fault.kind)
+IsJust overall (GoesOn output) = TellsNoFault overall × (overall.told.may_go_on ≡ true) × (overall.end ≡ None)
 
 -- a fault of that kind at that line
 abbrev pub IsFaultAt : ℕ → Kind → Verdict → Type 0

@@ -7,7 +7,7 @@ use Rattle.pram_model.specs.Layout.{SharedEntry}
 use Rattle.pram_printer.specs.Spelling.{binary_text, prefix_text}
 use Rattle.program_texts.specs.Shown.{bounds_text}
 use Rattle.all_inputs.specs.declared.reason.Reason.{Reason}
-use Rattle.all_inputs.specs.declared.reason.Reason.TheVariants.{Operands, Operand, Subscript, Width, Shared}
+use Rattle.all_inputs.specs.declared.reason.Reason.TheVariants.{Operands, Operand, Subscript, Width, Shared, Single}
 
 -- `-3..7`
 abbrev pub range_text : ℤ → ℤ → List ℕ
@@ -69,3 +69,4 @@ reason_text layout (Operand operator operand) = operand_text (prefix_text operat
 reason_text layout (Subscript entry subscript) = subscript_text (slice_get layout entry) subscript
 reason_text layout (Width first last) = codes "the indices are " ++ range_text first last
 reason_text layout Shared = codes "processors may share a cell"
+reason_text layout Single = codes "the one input comes to it"

@@ -1,9 +1,9 @@
 //! The faults that may come.
 
-ghost use Rattle.std.specs.Prelude.{◌≡◌, None, IsSome};
+ghost use Rattle.std.specs.Prelude.{◌≡◌, [], ◌∷◌, Some, IsSome};
 ghost use Rattle.std.specs.Option.{option_or};
 ghost use Rattle.pram_values.specs.declared.kind.Kind.{Kind as AnyKind};
-ghost use Rattle.all_inputs.specs.Faulting.{May, AreKept, reason_for, has_fault, kinds_of, single};
+ghost use Rattle.all_inputs.specs.Faulting.{May, AreKept, reason_for, has_fault, kinds_of, no_faults, single};
 
 use crate::reason::Reason;
 use pram_values::Kind;
@@ -43,7 +43,7 @@ impl Faults {
     /// No fault may come.
     pub fn none() -> Faults
         // There is no reason for a fault of any kind.
-        ensures { (kind : AnyKind) → reason_for kind result ≡ None }
+        ensures { result ≡ no_faults }
     {
         Faults {
             overflow: None,
@@ -52,6 +52,43 @@ impl Faults {
             too_wide: None,
             read_conflict: None,
             write_conflict: None,
+        }
+    }
+
+    /// A fault of that kind alone may come, for that reason.
+    pub(crate) fn only(kind: Kind, reason: Reason) -> Faults
+        // The list of the kinds that may come has this one and no other, ..
+        ensures kind { kinds_of result ≡ kind ∷ [] }
+        // .. for that reason.
+        ensures reason { reason_for kind result ≡ Some reason }
+    {
+        let some = Some(reason);
+        let none = Faults::none();
+        match kind {
+            Kind::Overflow => Faults {
+                overflow: some,
+                ..none
+            },
+            Kind::DivideByZero => Faults {
+                divide_by_zero: some,
+                ..none
+            },
+            Kind::OutOfRange => Faults {
+                out_of_range: some,
+                ..none
+            },
+            Kind::TooWide => Faults {
+                too_wide: some,
+                ..none
+            },
+            Kind::ReadConflict => Faults {
+                read_conflict: some,
+                ..none
+            },
+            Kind::WriteConflict => Faults {
+                write_conflict: some,
+                ..none
+            },
         }
     }
 

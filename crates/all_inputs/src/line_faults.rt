@@ -3,9 +3,11 @@
 ghost use Rattle.std.specs.Prelude.{◌≡◌, true, false, OnOk};
 ghost use Rattle.std.specs.List.{All};
 ghost use Rattle.all_inputs.specs.Faulting.{has_fault};
-ghost use Rattle.all_inputs.specs.Lines.{AreAscending, HasLineAt, HaveFaults, IsGapFor, IsHeld, IsPlaceOf};
+ghost use Rattle.all_inputs.specs.Lines.{AreAscending, HasLineAt, HaveFaults, IsGapFor, IsHeld, IsPlaceOf, reason_at};
 
 use crate::faults::Faults;
+use crate::reason::Reason;
+use pram_values::Kind;
 use std::alloc::AllocError;
 
 /// The faults that the statements of a line may have.
@@ -26,6 +28,19 @@ pub(crate) fn place_of(entries: &[LineFaults], line: u32) -> usize
         }
     }
     entries.len()
+}
+
+/// Why a fault of that kind may come at that line, where it may.
+pub(crate) fn reason_in(entries: &[LineFaults], line: u32, kind: Kind) -> Option<Reason>
+    // It is the reason of the first of them that has the line.
+    ensures { result ≡ reason_at line kind entries.now }
+{
+    for entry in entries {
+        if entry.line == line {
+            return entry.faults.reason(kind);
+        }
+    }
+    None
 }
 
 // Whether the line stands at its place.

@@ -29,4 +29,6 @@ pub enum Reason {
     },
     /// Cells that several processors may use at the same time.
     Shared,
+    /// The one input of the scope comes to it, and no more is known.
+    Single,
 }

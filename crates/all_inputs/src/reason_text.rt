@@ -99,5 +99,6 @@ pub(crate) fn write_reason<W: Out>(
         Reason::Subscript { entry, subscript } => write_subscript(out, layout, *entry, subscript),
         Reason::Width { first, last } => write_width(out, first, last),
         Reason::Shared => out.write_all(b"processors may share a cell"),
+        Reason::Single => out.write_all(b"the one input comes to it"),
     }
 }
