@@ -5,3 +5,4 @@ pub mod Lines
 pub mod Puts
 pub mod Refusals
 pub mod Parts
+pub mod ReadBack

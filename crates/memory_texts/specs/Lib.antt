@@ -4,3 +4,4 @@ pub mod Cells
 pub mod Assignments
 pub mod Memory
 pub mod Chosen
+pub mod InputText

@@ -5,7 +5,7 @@ ghost use Rattle.std.specs.List.{list_all};
 ghost use Rattle.pram_values.specs.Value.{fits};
 ghost use Rattle.pram_tokens.specs.Input.{IsInputOf};
 ghost use Rattle.pram_tokens.specs.Scanning.{longest};
-ghost use Rattle.input_texts.specs.InputText.{input_text};
+ghost use Rattle.memory_texts.specs.InputText.{input_text};
 
 /// What is written of an input is read back as it.
 pub fn an_input_is_read_back(values: &[i64])

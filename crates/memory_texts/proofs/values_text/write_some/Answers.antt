@@ -2,7 +2,7 @@ use Rattle.std.proofs.Common.{◌++◌, codes, refl}
 use Rattle.std.specs.Fmt.{signed_decimal}
 use Rattle.text_out.proofs.Progress.{breaks_off, closes, goes_on, starts}
 use Rattle.program_texts.specs.Shown.{spaced}
-use Rattle.input_texts.proofs.text.write_some.Goals as goal
+use Rattle.memory_texts.proofs.values_text.write_some.Goals as goal
 
 pub returns-in_err-write_value : goal.returns-in_err-write_value
 returns-in_err-write_value g c = record {

@@ -3,7 +3,7 @@
 ghost use Rattle.std.specs.Prelude.{◌≡◌, ◌∷◌, IfOk};
 ghost use Rattle.std.specs.Fmt.{signed_decimal};
 ghost use Rattle.text_out.specs.Out.{Writes};
-ghost use Rattle.input_texts.specs.InputText as spec;
+ghost use Rattle.memory_texts.specs.InputText as spec;
 
 use itoa::Buffer as Digits;
 use program_texts::write_values;

@@ -19,7 +19,7 @@ use Rattle.pram_tokens.specs.Plain.{IsAsciiTo}
 use Rattle.pram_tokens.specs.Scanning.{longest}
 use Rattle.pram_tokens.proofs.Digits.{digit_range, range_digit}
 use Rattle.program_texts.specs.Shown.{spaced}
-use Rattle.input_texts.specs.InputText.{input_text}
+use Rattle.memory_texts.specs.InputText.{input_text}
 
 -- ---- digits
 

@@ -1,5 +1,0 @@
-use Rattle.input_texts.proofs.Read.{read_back}
-use Rattle.input_texts.proofs.input_laws.an_input_is_read_back.Goals as goal
-
-pub returns : goal.returns
-returns c = read_back c.args.values.now c.requires.words c.requires.short
