@@ -69,8 +69,9 @@ fn write_cell_count<W: Out>(out: &mut W, count: u32) -> Result<(), WriteFault>
     out.write_parts(&[b"cells ", digits.format(count).as_bytes(), b"\n"])
 }
 
-// That, where any are.
-fn write_cells<W: Out>(out: &mut W, cells: Option<u32>) -> Result<(), WriteFault>
+/// Writes how many cells are drawn of each input, as `cells 8`, where inputs are, and else nothing. The error is that the writer failed (E17).
+pub fn write_cells<W: Out>(out: &mut W, cells: Option<u32>) -> Result<(), WriteFault>
+    // Exactly that line is written, or a beginning of it and then a failure.
     ensures written { Writes (W.Out.state out.old) (W.Out.state out.new) (spec.cells_line cells) result }
 {
     match cells {

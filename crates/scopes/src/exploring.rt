@@ -43,8 +43,10 @@ fn run_on(
     Ok(())
 }
 
-// Tries one input more: the program is run on it where it counts.
-fn try_input(
+/// Tries one input more: the program is run on it where it counts, for at most `bound` statements, and what is found is noted, as [`explore`]
+/// does for each input of a scope. E11 where the input has more values than the program has cells, or the precondition; E16 only where
+/// memory was refused. What the findings are behind an error isn't said.
+pub fn explore_input(
     alloc: Global,
     program: &Program,
     specification: &Specification,
@@ -53,6 +55,7 @@ fn try_input(
     findings: &mut Findings,
 ) -> Result<(), MeaningRefusal>
     requires room { findings.old.inputs + 1 < 2 ^ 64 }
+    // Where the input counts, just the run on it is noted behind what was found, and else that there is one more that doesn't.
     ensures found { OnOk result (found_is findings.new ≡ with_input specification.now program.now bound input.now (found_is findings.old)) }
 {
     if input_counts(alloc, &specification.precondition, input, bound)? {
@@ -86,7 +89,7 @@ fn try_some<W: Watch>(
         }
         let next = inputs.values();
         watch.look(findings.inputs, most, next);
-        let Ok(()) = try_input(alloc, program, specification, bound, next, &mut findings) else {
+        let Ok(()) = explore_input(alloc, program, specification, bound, next, &mut findings) else {
             return Err(MeaningRefusal::OutOfMemory);
         };
         inputs.advance();

@@ -40,7 +40,7 @@ mod wrong;
 pub use affirming::{affirms, input_counts, most_values};
 pub use counting::input_count;
 pub use drawing::Drawing;
-pub use exploring::explore;
+pub use exploring::{explore, explore_input};
 pub use findings::{Findings, FoundFault, Span};
 pub use findings_text::write_findings;
 pub use inputs::{Inputs, first_input};

@@ -18,7 +18,7 @@ trying-preserved g c =
     let left = inputs_left old.scope old.over old.input.items in
     let rest = inputs_left old.scope new.over new.input.items in
     let f = found_is c.trying.findings in
-    let g = found_is c.try_input.new.findings in
+    let g = found_is c.explore_input.new.findings in
     let is : left ≡ here ∷ rest = c.advance.ensures.left ∙ ap (λ (x : List ℤ). x ∷ rest) (sym c.values-next.ensures.values) in
     record {
       same = c.advance.ensures.same ∙ c.trying.invariant.same;
