@@ -1,7 +1,7 @@
 -- A block that is told to be open has no end.
 use Rattle.std.proofs.Common.{◌≡◌, ◌∙◌, ◌++◌, ◌∷◌, ◌-◌, [], true, false, Bool, List, ℕ, zero, suc, ap, append_assoc, arith, cond, inl, inr}
 use Rattle.std.proofs.Common.{length, refl, subst, sym, take, ⊎_elim}
-use Rattle.std.specs.Prelude.{◌⊎◌, Option, Some, None, Result, Ok, Err, position}
+use Rattle.std.specs.Prelude.{◌⊎◌, Option, Some, None, Result, Ok, Err, position, slice_index}
 use Rattle.std.specs.List.{slice_get}
 use Rattle.std.specs.Option.{option_map, option_or}
 use Rattle.pram_tokens.specs.Scanning.{Cut, cut_of}
@@ -18,10 +18,10 @@ use Rattle.help.specs.declared.habit.Habit.{Habit as HabitOf}
 use Rattle.help.specs.declared.hint.Hint.TheVariants.{Nothing, Habit, Open}
 use Rattle.help.specs.declared.sign.Sign.TheVariants as sign
 use Rattle.help.specs.Blocks.{behind, behind_all, closed, open_blocks}
-use Rattle.help.specs.Habits.{before_habit, habit_of}
+use Rattle.help.specs.Habits.{before_habit, habit_of, only_habit}
 use Rattle.help.specs.Hints.{IsAt, IsBy, IsHint, IsHintOf, IsKnownOr, before, begin_hint, block_hint, closed_last, is_begin, known}
 use Rattle.help.specs.Hints.{last_of}
-use Rattle.help.specs.Hints.{program_hint}
+use Rattle.help.specs.Hints.{first_hint, habit_at, program_hint}
 use Rattle.help.specs.OpenBlocks.{IsOpenBlock, IsOpenIn, Turn, Opens, Closes, Keeps, ends_among, ends_by, turn, turn_of}
 use Rattle.help.specs.Signs.{could}
 
@@ -240,13 +240,21 @@ module _ (c : Cut) (found : List Choice) (o : Opening) (begins : ℕ) where
   no_token n x y b t [] e = cc e
   no_token n x y b t (k ∷ ks) e = no_habit n x y (before_habit b (k ∷ ks) t) (habit_of b (k ∷ ks) t) e
 
+  no_habit_at : (x : ℕ) (h : Option HabitOf) → Open o begins ≡ habit_at x h → ⊥
+  no_habit_at x None e = cc e
+  no_habit_at x (Some h) e = cc e
+
+  no_first : (x : ℕ) (t : Option Token) → Open o begins ≡ first_hint found x t → ⊥
+  no_first x None e = cc e
+  no_first x (Some t) e = no_habit_at x (only_habit found t) e
+
   at_place : (n : ℕ) (b t : Option Token) → IsAt c n found b t (Open o begins) → IsOpenBlock c.tokens o begins
   at_place n None t e = absurd (cc e)
   at_place n (Some b) None e = by_end (could sign.End found) e
   at_place n (Some b) (Some t) e = absurd (no_token n _ _ b t found e)
 
   by_count : (n : ℕ) → IsBy c found n (Open o begins) → IsOpenBlock c.tokens o begins
-  by_count zero e = absurd (cc e)
+  by_count zero e = absurd (no_first (slice_index c.offsets 0) (slice_get c.tokens 0) e)
   by_count (suc n) e = at_place (suc n) (slice_get c.tokens n) (slice_get c.tokens (suc n)) e
 
 of_cut : (r : Result Cut ℕ) (at : ℕ) (found : List Choice) (o : Opening) (begins : ℕ) → IsHintOf r at found (Open o begins) → IsOpenIn

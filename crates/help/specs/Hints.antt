@@ -9,11 +9,12 @@ use Rattle.pram_tokens.specs.declared.token.Token.{Token}
 use Rattle.pram_tokens.specs.declared.token.Token.TheVariants as token
 use Rattle.help.specs.declared.choice.Choice.{Choice}
 use Rattle.help.specs.declared.blocks.Block.{Block}
+use Rattle.help.specs.declared.habit.Habit.{Habit as HabitOf}
 use Rattle.help.specs.declared.hint.Hint.{Hint}
 use Rattle.help.specs.declared.hint.Hint.TheVariants.{Nothing, Habit, Missing, Open, OpenProgram, Taken, Ended}
 use Rattle.help.specs.declared.sign.Sign.TheVariants as sign
 use Rattle.help.specs.Blocks.{open_blocks}
-use Rattle.help.specs.Habits.{before_habit, habit_of}
+use Rattle.help.specs.Habits.{before_habit, habit_of, only_habit}
 use Rattle.help.specs.Missing.{IsWhatIsMissing}
 use Rattle.help.specs.Signs.{could}
 
@@ -96,9 +97,20 @@ IsAt c n found None t hint = hint ≡ Nothing
 IsAt c n found (Some b) None hint = hint ≡ end_hint c found
 IsAt c n found (Some b) (Some t) hint = IsAmong c n b t found hint
 
+-- ---- at the front
+
+-- the first token, which has that offset
+abbrev pub habit_at : ℕ → Option HabitOf → Hint
+habit_at at None = Nothing
+habit_at at (Some h) = Habit h at
+
+abbrev pub first_hint : List Choice → ℕ → Option Token → Hint
+first_hint found at None = Nothing
+first_hint found at (Some t) = habit_at at (only_habit found t)
+
 -- so many tokens stand before the place
 abbrev pub IsBy : Cut → List Choice → ℕ → Hint → Type 0
-IsBy c found zero hint = hint ≡ Nothing
+IsBy c found zero hint = hint ≡ first_hint found (slice_index c.offsets 0) (slice_get c.tokens 0)
 IsBy c found (suc n) hint = IsAt c (suc n) found (slice_get c.tokens n) (slice_get c.tokens (suc n)) hint
 
 abbrev pub IsHintOf : Result Cut ℕ → ℕ → List Choice → Hint → Type 0

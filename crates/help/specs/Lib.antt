@@ -7,6 +7,7 @@ pub mod Kinds
 pub mod Choices
 pub mod ChoiceTexts
 pub mod Strays
+pub mod Pasted
 pub mod Signs
 pub mod Habits
 pub mod Blocks

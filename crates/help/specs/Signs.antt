@@ -1,6 +1,7 @@
 -- What the kinds of tokens that could stand at a place tell of it.
 use Rattle.std.specs.Prelude.{Bool, true, false, List}
 use Rattle.std.specs.List.{list_any}
+use Rattle.pram_tokens.specs.declared.token.Binary.TheVariants as binary
 use Rattle.pram_tokens.specs.declared.token.Mark.TheVariants as mark
 use Rattle.pram_tokens.specs.declared.token.Opening.TheVariants as opening
 use Rattle.pram_tokens.specs.declared.words.Fixed.TheVariants as fixed
@@ -29,6 +30,10 @@ abbrev pub is_end : Choice → Bool
 is_end (choice.Fixed (fixed.Mark mark.End)) = true
 is_end _ = false
 
+abbrev pub is_and : Choice → Bool
+is_and (choice.Fixed (fixed.Binary binary.And)) = true
+is_and _ = false
+
 abbrev pub is_statement : Choice → Bool
 is_statement (choice.Fixed (fixed.Opening opening.While)) = true
 is_statement _ = false
@@ -39,6 +44,7 @@ shows sign.Do c = is_do c
 shows sign.Then c = is_then c
 shows sign.Pardo c = is_pardo c
 shows sign.End c = is_end c
+shows sign.And c = is_and c
 shows sign.Statement c = is_statement c
 
 -- whether a token of that kind could stand there

@@ -32,13 +32,21 @@ pub enum Habit {
     Keyword,
     /// A name at the front of a statement, with another one behind it.
     Word,
+    /// A word that leaves a loop.
+    Jump,
+    /// A word for a pardo.
+    Parallel,
+    /// A function that an `if` stands for.
+    Function,
+    /// A function of sizes.
+    SizeFunction,
     /// A keyword in capitals.
     Capitals,
     /// What is no `:=` behind the variable of a `for`.
     In,
     /// A `;` behind what needs none.
     Semicolon,
-    /// A `pardo` behind a `for` that counts.
+    /// A `for` that is no pardo and is meant as one.
     Range,
     /// A value in a declaration.
     Value,
@@ -50,6 +58,12 @@ pub enum Habit {
     Subscript,
     /// A comparison whose signs stand the other way round.
     Order,
+    /// A comparison of a comparison.
+    Chain,
+    /// A `-` before a bound.
+    Negative,
+    /// What is neither the rule nor the number of processors at the front of a program.
+    Frame,
 }
 
 /// What is said behind the word or symbol.
@@ -74,6 +88,12 @@ pub fn habit_text(habit: Habit) -> &'static [u8]
         Habit::Keyword => b" is a keyword, and no name",
         Habit::Word =>
             b" is no word of the language: a statement is an assignment, print, while, if or for",
+        Habit::Jump => b" is no word of the language: a loop ends where its test fails",
+        Habit::Parallel =>
+            b" is no word of the language: a pardo is written \"for 1 <= i <= 8 pardo\"",
+        Habit::Function => b" is no function of the language: write an \"if\" in its place",
+        Habit::SizeFunction =>
+            b" stands between braces alone, with numbers and sizes in it, as {log(8)}",
         Habit::Capitals => b" is a name here: keywords have small letters",
         Habit::In =>
             b" can't stand here: a loop is \"for i := 1 to 8 do\", and a pardo \"for 1 <= i <= 8 pardo\"",
@@ -85,7 +105,11 @@ pub fn habit_text(habit: Habit) -> &'static [u8]
             b" can't stand here: an array has a first and a last subscript, as a[1..8]",
         Habit::Constant =>
             b" can't stand here: a number has to, or with a first line \"# size n = 8\" a size, as {n}",
-        Habit::Subscript => b" can't stand here: an array has one subscript",
+        Habit::Subscript =>
+            b" can't stand here: an array has one subscript, and a[(i - 1) * n + j] is row i, column j of n columns",
         Habit::Order => b" can't stand here: the comparisons are \">=\" and \"<=\"",
+        Habit::Chain => b" can't stand here: comparisons don't chain, write 1 < m and m < 3",
+        Habit::Negative => b" can't stand here: a bound is a number from 0 on",
+        Habit::Frame => b" can't stand here: a program begins with \"rule crew; procs 8;\"",
     }
 }

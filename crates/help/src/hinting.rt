@@ -4,6 +4,7 @@ ghost use Rattle.std.specs.Prelude.{◌≡◌, ◌≤◌, ◌<◌, ◌+◌, ◌-
 ghost use Rattle.std.specs.List.{position, slice_get};
 ghost use Rattle.pram_tokens.specs.Scanning.{cut, longest};
 ghost use Rattle.pram_tokens.specs.Tokens.{AreReal};
+ghost use Rattle.help.specs.Habits.{only_habit as only_habit_of};
 ghost use Rattle.help.specs.Hints as spec;
 
 use crate::Choice;
@@ -11,7 +12,7 @@ use crate::blocks::{Block, open_blocks};
 use crate::hint::Hint;
 use crate::missing::missing_of;
 use crate::sign::{Sign, could};
-use crate::words::{before_habit, habit_of};
+use crate::words::{before_habit, habit_of, only_habit};
 use pram_tokens::{LexError, Mark, Token, tokenize};
 use std::alloc::{AllocError, Global};
 
@@ -226,6 +227,26 @@ fn token_hint(
     }
 }
 
+// Of the first token of a text, which has that offset.
+fn first_of(found: &[Choice], at: u32, token: &Token) -> Hint
+    ensures { result ≡ spec.habit_at at (only_habit_of found.now token.now) }
+{
+    match only_habit(found, token) {
+        Some(habit) => Hint::Habit { habit, at },
+        None => Hint::Nothing,
+    }
+}
+
+// At the front of a text.
+fn first_hint(tokens: &[Token], offsets: &[u32], found: &[Choice]) -> Hint
+    ensures { result ≡ spec.first_hint found.now (slice_index offsets.now 0) (slice_get tokens.now 0) }
+{
+    match tokens {
+        [] => Hint::Nothing,
+        [first, ..] => first_of(found, offset_at(offsets, 0), first),
+    }
+}
+
 // By the tokens of a text, of which so many stand before the place.
 fn hint_behind(
     alloc: Global,
@@ -239,7 +260,7 @@ fn hint_behind(
     ensures { IfOk result (spec.IsBy (cut tokens.old.items offsets.now) found.now count) }
 {
     if count == 0 {
-        Ok(Hint::Nothing)
+        Ok(first_hint(tokens, offsets, found))
     } else if count == tokens.len() {
         end_hint(alloc, tokens, offsets, found)
     } else {

@@ -5,7 +5,7 @@ ghost use Rattle.std.specs.List.{list_any};
 ghost use Rattle.help.specs.Signs as spec;
 
 use crate::Choice;
-use pram_tokens::{Fixed, Mark, Opening};
+use pram_tokens::{Binary, Fixed, Mark, Opening};
 
 /// A kind of tokens that tells what a place is.
 #[derive(Clone, Copy, Debug, PartialEq, Eq)]
@@ -15,6 +15,7 @@ pub(crate) enum Sign {
     Then,
     Pardo,
     End,
+    And,
     /// A loop: any statement could stand there.
     Statement,
 }
@@ -64,6 +65,15 @@ fn is_end(choice: Choice) -> bool
     }
 }
 
+fn is_and(choice: Choice) -> bool
+    ensures { result ≡ spec.is_and choice }
+{
+    match choice {
+        Choice::Fixed(Fixed::Binary(Binary::And)) => true,
+        _ => false,
+    }
+}
+
 fn is_statement(choice: Choice) -> bool
     ensures { result ≡ spec.is_statement choice }
 {
@@ -82,6 +92,7 @@ fn shows(sign: Sign, choice: Choice) -> bool
         Sign::Then => is_then(choice),
         Sign::Pardo => is_pardo(choice),
         Sign::End => is_end(choice),
+        Sign::And => is_and(choice),
         Sign::Statement => is_statement(choice),
     }
 }

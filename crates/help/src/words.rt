@@ -5,43 +5,10 @@ ghost use Rattle.pram_model.specs.Names.{is_one_of};
 ghost use Rattle.help.specs.Habits as spec;
 
 use crate::Choice;
+use crate::capitals::is_capitals;
 use crate::habit::Habit;
 use crate::sign::{Sign, could};
 use pram_tokens::{Binary, Fixed, Mark, Token};
-
-fn is_frame_word(word: &[u8]) -> bool
-    ensures { result ≡ is_one_of spec.frame_words word.now }
-{
-    matches!(
-        word,
-        b"RULE" | b"PROCS" | b"SHARED" | b"VAR" | b"LOCAL" | b"BEGIN" | b"END"
-    )
-}
-
-fn is_block_word(word: &[u8]) -> bool
-    ensures { result ≡ is_one_of spec.block_words word.now }
-{
-    matches!(
-        word,
-        b"FOR" | b"TO" | b"DO" | b"PARDO" | b"WHILE" | b"IF" | b"THEN"
-    )
-}
-
-fn is_inner_word(word: &[u8]) -> bool
-    ensures { result ≡ is_one_of spec.inner_words word.now }
-{
-    matches!(
-        word,
-        b"ELSE" | b"PRINT" | b"AND" | b"OR" | b"NOT" | b"DIV" | b"MOD"
-    )
-}
-
-// Whether it is a keyword in capitals.
-fn is_capitals(word: &[u8]) -> bool
-    ensures { result ≡ spec.is_capitals word.now }
-{
-    is_frame_word(word) || is_block_word(word) || is_inner_word(word)
-}
 
 // The words that end a block elsewhere.
 fn is_end_word(word: &[u8]) -> bool
@@ -60,6 +27,20 @@ fn is_else_if(word: &[u8]) -> bool
     matches!(word, b"elsif" | b"elseif" | b"elif")
 }
 
+// The words for a pardo.
+fn is_pardo_word(word: &[u8]) -> bool
+    ensures { result ≡ is_one_of spec.pardo_words word.now }
+{
+    matches!(word, b"forall" | b"foreach" | b"parfor" | b"parallel")
+}
+
+// The words that leave a loop elsewhere.
+fn is_jump_word(word: &[u8]) -> bool
+    ensures { result ≡ is_one_of spec.jump_words word.now }
+{
+    matches!(word, b"break" | b"continue" | b"exit")
+}
+
 fn word_habit(word: &[u8]) -> Option<Habit>
     ensures { result ≡ spec.word_habit word.now }
 {
@@ -67,6 +48,10 @@ fn word_habit(word: &[u8]) -> Option<Habit>
         Some(Habit::ElseIf)
     } else if is_end_word(word) {
         Some(Habit::BlockEnd)
+    } else if is_pardo_word(word) {
+        Some(Habit::Parallel)
+    } else if is_jump_word(word) {
+        Some(Habit::Jump)
     } else if is_capitals(word) {
         Some(Habit::Capitals)
     } else {
@@ -113,6 +98,26 @@ fn behind_bracket(token: &Token) -> Option<Habit>
     }
 }
 
+// In a declaration alone.
+fn behind_bound(token: &Token) -> Option<Habit>
+    ensures { result ≡ spec.behind_bound token.now }
+{
+    match token {
+        Token::Binary(Binary::Subtract) => Some(Habit::Negative),
+        _ => None,
+    }
+}
+
+// In a range alone.
+fn behind_at_most(token: &Token) -> Option<Habit>
+    ensures { result ≡ spec.behind_at_most token.now }
+{
+    match token {
+        Token::Number(_) => Some(Habit::Range),
+        _ => None,
+    }
+}
+
 // A token behind another one.
 fn behind(before: &Token, token: &Token) -> Option<Habit>
     ensures { result ≡ spec.behind before.now token.now }
@@ -121,6 +126,9 @@ fn behind(before: &Token, token: &Token) -> Option<Habit>
         Token::Name(_) => behind_name(token),
         Token::Binary(Binary::Equal) => behind_equal(token),
         Token::Mark(Mark::CloseBracket) => behind_bracket(token),
+        Token::Mark(Mark::OpenBracket) => behind_bound(token),
+        Token::Mark(Mark::Range) => behind_bound(token),
+        Token::Binary(Binary::AtMost) => behind_at_most(token),
         _ => None,
     }
 }
@@ -164,17 +172,6 @@ fn mark_habit(found: &[Choice], mark: Mark) -> Option<Habit>
     }
 }
 
-fn binary_habit(found: &[Choice], operator: Binary) -> Option<Habit>
-    ensures { result ≡ spec.binary_habit found.now operator }
-{
-    match operator {
-        Binary::Equal | Binary::Add | Binary::Subtract | Binary::Multiply | Binary::Less => {
-            if_could(found, Sign::Becomes, Habit::Assign)
-        }
-        _ => None,
-    }
-}
-
 // Whether two kinds alone could stand there.
 fn are_two(found: &[Choice]) -> bool
     ensures { result ≡ spec.are_two found.now }
@@ -182,6 +179,52 @@ fn are_two(found: &[Choice]) -> bool
     match found {
         [_, _] => true,
         _ => false,
+    }
+}
+
+fn becomes_habit(found: &[Choice], habit: Habit) -> Option<Habit>
+    ensures { result ≡ spec.becomes_habit found.now habit }
+{
+    if are_two(found) {
+        Some(habit)
+    } else {
+        Some(Habit::Range)
+    }
+}
+
+// A comparison behind a name that could be assigned, or behind another comparison.
+fn compare_habit(found: &[Choice]) -> Option<Habit>
+    ensures { result ≡ spec.compare_habit found.now }
+{
+    if could(found, Sign::Becomes) {
+        becomes_habit(found, Habit::Assign)
+    } else {
+        if_could(found, Sign::And, Habit::Chain)
+    }
+}
+
+fn equal_habit(found: &[Choice]) -> Option<Habit>
+    ensures { result ≡ spec.equal_habit found.now }
+{
+    if could(found, Sign::Becomes) {
+        Some(Habit::Assign)
+    } else {
+        if_could(found, Sign::And, Habit::Chain)
+    }
+}
+
+fn binary_habit(found: &[Choice], operator: Binary) -> Option<Habit>
+    ensures { result ≡ spec.binary_habit found.now operator }
+{
+    match operator {
+        Binary::Equal => equal_habit(found),
+        Binary::Unequal | Binary::Less | Binary::AtMost | Binary::Greater | Binary::AtLeast => {
+            compare_habit(found)
+        }
+        Binary::Add | Binary::Subtract | Binary::Multiply => {
+            if_could(found, Sign::Becomes, Habit::Assign)
+        }
+        _ => None,
     }
 }
 
@@ -273,6 +316,15 @@ fn for_number(token: &Token) -> Option<Habit>
     }
 }
 
+fn for_at_most(token: &Token) -> Option<Habit>
+    ensures { result ≡ spec.for_at_most token.now }
+{
+    match token {
+        Token::Binary(Binary::Less) => Some(Habit::Range),
+        _ => None,
+    }
+}
+
 // A token where that kind alone could stand.
 fn for_one(choice: Choice, token: &Token) -> Option<Habit>
     ensures { result ≡ spec.for_one choice token.now }
@@ -282,6 +334,9 @@ fn for_one(choice: Choice, token: &Token) -> Option<Habit>
         Choice::Number => for_number(token),
         Choice::Fixed(Fixed::Mark(Mark::Semicolon)) => for_semicolon(token),
         Choice::Fixed(Fixed::Mark(Mark::Range)) => for_range(token),
+        Choice::Fixed(Fixed::Binary(Binary::AtMost)) => for_at_most(token),
+        Choice::Fixed(Fixed::Mark(Mark::Rule)) => Some(Habit::Frame),
+        Choice::Fixed(Fixed::Mark(Mark::Procs)) => Some(Habit::Frame),
         _ => None,
     }
 }
@@ -321,16 +376,67 @@ fn front_habit(before: &Token, found: &[Choice], token: &Token) -> Option<Habit>
     }
 }
 
+// A name before `(`.
+fn called_habit(word: &[u8]) -> Option<Habit>
+    ensures { result ≡ spec.called_habit word.now }
+{
+    match word {
+        b"min" | b"max" | b"abs" => Some(Habit::Function),
+        b"log" | b"root" | b"pow" => Some(Habit::SizeFunction),
+        _ => None,
+    }
+}
+
+fn before_paren(before: &Token) -> Option<Habit>
+    ensures { result ≡ spec.before_paren before.now }
+{
+    match before {
+        Token::Name(name) => called_habit(name.text.as_slice()),
+        _ => None,
+    }
+}
+
+fn call_habit(before: &Token, token: &Token) -> Option<Habit>
+    ensures { result ≡ spec.call_habit before.now token.now }
+{
+    match token {
+        Token::Mark(Mark::OpenParen) => before_paren(before),
+        _ => None,
+    }
+}
+
 /// What the token before another one is.
 pub(crate) fn before_habit(before: &Token, found: &[Choice], token: &Token) -> Option<Habit>
     ensures { result ≡ spec.before_habit before.now found.now token.now }
 {
-    name_habit(before).or(front_habit(before, found, token))
+    name_habit(before).or(call_habit(before, token).or(front_habit(before, found, token)))
+}
+
+fn capitals_habit(token: &Token) -> Option<Habit>
+    ensures { result ≡ spec.capitals_habit token.now }
+{
+    match token {
+        Token::Name(name) => {
+            if is_capitals(name.text.as_slice()) {
+                Some(Habit::Capitals)
+            } else {
+                None
+            }
+        }
+        _ => None,
+    }
+}
+
+/// What a token is by itself, and by what could stand in its place.
+pub(crate) fn only_habit(found: &[Choice], token: &Token) -> Option<Habit>
+    ensures { result ≡ spec.only_habit found.now token.now }
+{
+    capitals_habit(token).or(for_only(found, token).or(token_habit(found, token)))
 }
 
 /// What a token is that can't stand behind another one.
 pub(crate) fn habit_of(before: &Token, found: &[Choice], token: &Token) -> Option<Habit>
     ensures { result ≡ spec.habit_of before.now found.now token.now }
 {
-    behind(before, token).or(for_only(found, token).or(token_habit(found, token)))
+    behind(before, token).or(only_habit(found, token))
 }

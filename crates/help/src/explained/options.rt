@@ -32,6 +32,14 @@ Of explore, always, compare and grade:
 Of meaning, cost and steps:
 --seconds S ends a long run in about S seconds, S from 1
 
+Of explore, compare and grade:
+--random LO..HI tries values of this interval, for K or all common first cells
+--draw KIND tries inputs of this kind
+--seed S   the seed of the first, else 1; the next has the next
+--permutations K all orders of 1 to K in their place, K up to 10
+--count C  draws so many inputs, 1 to 1000000
+--where PRE tries inputs on which PRE prints last a number other than 0
+
 Of meaning, run and exec:
 --show NAMES writes these shared declarations alone, as a,b
 --quiet    writes no memory
@@ -42,20 +50,12 @@ Of run, trace and exec:
 --reserve ITEMS,EXCHANGES takes all memory first, for so many printed numbers
     and exchanges
 
-Of explore, compare and grade:
---permutations K all orders of 1 to K in their place, K up to 10
---where PRE tries inputs on which PRE prints last a number other than 0
-
 Of explore, always and grade:
 --under RULE tries them under this rule in place of the text's
 
 Of compare and grade:
 --input FILE tries the values of this file, and of each more given so
---random LO..HI tries values of this interval, for K or the common first cells
---draw KIND tries inputs of this kind
---seed S   the seed of the first, else 1; the next has the next
 --only NAMES compares what has these names alone, as a,output
---count C  draws so many inputs, 1 to 1000000
 --time-at-most E the most time of FILE2, as 40 or 4*log(n)+10 of its sizes
 --work-at-most E the most work of FILE2, the same
 

@@ -1,6 +1,6 @@
 //! What is said of commands for those who write algorithms, and of plans that leave the machine.
 
-pub(crate) const EXPLORE: [u8; 1344] =
+pub(crate) const EXPLORE: [u8; 1421] =
     *b"pramc explore FILE: runs the program on every input of a small scope.
 
 It says on how many inputs the run ends, faults or goes on at its bound, and the
@@ -14,6 +14,7 @@ ended 120
 --cells K           all inputs of K values, which the first K cells get
 --values LO..HI     of this interval: 100000000 inputs at most
 --permutations K    in their place all orders of the numbers 1 to K, K up to 10
+--draw KIND         or --random LO..HI: C drawn ones, by --count C, --seed S
 --where PRE         those alone on which PRE prints last a number other than 0
 --ensure POST       has POST say so of each end, by cells x and opening_x
 --shrink            tells smaller inputs on which the same goes wrong
