@@ -1,5 +1,5 @@
 -- The name that is said to be meant is one of those in scope that may stand there.
-use Rattle.std.proofs.Common.{◌≡◌, ◌∷◌, [], true, false, Bool, List, ℕ, Option, Some, None, ap, cond, inl, inr, refl, subst, ⊎_elim}
+use Rattle.std.proofs.Common.{◌≡◌, ◌∷◌, [], true, false, Bool, List, ℕ, Option, Some, None, ap, cond, inl, inr, refl, subst, sym, ⊎_elim}
 use Rattle.std.specs.Prelude.{◌⊎◌, ◌++◌, ◌&&◌, filter, nat_lt}
 use Rattle.std.proofs.lemmas.List.Elements.{All-from_recursion}
 use Rattle.std.specs.List.{AllByRecursion, fold}
@@ -16,9 +16,9 @@ use Rattle.help.specs.InScope.{Known, names_at}
 use Rattle.help.specs.Nearness.{edits, is_near, named, nearer, nearest}
 use Rattle.diagnoses.specs.Fitting.{fits, is_inside, role_at}
 use Rattle.diagnoses.specs.declared.fitting.Role.{Role}
-use Rattle.diagnoses.specs.Guesses.{HasNoGuessAt, IsGuess, IsGuessAt}
+use Rattle.diagnoses.specs.Guesses.{HasNoGuessAt, IsGuess, IsGuessAt, IsSilent}
 use Rattle.diagnoses.specs.Places.{token_at}
-use Rattle.diagnoses.specs.Remarks.{Nearest, Nothing, declared, meant, misplaced, remark_at, remark_of, remark_on, unknown}
+use Rattle.diagnoses.specs.Remarks.{Nearest, Remark, declared, meant, misplaced, remark_at, remark_of, remark_on, unknown}
 use Rattle.diagnoses.proofs.Nearest.{IsAsFar, IsFar, all_as_far, all_far}
 
 -- one of some names, near to the word, that passes a test
@@ -90,17 +90,17 @@ module _ (word : List ℕ) (test : Known → Bool) where
   picked (x ∷ names) acc k e = by_test names acc x k (λ a. picked names a k) (test x) refl e
 
   nearest_is : (names : List Known) (found : Option Known) (name : List ℕ) → nearest (filter test names) word ≡ found →
-      meant found ≡ Nearest name → IsBest word test names name
-  nearest_is names None name is e = absurd (cc e)
-  nearest_is names (Some k) name is e =
+      (role : Role) (inside : Bool) → meant role inside found ≡ Nearest name → IsBest word test names name
+  nearest_is names None name is role inside e = absurd (cc e)
+  nearest_is names (Some k) name is role inside e =
       let same : k.name ≡ name = cc e in
       let one : IsPicked word test names k.name = ⊎_elim (λ old. absurd (cc old)) (λ g. g) (picked names None k is) in
       subst (IsBest word test names) same (record { picked = one; nearest = (all_as_far word test names k None is).1 })
 
-  unknown_is : (names : List Known) (bound : Option Known) (name : List ℕ) →
-      unknown bound (nearest (filter test names) word) ≡ Nearest name → IsBest word test names name
-  unknown_is names None name e = nearest_is names (nearest (filter test names) word) name refl e
-  unknown_is names (Some k) name e = absurd (cc e)
+  unknown_is : (names : List Known) (bound : Option Known) (name : List ℕ) (role : Role) (inside : Bool) →
+      unknown role inside bound (nearest (filter test names) word) ≡ Nearest name → IsBest word test names name
+  unknown_is names None name role inside e = nearest_is names (nearest (filter test names) word) name refl role inside e
+  unknown_is names (Some k) name role inside e = absurd (cc e)
 
   not_declared : (found : Option Known) (name : List ℕ) → declared found ≡ Nearest name → ⊥
   not_declared None name e = cc e
@@ -112,7 +112,7 @@ module _ (word : List ℕ) (test : Known → Bool) where
 
   remarked : (bound : Option Known) (names : List Known) (role : Role) (c : Cause) (name : List ℕ) →
       remark_on bound names (filter test names) role word c ≡ Nearest name → IsBest word test names name
-  remarked bound names role cause.UnknownName name e = unknown_is names bound name e
+  remarked bound names role cause.UnknownName name e = unknown_is names bound name role (is_inside names) e
   remarked bound names role cause.DoubleName name e = absurd (not_declared (named names word) name e)
   remarked bound names role cause.WrongKind name e = absurd (not_misplaced role (named names word) name e)
   remarked bound names role cause.AssignedLoopVariable name e = absurd (not_declared (named names word) name e)
@@ -149,29 +149,31 @@ guessed text name tree b e = at_spot text name tree b.spot b.cause e
 
 -- ---- where nothing is said
 
-module _ (word : List ℕ) (test : Known → Bool) (names : List Known) where
-  none_meant : (found : Option Known) → nearest (filter test names) word ≡ found → meant found ≡ Nothing → AllByRecursion
-      (IsFar word test) names
-  none_meant None is e = (all_far word test names None is).1
-  none_meant (Some k) is e = absurd (cc e)
+module _ (word : List ℕ) (test : Known → Bool) (names : List Known) (r : Remark) (silent : IsSilent r) where
+  none_meant : (found : Option Known) (role : Role) (inside : Bool) → nearest (filter test names) word ≡ found →
+      meant role inside found ≡ r → AllByRecursion (IsFar word test) names
+  none_meant None role inside is e = (all_far word test names None is).1
+  none_meant (Some k) role inside is e = absurd (subst IsSilent (sym e) silent)
 
-  none_known : (bound : Option Known) → unknown bound (nearest (filter test names) word) ≡ Nothing → AllByRecursion (IsFar word test) names
-  none_known None e = none_meant (nearest (filter test names) word) refl e
-  none_known (Some k) e = absurd (cc e)
+  none_known : (bound : Option Known) (role : Role) (inside : Bool) → unknown role inside bound (nearest (filter test names) word) ≡ r →
+      AllByRecursion (IsFar word test) names
+  none_known None role inside e = none_meant (nearest (filter test names) word) role inside refl e
+  none_known (Some k) role inside e = absurd (subst IsSilent (sym e) silent)
 
   none_of : (bound : Option Known) (role : Role) (c : Cause) → c ≡ cause.UnknownName →
-      remark_on bound names (filter test names) role word c ≡ Nothing → AllByRecursion (IsFar word test) names
-  none_of bound role c is e = none_known bound (subst (λ k. remark_on bound names (filter test names) role word k ≡ Nothing) is e)
+      remark_on bound names (filter test names) role word c ≡ r → AllByRecursion (IsFar word test) names
+  none_of bound role c is e =
+      none_known bound role (is_inside names) (subst (λ k. remark_on bound names (filter test names) role word k ≡ r) is e)
 
-none_at : (text : List ℕ) (tree : ProgramTree) (s : Spot) (c : Cause) → c ≡ cause.UnknownName → remark_at text tree s c ≡ Nothing →
-    HasNoGuessAt text tree s
-none_at text tree spot.TextEnd c is e = tt
-none_at text tree (spot.Offset at) c is e =
+none_at : (text : List ℕ) (tree : ProgramTree) (s : Spot) (c : Cause) (r : Remark) → IsSilent r → c ≡ cause.UnknownName →
+    remark_at text tree s c ≡ r → HasNoGuessAt text tree s
+none_at text tree spot.TextEnd c r silent is e = tt
+none_at text tree (spot.Offset at) c r silent is e =
     let names = names_at tree at in
     let word = token_at text at in
     let test = fits (cut_of text) at (is_inside names) in
-    All-from_recursion (IsFar word test) names (none_of word test names (bound_in tree word) (role_at (cut_of text) at) c is e)
+    All-from_recursion (IsFar word test) names (none_of word test names r silent (bound_in tree word) (role_at (cut_of text) at) c is e)
 
-pub unguessed : (text : List ℕ) (tree : ProgramTree) (b : Breach) → b.cause ≡ cause.UnknownName → remark_of text tree b ≡ Nothing →
+pub unguessed : (text : List ℕ) (tree : ProgramTree) (b : Breach) → b.cause ≡ cause.UnknownName → IsSilent (remark_of text tree b) →
     HasNoGuessAt text tree b.spot
-unguessed text tree b is e = none_at text tree b.spot b.cause is e
+unguessed text tree b is silent = none_at text tree b.spot b.cause (remark_of text tree b) silent is refl

@@ -13,7 +13,7 @@ use Rattle.pram_trees.specs.Text.{IsTextOf}
 use Rattle.help.specs.Bound.{bound_in}
 use Rattle.help.specs.InScope.{Known, names_at}
 use Rattle.help.specs.Nearness.{nearest}
-use Rattle.diagnoses.specs.Fitting.{fitting}
+use Rattle.diagnoses.specs.Fitting.{fitting, is_inside, role_at}
 use Rattle.diagnoses.specs.Places.{token_at}
 use Rattle.diagnoses.specs.Remarks.{IsExpectation, IsRemark, NoToken, Nothing, OfTree, Remark, remark_at, remark_of, unknown}
 
@@ -29,7 +29,8 @@ by_tree text b tree r is said = subst (IsRemark text b) (sym said) (OfTree tree 
 -- of a name that isn't in scope, by the names that are
 pub of_unknown : (text : List ℕ) (tree : ProgramTree) (at : ℕ) (c : Cause) (r : Remark) (bound : Option Known) (names : List Known)
     (word : List ℕ) → c ≡ UnknownName → word ≡ token_at text at → bound ≡ bound_in tree word → names ≡ names_at tree at →
-    r ≡ unknown bound (nearest (fitting (cut_of text) at names) (token_at text at)) → r ≡ remark_at text tree (Offset at) c
+    r ≡ unknown (role_at (cut_of text) at) (is_inside names) bound (nearest (fitting (cut_of text) at names) (token_at text at)) →
+    r ≡ remark_at text tree (Offset at) c
 of_unknown text tree at c r bound names word c_is word_is bound_is names_is said =
     let found : bound ≡ bound_in tree (token_at text at) = bound_is ∙ ap (bound_in tree) word_is in
     rw c_is (said ∙ rw (found, names_is) refl)

@@ -24,8 +24,9 @@ kind_sentence kind.Overflow = codes "a value is outside the range from -92233720
 kind_sentence kind.DivideByZero = codes "the divisor is 0"
 kind_sentence kind.OutOfRange = codes "a subscript is outside the bounds of its array"
 kind_sentence kind.TooWide = codes "the range has more indices than procs allows processors"
-kind_sentence kind.ReadConflict = codes "more than one processor reads this cell at the same moment"
-kind_sentence kind.WriteConflict = codes "processors write this cell in one statement, as the rule does not allow"
+kind_sentence kind.ReadConflict = codes "more than one processor reads this cell at the same moment: erew forbids it, and crew allows it"
+kind_sentence kind.WriteConflict = (codes "processors write this cell in one statement: erew and crew forbid it, common where the values "
+    ++ codes "differ, and priority and sum allow it")
 
 abbrev pub cell_prefix : List SharedEntry → ℕ → List ℕ
 cell_prefix layout c = cell_text layout c ++ codes ": "

@@ -9,6 +9,7 @@ use Rattle.help.specs.InScope.{Known, names_at}
 use Rattle.help.specs.Nearness.{edits, is_near}
 use Rattle.diagnoses.specs.Fitting.{fits, is_inside}
 use Rattle.diagnoses.specs.Places.{token_at}
+use Rattle.diagnoses.specs.Remarks.{Remark, Nothing, Undeclared}
 
 -- One of the names that are in scope at that offset, near enough to the word there, and of a sort that may stand there; and none of those
 -- is nearer.
@@ -27,6 +28,12 @@ pub record IsGuess (text : List ℕ) (at : ℕ) (names : List Known) (name : Lis
 abbrev pub IsGuessAt : (text : List ℕ) → ProgramTree → Spot → (name : List ℕ) → Type 0
 IsGuessAt text tree spot.TextEnd name = ⊥
 IsGuessAt text tree (spot.Offset at) name = IsGuess text at (names_at tree at) name
+
+-- no name is said to be meant, nor a pardo in which it holds
+abbrev pub IsSilent : Remark → Type 0
+IsSilent Nothing = Unit {0}
+IsSilent (Undeclared role inside) = Unit {0}
+IsSilent _ = ⊥
 
 -- none of the names that are in scope at that offset may stand there and is near enough
 abbrev pub HasNoGuess : (text : List ℕ) → (at : ℕ) → List Known → Type 0

@@ -1,6 +1,6 @@
 -- What there is to say of a name that is wrong: which name was meant, or as what and where it is declared; and of a token, what could stand
 -- in its place.
-use Rattle.std.specs.Prelude.{◌≡◌, ℕ, ◌<◌, List, Option, Some, None, Err, length, take}
+use Rattle.std.specs.Prelude.{◌≡◌, ℕ, ◌<◌, Bool, List, Option, Some, None, Err, length, take}
 use Rattle.pram_names.specs.declared.fault.Cause.{Cause}
 use Rattle.pram_names.specs.declared.fault.Cause.TheVariants as cause
 use Rattle.pram_names.specs.declared.fault.Spot.{Spot}
@@ -19,7 +19,7 @@ use Rattle.help.specs.Hints.{IsHint}
 use Rattle.help.specs.declared.hint.Hint.{Hint}
 use Rattle.diagnoses.specs.declared.remark as rust
 use Rattle.diagnoses.specs.declared.remark.Remark.TheVariants as variant
-use Rattle.diagnoses.specs.Fitting.{fitting, role_at}
+use Rattle.diagnoses.specs.Fitting.{fitting, is_inside, role_at}
 use Rattle.diagnoses.specs.declared.fitting.Role.{Role}
 use Rattle.diagnoses.specs.Places.{token_at}
 
@@ -29,6 +29,7 @@ pub data Remark : Type 0 where
   Declared : Sort → ℕ → Remark
   Misplaced : Sort → ℕ → Role → Remark
   Elsewhere : Sort → ℕ → Remark
+  Undeclared : Role → (inside : Bool) → Remark
   Expected : List Choice → Hint → Remark
 
 abbrev pub remark_is : rust.Remark.Remark → Remark
@@ -37,12 +38,13 @@ remark_is (variant.Nearest name) = Nearest name.items
 remark_is (variant.Declared s line) = Declared s line
 remark_is (variant.Misplaced s line role) = Misplaced s line role
 remark_is (variant.Elsewhere s line) = Elsewhere s line
+remark_is (variant.Undeclared role inside) = Undeclared role inside
 remark_is (variant.Expected found hint) = Expected found.items hint
 
--- the name that was meant, if there is one
-abbrev pub meant : Option Known → Remark
-meant None = Nothing
-meant (Some k) = Nearest k.name
+-- the name that was meant, and else the role of the one that is not declared, and whether it stands inside pardo
+abbrev pub meant : Role → (inside : Bool) → Option Known → Remark
+meant role inside None = Undeclared role inside
+meant role inside (Some k) = Nearest k.name
 
 -- as what and where the name is declared
 abbrev pub declared : Option Known → Remark
@@ -55,13 +57,13 @@ misplaced role None = Nothing
 misplaced role (Some k) = Misplaced k.sort k.line role
 
 -- of a name that isn't in scope the pardo in whose body it holds, and else the name that was meant
-abbrev pub unknown : (bound near : Option Known) → Remark
-unknown (Some k) near = Elsewhere k.sort k.line
-unknown None near = meant near
+abbrev pub unknown : Role → (inside : Bool) → (bound near : Option Known) → Remark
+unknown role inside (Some k) near = Elsewhere k.sort k.line
+unknown role inside None near = meant role inside near
 
 -- of an unknown name that, by the names that may stand there, and of any other as what and where it is declared; of a limit nothing
 abbrev pub remark_on : (bound : Option Known) → (names fit : List Known) → Role → List ℕ → Cause → Remark
-remark_on bound names fit role word cause.UnknownName = unknown bound (nearest fit word)
+remark_on bound names fit role word cause.UnknownName = unknown role (is_inside names) bound (nearest fit word)
 remark_on bound names fit role word cause.DoubleName = declared (named names word)
 remark_on bound names fit role word cause.WrongKind = misplaced role (named names word)
 remark_on bound names fit role word cause.AssignedLoopVariable = declared (named names word)

@@ -13,7 +13,7 @@ use Rattle.help.specs.declared.message.Point.TheVariants.{Byte}
 use Rattle.help.specs.Messages.{Message, said, with_expected, with_more, with_other}
 use Rattle.diagnoses.specs.declared.source.Source.{Source}
 use Rattle.diagnoses.specs.Places.{quoted, token_at}
-use Rattle.diagnoses.specs.Remarks.{Remark, Nothing, Nearest, Declared, Misplaced, Elsewhere, Expected}
+use Rattle.diagnoses.specs.Remarks.{Remark, Nothing, Nearest, Declared, Misplaced, Elsewhere, Undeclared, Expected}
 use Rattle.diagnoses.specs.Sources.{origin, text_in}
 
 -- ---- what could stand there
@@ -31,6 +31,7 @@ expected (Nearest name) = []
 expected (Declared sort line) = []
 expected (Misplaced sort line role) = []
 expected (Elsewhere sort line) = []
+expected (Undeclared role inside) = []
 expected (Expected found hint) = could_stand found
 
 abbrev pub bare_end : List ℕ
@@ -46,6 +47,7 @@ ended (Nearest name) = bare_end
 ended (Declared sort line) = bare_end
 ended (Misplaced sort line role) = bare_end
 ended (Elsewhere sort line) = bare_end
+ended (Undeclared role inside) = bare_end
 ended (Expected found hint) = open_end found
 
 -- the sentence: a token with which no program goes on, or the end of the text

@@ -10,10 +10,11 @@ ghost use Rattle.diagnoses.specs.Sources.{spot_as_it_stands, text_in};
 
 use crate::fitting::Role;
 use crate::parts::at_byte;
-use crate::places::{token_at, write_quoted};
+use crate::places::{behind, is_same, token_at, write_quoted};
 use crate::remark::Remark;
 use crate::source::{Kind, Source};
 use crate::standing::spot_as_it_stands;
+use crate::undeclared::{Around, write_undeclared};
 use help::{Message, Sort};
 use itoa::Buffer as Digits;
 use pram_check::{Breach, Cause, Limit, Spot};
@@ -75,24 +76,60 @@ fn reason(cause: Cause, sort: Sort) -> &'static [u8]
     }
 }
 
-fn wrong_kind(word: &[u8]) -> &'static [u8]
-    ensures { result.now ≡ spec.wrong_kind word.now }
+// Whether a `for` counts, by the text from its word on.
+fn counts(text: &[u8]) -> bool
+    ensures { result ≡ spec.counts text.now }
 {
-    match word {
-        b"print" | b"for" => {
-            b" has no place inside pardo: print behind it, loop in it by while and a local, and run over pairs by one range"
+    for byte in text {
+        if *byte == b':' || *byte == b'<' {
+            return *byte == b':';
         }
-        _ => b" is of another kind than what may stand here",
+    }
+    false
+}
+
+fn inner_for(counts: bool) -> &'static [u8]
+    ensures { result.now ≡ spec.inner_for counts }
+{
+    if counts {
+        b" has no place inside pardo: loop by a local and a while, as in k := 1; while k <= 8 do k := k + 1; end"
+    } else {
+        b" has no place inside pardo: run over pairs by one range, as for 0 <= p <= n * m - 1 pardo, with the locals \
+        i := p div m; j := p mod m;"
     }
 }
 
-fn bare(word: &[u8], cause: Cause) -> &'static [u8]
-    ensures { result.now ≡ spec.bare word.now cause }
+fn is_print(word: &[u8]) -> bool
+    ensures { result ≡ spec.is_print word.now }
+{
+    matches!(word, b"print")
+}
+
+fn is_for(word: &[u8]) -> bool
+    ensures { result ≡ spec.is_for word.now }
+{
+    matches!(word, b"for")
+}
+
+fn wrong_kind(word: &[u8], counts: bool) -> &'static [u8]
+    ensures { result.now ≡ spec.wrong_kind word.now counts }
+{
+    if is_print(word) {
+        b" has no place inside pardo: set a shared cell there, and print it behind the pardo"
+    } else if is_for(word) {
+        inner_for(counts)
+    } else {
+        b" is of another kind than what may stand here"
+    }
+}
+
+fn bare(word: &[u8], around: Around, cause: Cause) -> &'static [u8]
+    ensures { result.now ≡ spec.bare word.now around cause }
 {
     match cause {
         Cause::UnknownName => b" is not declared here",
         Cause::DoubleName => b" is declared already",
-        Cause::WrongKind => wrong_kind(word),
+        Cause::WrongKind => wrong_kind(word, around.counts),
         Cause::AssignedLoopVariable => b" is the variable of a loop, and is not set in its body",
         Cause::Limit(_) => b" passes a limit",
     }
@@ -148,13 +185,15 @@ fn write_elsewhere<W: Out>(out: &mut W, sort: Sort, line: u32) -> Result<(), Wri
 fn write_remarked<W: Out>(
     out: &mut W,
     word: &[u8],
+    around: Around,
     cause: Cause,
     remark: &Remark,
 ) -> Result<(), WriteFault>
-    ensures written { Writes (W.Out.state out.old) (W.Out.state out.new) (spec.remarked word.now cause (remark_is remark.now)) result }
+    ensures written { Writes (W.Out.state out.old) (W.Out.state out.new)
+        (spec.remarked word.now around cause (remark_is remark.now)) result }
 {
     match remark {
-        Remark::Nothing => out.write_all(bare(word, cause)),
+        Remark::Nothing => out.write_all(bare(word, around, cause)),
         Remark::Nearest(name) => out.write_parts(&[
             b" is not declared here; did you mean \"",
             name.as_slice(),
@@ -163,7 +202,14 @@ fn write_remarked<W: Out>(
         Remark::Declared(sort, line) => write_declared(out, cause, *sort, *line),
         Remark::Misplaced(sort, line, role) => write_misplaced(out, *sort, *line, *role),
         Remark::Elsewhere(sort, line) => write_elsewhere(out, *sort, *line),
-        Remark::Expected(_, _) => out.write_all(bare(word, cause)),
+        Remark::Undeclared(role, inside) => write_undeclared(
+            out,
+            word,
+            *role,
+            *inside,
+            around.sized,
+        ),
+        Remark::Expected(_, _) => out.write_all(bare(word, around, cause)),
     }
 }
 
@@ -185,28 +231,30 @@ fn limit_sentence(limit: Limit) -> &'static [u8]
 fn write_named<W: Out>(
     out: &mut W,
     word: &[u8],
+    around: Around,
     cause: Cause,
     remark: &Remark,
 ) -> Result<(), WriteFault>
     ensures written { Writes (W.Out.state out.old) (W.Out.state out.new)
-        (spec.named_sentence word.now cause (remark_is remark.now)) result }
+        (spec.named_sentence word.now around cause (remark_is remark.now)) result }
 {
     write_quoted(out, word)?;
-    write_remarked(out, word, cause, remark)
+    write_remarked(out, word, around, cause, remark)
 }
 
 fn write_sentence<W: Out>(
     out: &mut W,
     word: &[u8],
+    around: Around,
     cause: Cause,
     remark: &Remark,
 ) -> Result<(), WriteFault>
     ensures written { Writes (W.Out.state out.old) (W.Out.state out.new)
-        (spec.breach_sentence word.now cause (remark_is remark.now)) result }
+        (spec.breach_sentence word.now around cause (remark_is remark.now)) result }
 {
     match cause {
         Cause::Limit(limit) => out.write_all(limit_sentence(limit)),
-        _ => write_named(out, word, cause, remark),
+        _ => write_named(out, word, around, cause, remark),
     }
 }
 
@@ -223,14 +271,18 @@ fn write_said<W: Out>(
     out: &mut W,
     kind: Kind,
     word: &[u8],
+    around: Around,
     cause: Cause,
     remark: &Remark,
 ) -> Result<(), WriteFault>
-    ensures written { Writes (W.Out.state out.old) (W.Out.state out.new) (spec.said_of kind word.now cause (remark_is remark.now)) result }
+    ensures written { Writes (W.Out.state out.old) (W.Out.state out.new)
+        (spec.said_of kind word.now around cause (remark_is remark.now)) result }
 {
     match kind {
         Kind::Memory => write_unnamed(out, word),
-        Kind::Program | Kind::Input | Kind::Listing => write_sentence(out, word, cause, remark),
+        Kind::Program | Kind::Input | Kind::Listing => {
+            write_sentence(out, word, around, cause, remark)
+        }
     }
 }
 
@@ -250,6 +302,22 @@ fn word_at(text: &[u8], spot: Spot) -> &[u8]
     token_at(text, offset_of(text, spot))
 }
 
+// Whether a `for` at a place counts.
+fn counts_at(text: &[u8], spot: Spot) -> bool
+    ensures { result ≡ spec.counts_at text.now spot }
+{
+    counts(behind(text, offset_of(text, spot)))
+}
+
+fn around_at(source: &Source<'_>, spot: Spot) -> Around
+    ensures { result ≡ spec.around_at source.now spot }
+{
+    Around {
+        counts: counts_at(source.text(), spot),
+        sized: !is_same(source.text(), source.bytes.as_slice()),
+    }
+}
+
 // The offset of a place in the file.
 fn offset_in(source: &Source<'_>, spot: Spot) -> usize
     ensures { result ≡ spec.offset_of source.now.bytes.items (spot_as_it_stands source.now spot) }
@@ -265,11 +333,13 @@ fn at_spot(
     remark: &Remark,
 ) -> Result<Message, AllocError>
     ensures { IfOk result (λ m. message_is m ≡ spec.at_spot source.now breach.spot
-        (spec.said_of source.now.kind (spec.word_at (text_in source.now) breach.spot) breach.cause (remark_is remark.now))) }
+        (spec.said_of source.now.kind (spec.word_at (text_in source.now) breach.spot) (spec.around_at source.now breach.spot)
+        breach.cause (remark_is remark.now))) }
 {
     let mut out = Buffer::new(alloc);
     let word = word_at(source.text(), breach.spot);
-    match write_said(&mut out, source.kind, word, breach.cause, remark) {
+    let around = around_at(source, breach.spot);
+    match write_said(&mut out, source.kind, word, around, breach.cause, remark) {
         Ok(()) => at_byte(alloc, offset_in(source, breach.spot), out.bytes()),
         Err(WriteFault) => Err(AllocError),
     }
@@ -284,6 +354,7 @@ fn meant_name(alloc: Global, remark: &Remark) -> Result<Option<Vec<u8>>, AllocEr
         Remark::Declared(_, _) => Ok(None),
         Remark::Misplaced(_, _, _) => Ok(None),
         Remark::Elsewhere(_, _) => Ok(None),
+        Remark::Undeclared(_, _) => Ok(None),
         Remark::Expected(_, _) => Ok(None),
     }
 }

@@ -22,9 +22,11 @@ pub(crate) fn kind_sentence(kind: Kind) -> &'static [u8]
         Kind::DivideByZero => b"the divisor is 0",
         Kind::OutOfRange => b"a subscript is outside the bounds of its array",
         Kind::TooWide => b"the range has more indices than procs allows processors",
-        Kind::ReadConflict => b"more than one processor reads this cell at the same moment",
+        Kind::ReadConflict =>
+            b"more than one processor reads this cell at the same moment: erew forbids it, and crew allows it",
         Kind::WriteConflict => {
-            b"processors write this cell in one statement, as the rule does not allow"
+            b"processors write this cell in one statement: erew and crew forbid it, common where the values differ, and \
+            priority and sum allow it"
         }
     }
 }

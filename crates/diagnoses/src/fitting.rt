@@ -161,8 +161,8 @@ fn role_of(tokens: &[Token], n: usize) -> Role
 
 // ---- where it stands
 
-// Whether an index is among the names in scope.
-fn is_inside(names: &[Known<'_>]) -> bool
+/// Whether an index is among the names in scope.
+pub(crate) fn is_inside(names: &[Known<'_>]) -> bool
     ensures { result ≡ spec.is_inside (map known_is names.now) }
 {
     for k in names {

@@ -6,8 +6,8 @@ ghost use Rattle.pram_names.specs.declared.fault.Cause.TheVariants.{UnknownName 
 ghost use Rattle.pram_names.specs.declared.scope.Meaning.{Meaning as MeaningOf};
 ghost use Rattle.pram_trees.specs.Program.{ProgramTree};
 ghost use Rattle.diagnoses.specs.Against.{IsAsJudged};
-ghost use Rattle.diagnoses.specs.Guesses.{HasNoGuessAt, IsGuessAt};
-ghost use Rattle.diagnoses.specs.Remarks.{Nearest as Meant, Nothing as Silence, remark_of as remark_in};
+ghost use Rattle.diagnoses.specs.Guesses.{HasNoGuessAt, IsGuessAt, IsSilent};
+ghost use Rattle.diagnoses.specs.Remarks.{Nearest as Meant, remark_of as remark_in};
 ghost use Rattle.diagnoses.specs.declared.fitting.Role.{Role as RoleOf};
 
 /// A name that is said to be meant is in scope where the unknown name stands, near to that, and of a sort that may stand there; and none of
@@ -19,11 +19,12 @@ pub fn a_meant_name_may_stand_there()
         remark_in text tree b ≡ Meant name → IsGuessAt text tree b.spot name }
 {}
 
-/// Nothing is said of an unknown name only where none that is in scope and may stand there is near to it.
+/// An unknown name is said to be undeclared, or nothing is said, only where none that is in scope and may stand there is near to it.
 pub fn a_name_is_meant_where_one_is_near()
-    // Nothing is said of an unknown name only where no name in scope that may stand there is near to it.
+    // An unknown name is told to be undeclared, and none to be meant, only where no name in scope that may stand there
+    // is near to it.
     ensures { (text : List ℕ) (tree : ProgramTree) (b : BreachOf) →
-        b.cause ≡ Unknown → remark_in text tree b ≡ Silence → HasNoGuessAt text tree b.spot }
+        b.cause ≡ Unknown → IsSilent (remark_in text tree b) → HasNoGuessAt text tree b.spot }
 {}
 
 /// Names of just those sorts may stand in a role against which the checker has nothing: what is guessed is not refused in its turn.

@@ -23,6 +23,7 @@ mod stops;
 mod syntax_faults;
 mod syntax_messages;
 mod text_faults;
+mod undeclared;
 mod wrong_element;
 
 pub use about::{About, Unread};

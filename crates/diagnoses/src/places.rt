@@ -23,8 +23,8 @@ pub(crate) fn byte_at(text: &[u8], at: usize) -> u8
     if at < text.len() { text[at] } else { 0 }
 }
 
-// What stands from a place on.
-fn behind(text: &[u8], at: usize) -> &[u8]
+/// What stands from a place on.
+pub(crate) fn behind(text: &[u8], at: usize) -> &[u8]
     ensures { result.now ≡ drop at text.now }
 {
     if at < text.len() { &text[at..] } else { &[] }

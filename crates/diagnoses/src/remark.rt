@@ -11,7 +11,7 @@ ghost use Rattle.pram_names.specs.declared.fault.Spot.TheVariants.{Offset};
 ghost use Rattle.diagnoses.specs.Places.{token_at as token_of};
 ghost use Rattle.diagnoses.specs.Remarks as spec;
 
-use crate::fitting::{Role, fitting_names, role_at};
+use crate::fitting::{Role, fitting_names, is_inside, role_at};
 use crate::places::{front, token_at};
 use help::{Choice, Hint, Known, Sort, bound_in, choices_behind, find, hint_at, names_at, nearest};
 use pram_check::{Breach, Cause, Spot};
@@ -23,7 +23,7 @@ use std::alloc::{AllocError, Global};
 /// What there is to say of a name that is wrong, or of a token with which no program goes on.
 #[derive(Drop)]
 pub(crate) enum Remark {
-    /// Nothing: no name is near, or the text says nothing of it.
+    /// Nothing: the text says nothing of it.
     Nothing,
     /// This name in scope was meant.
     Nearest(Vec<u8>),
@@ -33,16 +33,23 @@ pub(crate) enum Remark {
     Misplaced(Sort, u32, Role),
     /// As what the name is declared in a pardo, and on which line, but not where it stands.
     Elsewhere(Sort, u32),
+    /// No name is near: the role of the one that isn't declared, and whether it stands inside pardo.
+    Undeclared(Role, bool),
     /// These kinds of tokens could stand there, and what else there is to say of the place.
     Expected(Vec<Choice>, Hint),
 }
 
-// The name that was meant, if there is one.
-fn meant(alloc: Global, found: Option<Known<'_>>) -> Result<Remark, AllocError>
-    ensures { IfOk result (λ r. spec.remark_is r ≡ spec.meant (option_map known_is found.entry)) }
+// The name that was meant, if there is one, and else where the name stands that isn't declared.
+fn meant(
+    alloc: Global,
+    role: Role,
+    inside: bool,
+    found: Option<Known<'_>>,
+) -> Result<Remark, AllocError>
+    ensures { IfOk result (λ r. spec.remark_is r ≡ spec.meant role inside (option_map known_is found.entry)) }
 {
     match found {
-        None => Ok(Remark::Nothing),
+        None => Ok(Remark::Undeclared(role, inside)),
         Some(k) => Ok(Remark::Nearest(Vec::from_slice(alloc, k.name)?)),
     }
 }
@@ -86,14 +93,17 @@ fn unknown(
     names: &[Known<'_>],
 ) -> Result<Remark, AllocError>
     requires fits { length text.now ≤ longest }
-    ensures { IfOk result (λ r. spec.remark_is r ≡ spec.unknown (option_map known_is bound.entry)
+    ensures { IfOk result (λ r. spec.remark_is r
+        ≡ spec.unknown (fit.role_at (cut_of text.now) at) (fit.is_inside (map known_is names.now)) (option_map known_is bound.entry)
         (near.nearest (fit.fitting (cut_of text.now) at (map known_is names.now)) (token_of text.now at))) }
 {
     match bound {
         Some(k) => Ok(Remark::Elsewhere(k.sort, k.line)),
         None => {
+            let role = role_at(alloc, text, at)?;
             let fit = fitting_names(alloc, text, at, names)?;
-            meant(alloc, nearest(alloc, &fit, token_at(text, at as usize))?)
+            let near = nearest(alloc, &fit, token_at(text, at as usize))?;
+            meant(alloc, role, is_inside(names), near)
         }
     }
 }

@@ -34,6 +34,7 @@ fn write_expected<W: Out>(out: &mut W, remark: &Remark) -> Result<(), WriteFault
         Remark::Declared(_, _) => out.write_all(b""),
         Remark::Misplaced(_, _, _) => out.write_all(b""),
         Remark::Elsewhere(_, _) => out.write_all(b""),
+        Remark::Undeclared(_, _) => out.write_all(b""),
     }
 }
 
@@ -61,6 +62,7 @@ fn write_ended<W: Out>(out: &mut W, remark: &Remark) -> Result<(), WriteFault>
         Remark::Declared(_, _) => write_bare_end(out),
         Remark::Misplaced(_, _, _) => write_bare_end(out),
         Remark::Elsewhere(_, _) => write_bare_end(out),
+        Remark::Undeclared(_, _) => write_bare_end(out),
     }
 }
 

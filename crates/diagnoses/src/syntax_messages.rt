@@ -215,6 +215,7 @@ fn hint_of(remark: &Remark) -> Hint
         Remark::Declared(_, _) => Hint::Nothing,
         Remark::Misplaced(_, _, _) => Hint::Nothing,
         Remark::Elsewhere(_, _) => Hint::Nothing,
+        Remark::Undeclared(_, _) => Hint::Nothing,
     }
 }
 
@@ -277,6 +278,7 @@ fn expected_texts(alloc: Global, remark: &Remark) -> Result<Vec<Vec<u8>>, AllocE
         Remark::Declared(_, _) => Ok(Vec::new(alloc)),
         Remark::Misplaced(_, _, _) => Ok(Vec::new(alloc)),
         Remark::Elsewhere(_, _) => Ok(Vec::new(alloc)),
+        Remark::Undeclared(_, _) => Ok(Vec::new(alloc)),
     }
 }
 

@@ -1,6 +1,6 @@
 //! What is said of a text that is refused before it is a program.
 
-ghost use Rattle.std.specs.Prelude.{◌≡◌, ◌+◌, IfOk, slice_index};
+ghost use Rattle.std.specs.Prelude.{◌≡◌, IfOk};
 ghost use Rattle.text_out.specs.Out.{Writes};
 ghost use Rattle.help.specs.Messages.{message_is};
 ghost use Rattle.diagnoses.specs.Remarks.{remark_is};
@@ -13,7 +13,7 @@ use crate::places::byte_at;
 use crate::remark::Remark;
 use crate::source::{Kind, Source};
 use crate::syntax_messages::syntax_message;
-use help::{Message, stray_sentence};
+use help::{Message, pasted_at, pasted_text, stray_sentence};
 use itoa::Buffer as Digits;
 use pram_trees::TextFault;
 use std::alloc::{AllocError, Global};
@@ -41,35 +41,7 @@ fn too_long(kind: Kind) -> &'static [u8]
     }
 }
 
-// The byte before a place, and 0 at the front.
-fn byte_before(text: &[u8], at: usize) -> u8
-    ensures { result ≡ spec.byte_before text.now at }
-{
-    if at == 0 { 0 } else { byte_at(text, at - 1) }
-}
-
-// The byte behind a place.
-fn byte_behind(text: &[u8], at: usize) -> u8
-    ensures { result ≡ slice_index text.now (at + 1) }
-{
-    if at < text.len() {
-        byte_at(text, at + 1)
-    } else {
-        0
-    }
-}
-
-fn no_token(text: &[u8], at: usize) -> &'static [u8]
-    ensures { result.now ≡ spec.no_token text.now at }
-{
-    stray_sentence(
-        byte_before(text, at),
-        byte_at(text, at),
-        byte_behind(text, at),
-    )
-}
-
-fn bad_token(kind: Kind, text: &[u8], at: usize) -> &'static [u8]
+fn bad_token(kind: Kind, text: &[u8], at: u32) -> &'static [u8]
     ensures { result.now ≡ spec.bad_token kind text.now at }
 {
     match kind {
@@ -80,8 +52,8 @@ fn bad_token(kind: Kind, text: &[u8], at: usize) -> &'static [u8]
             b"a line of a memory is a name, the bounds of some of its cells if they are not all meant, \
             = and their values, as a[1..4] = 4 3 2 1"
         }
-        Kind::Program => no_token(text, at),
-        Kind::Listing => no_token(text, at),
+        Kind::Program => stray_sentence(text, at),
+        Kind::Listing => stray_sentence(text, at),
     }
 }
 
@@ -96,18 +68,21 @@ fn of_byte(alloc: Global, source: &Source<'_>, at: u32, byte: u8) -> Result<Mess
     }
 }
 
+// What is said of such a byte, or of the sign that it begins.
 fn of_other_byte(alloc: Global, source: &Source<'_>, at: u32) -> Result<Message, AllocError>
-    ensures { IfOk result (λ m. message_is m
-        ≡ placed_in source.now at (spec.not_ascii (slice_index (text_in source.now) at))) }
+    ensures { IfOk result (λ m. message_is m ≡ placed_in source.now at (spec.other_byte (text_in source.now) at)) }
 {
-    of_byte(alloc, source, at, byte_at(source.text(), at as usize))
+    match pasted_at(source.text(), at) {
+        Some(sign) => placed(alloc, source, at, pasted_text(sign)),
+        None => of_byte(alloc, source, at, byte_at(source.text(), at as usize)),
+    }
 }
 
 fn of_bad_token(alloc: Global, source: &Source<'_>, at: u32) -> Result<Message, AllocError>
     ensures { IfOk result (λ m. message_is m
         ≡ placed_in source.now at (spec.bad_token source.now.kind (text_in source.now) at)) }
 {
-    let sentence = bad_token(source.kind, source.text(), at as usize);
+    let sentence = bad_token(source.kind, source.text(), at);
     placed(alloc, source, at, sentence)
 }
 
