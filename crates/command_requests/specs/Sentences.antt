@@ -1,5 +1,7 @@
 -- What is said of a word of the command line that is wrong.
-use Rattle.std.specs.Prelude.{ℕ, List, [], ◌++◌, Option, Some, None, codes, if◌then◌else◌}
+use Rattle.std.specs.Prelude.{ℕ, ◌==◌, nat_le, nat_lt, Bool, false, List, [], ◌++◌, length, Option, Some, None, codes, if◌then◌else◌}
+use Rattle.std.specs.List.{after_first, before_first, position_or_len}
+use Rattle.run_options.specs.Numbers.{number_of}
 use Rattle.pram_model.specs.Names.{same_text}
 use Rattle.command_requests.specs.declared.given.Given.{Given}
 use Rattle.command_requests.specs.declared.given.Given.TheVariants as given
@@ -41,23 +43,59 @@ wanted given.Subject = codes "a refusal, as E6, a fault, as read-conflict, a com
 abbrev pub wanted_text : Given → List ℕ
 wanted_text g = codes "` for `" ++ (name g ++ (codes "`: it wants " ++ (wanted g ++ codes "\n")))
 
--- `invalid `x` for `--bound`: it wants a number from 0 to 4294967295`
+-- ---- intervals that are written with `-`
+
+abbrev pub is_dash : ℕ → Bool
+is_dash b = b == 45
+
+abbrev pub are_ends : Option ℕ → Option ℕ → Bool
+are_ends (Some low) (Some high) = nat_le low high
+are_ends _ _ = false
+
+-- two numbers of which the first is at most the second
+abbrev pub ends_of : (low high : List ℕ) → Option (List ℕ × List ℕ)
+ends_of low high = if are_ends (number_of low) (number_of high) then Some (low, high) else None
+
+-- such numbers with `-` between them, as `1-8`
+abbrev pub ends_in : (word : List ℕ) → Option (List ℕ × List ℕ)
+ends_in word =
+    if nat_lt (position_or_len is_dash word) (length word) then ends_of (before_first is_dash word) (after_first is_dash word) else None
+
+-- where they are given to an option that takes an interval
+abbrev pub ends_meant : Given → (word : List ℕ) → Option (List ℕ × List ℕ)
+ends_meant given.Values word = ends_in word
+ends_meant given.Random word = ends_in word
+ends_meant _ word = None
+
+abbrev pub meant_text : (name low high : List ℕ) → List ℕ
+meant_text name low high = codes "` for `" ++ (name ++ (codes "`: did you mean `" ++ (low ++ (codes ".." ++ (high ++ codes "`?\n")))))
+
+abbrev pub advice_by : Given → Option (List ℕ × List ℕ) → List ℕ
+advice_by g (Some (low, high)) = meant_text (name g) low high
+advice_by g None = wanted_text g
+
+-- the interval that is meant, or what the option wants
+abbrev pub advice : Given → (word : List ℕ) → List ℕ
+advice g word = advice_by g (ends_meant g word)
+
+-- `invalid `x` for `--bound`: it wants a number from 0 to 4294967295`, `invalid `1-8` for `--values`: did you mean `1..8`?`
 abbrev pub value_sentence : Given → (word : List ℕ) → List ℕ
-value_sentence g word = codes "invalid `" ++ (escaped word ++ wanted_text g)
+value_sentence g word = codes "invalid `" ++ (escaped word ++ advice g word)
 
 -- an option that a command wants, in the place of others; of any other word nothing
 abbrev pub command_sentence : (word : List ℕ) → List ℕ
 command_sentence word =
     if same_text word (codes "--input") then (codes "`compare` wants `--input`, `--cells` with `--values`, `--permutations`, or "
     ++ codes "`--random` or `--draw` with `--count`, and one of these alone\n")
-    else if same_text word (codes "--cells") then (codes "`explore` wants `--cells` with `--values`, or `--permutations` in their "
-    ++ codes "place; `compare` takes `--cells` with `--random` and `--draw` too\n")
+    else if same_text word (codes "--cells") then (codes "`explore` wants `--cells` with `--values`, `--permutations`, or "
+    ++ codes "`--random` or `--draw` with `--count`, which take `--cells` too\n")
     else if same_text word (codes "--values") then codes "`--values` goes with `--cells` alone\n"
     else if same_text word (codes "--count") then codes "`--count` goes with `--random` or `--draw` alone\n"
     else if same_text word (codes "--permutations") then (codes "`--permutations` goes with none of `--cells`, `--values`, "
     ++ codes "`--random` and `--draw`\n")
     else if same_text word (codes "--listing") then (codes "`export` wants a FILE, or `--listing` in its place, which goes without "
     ++ codes "`--size`\n")
+    else if same_text word (codes "--shrink") then codes "`--shrink` goes with neither `--random` nor `--draw`\n"
     else if same_text word (codes "--witness") then codes "`--witness` wants the name of a file, and `-` is none\n"
     else []
 
@@ -66,9 +104,9 @@ abbrev pub option_sentence : (word : List ℕ) → List ℕ
 option_sentence word =
     if same_text word (codes "--memory") then codes "`--memory` goes with none of `--input`, `--random` and `--draw`\n"
     else if same_text word (codes "--random") then (codes "`--random` goes with neither `--input` nor `--memory`, of `--draw` "
-    ++ codes "with `sorted` alone, and with `compare` it wants `--count`\n")
+    ++ codes "with `sorted` alone, and with `compare` or `explore` it wants `--count`\n")
     else if same_text word (codes "--draw") then (codes "`--draw` goes with neither `--input` nor `--memory`, and with `compare` "
-    ++ codes "it wants `--count`\n")
+    ++ codes "or `explore` it wants `--count`\n")
     else if same_text word (codes "--seed") then codes "`--seed` goes with `--random` or `--draw` alone\n"
     else if same_text word (codes "--quiet") then codes "`--quiet` doesn't go with `--show`\n"
     else if same_text word (codes "--html") then codes "`--html` goes with neither `--svg` nor another `--format` than text\n"
@@ -80,6 +118,7 @@ option_sentence word =
     else if same_text word (codes "--lines") then codes "`--lines` doesn't go with `--sweep`\n"
     else if same_text word (codes "--seconds") then codes "`--seconds` doesn't go with `--sweep`\n"
     else if same_text word (codes "--only") then codes "`--only` goes with neither `--svg` nor `--html` nor another `--format` than text\n"
+    else if same_text word (codes "--from") then codes "`--from` is at most `--to`\n"
     else command_sentence word
 
 -- what is said of a word, by the option that doesn't take it, if there is one

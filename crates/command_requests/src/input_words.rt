@@ -1,4 +1,4 @@
-//! On which inputs two programs are run.
+//! On which inputs two programs are run, or one.
 
 ghost use Rattle.std.specs.Prelude.{◌≤◌, ◌+◌, ◌<◌, ◌^◌, length};
 ghost use Rattle.scopes.specs.Scopes.{inputs_of};

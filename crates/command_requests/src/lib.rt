@@ -4,6 +4,7 @@
 mod always_words;
 mod arrange_words;
 mod cost_words;
+mod dashed;
 mod expanding;
 mod explain_word;
 mod form;
@@ -47,7 +48,7 @@ pub use pair_words::{GradeWords, PairWords};
 pub use reader::Reader;
 pub use request::{ProgramFile, Request, SizeWord};
 pub use run_words::{MeaningWords, RunWords};
-pub use scope_words::{MOST_CELLS, MOST_INPUTS, MOST_ORDERED, ScopeWords};
+pub use scope_words::{ExploredInputs, MOST_CELLS, MOST_INPUTS, MOST_ORDERED, ScopeWords};
 pub use sentence::write_word_fault;
 pub use sizing::sizes_of;
 pub use specification_files::SpecificationFiles;

@@ -91,8 +91,8 @@ pub enum Request<'a> {
         file: ProgramFile<'a>,
         words: SweepWords<'a>,
     },
-    /// A program is run by its definition on every input of a scope that counts, each time for at most so many statements; and where a file
-    /// is named for it, the first input that is told is written there.
+    /// A program is run by its definition on every input of a scope that counts, or on each that is drawn and counts, each time for at most
+    /// so many statements; and where a file is named for it, the first input that is told is written there.
     Exploration {
         file: ProgramFile<'a>,
         specification: SpecificationFiles<'a>,

@@ -4,6 +4,7 @@ ghost use Rattle.std.specs.Prelude.{◌≡◌};
 ghost use Rattle.text_out.specs.Out.{Writes};
 ghost use Rattle.command_requests.specs.Sentences as spec;
 
+use crate::dashed::ends_meant;
 use crate::given::Given;
 use crate::named::is_same;
 use text_out::{Out, WriteFault};
@@ -68,12 +69,41 @@ fn write_wanted<W: Out>(given: Given, out: &mut W) -> Result<(), WriteFault>
     ])
 }
 
-fn write_value_sentence<W: Out>(given: Given, word: &[u8], out: &mut W) -> Result<(), WriteFault>
+fn write_meant<'x, W: Out>(
+    name: &'x [u8],
+    low: &'x str,
+    high: &'x str,
+    out: &mut W,
+) -> Result<(), WriteFault>
+    ensures written { Writes (W.Out.state out.old) (W.Out.state out.new) (spec.meant_text name.now low.now high.now) result }
+{
+    out.write_parts(&[
+        b"` for `",
+        name,
+        b"`: did you mean `",
+        low.as_bytes(),
+        b"..",
+        high.as_bytes(),
+        b"`?\n",
+    ])
+}
+
+// The interval that is meant, or what the option wants.
+fn write_advice<W: Out>(given: Given, word: &str, out: &mut W) -> Result<(), WriteFault>
+    ensures written { Writes (W.Out.state out.old) (W.Out.state out.new) (spec.advice given word.now) result }
+{
+    match ends_meant(given, word) {
+        Some((low, high)) => write_meant(given.name(), low, high, out),
+        None => write_wanted(given, out),
+    }
+}
+
+fn write_value_sentence<W: Out>(given: Given, word: &str, out: &mut W) -> Result<(), WriteFault>
     ensures written { Writes (W.Out.state out.old) (W.Out.state out.new) (spec.value_sentence given word.now) result }
 {
     out.write_all(b"invalid `")?;
-    write_escaped(out, word)?;
-    write_wanted(given, out)
+    write_escaped(out, word.as_bytes())?;
+    write_advice(given, word, out)
 }
 
 // Of one that a command wants, in the place of others.
@@ -83,7 +113,7 @@ fn command_sentence(word: &[u8]) -> &'static [u8]
     if is_same(word, b"--input") {
         b"`compare` wants `--input`, `--cells` with `--values`, `--permutations`, or `--random` or `--draw` with `--count`, and one of these alone\n"
     } else if is_same(word, b"--cells") {
-        b"`explore` wants `--cells` with `--values`, or `--permutations` in their place; `compare` takes `--cells` with `--random` and `--draw` too\n"
+        b"`explore` wants `--cells` with `--values`, `--permutations`, or `--random` or `--draw` with `--count`, which take `--cells` too\n"
     } else if is_same(word, b"--values") {
         b"`--values` goes with `--cells` alone\n"
     } else if is_same(word, b"--count") {
@@ -92,6 +122,8 @@ fn command_sentence(word: &[u8]) -> &'static [u8]
         b"`--permutations` goes with none of `--cells`, `--values`, `--random` and `--draw`\n"
     } else if is_same(word, b"--listing") {
         b"`export` wants a FILE, or `--listing` in its place, which goes without `--size`\n"
+    } else if is_same(word, b"--shrink") {
+        b"`--shrink` goes with neither `--random` nor `--draw`\n"
     } else if is_same(word, b"--witness") {
         b"`--witness` wants the name of a file, and `-` is none\n"
     } else {
@@ -106,9 +138,9 @@ fn option_sentence(word: &[u8]) -> &'static [u8]
     if is_same(word, b"--memory") {
         b"`--memory` goes with none of `--input`, `--random` and `--draw`\n"
     } else if is_same(word, b"--random") {
-        b"`--random` goes with neither `--input` nor `--memory`, of `--draw` with `sorted` alone, and with `compare` it wants `--count`\n"
+        b"`--random` goes with neither `--input` nor `--memory`, of `--draw` with `sorted` alone, and with `compare` or `explore` it wants `--count`\n"
     } else if is_same(word, b"--draw") {
-        b"`--draw` goes with neither `--input` nor `--memory`, and with `compare` it wants `--count`\n"
+        b"`--draw` goes with neither `--input` nor `--memory`, and with `compare` or `explore` it wants `--count`\n"
     } else if is_same(word, b"--seed") {
         b"`--seed` goes with `--random` or `--draw` alone\n"
     } else if is_same(word, b"--quiet") {
@@ -131,6 +163,8 @@ fn option_sentence(word: &[u8]) -> &'static [u8]
         b"`--seconds` doesn't go with `--sweep`\n"
     } else if is_same(word, b"--only") {
         b"`--only` goes with neither `--svg` nor `--html` nor another `--format` than text\n"
+    } else if is_same(word, b"--from") {
+        b"`--from` is at most `--to`\n"
     } else {
         command_sentence(word)
     }
@@ -148,7 +182,7 @@ pub fn write_word_fault<W: Out>(
     ensures written { Writes (W.Out.state out.old) (W.Out.state out.new) (spec.word_fault wrong word.now) result }
 {
     match wrong {
-        Some(given) => write_value_sentence(given, word.as_bytes(), out),
+        Some(given) => write_value_sentence(given, word, out),
         None => out.write_all(option_sentence(word.as_bytes())),
     }
 }

@@ -5,7 +5,7 @@ ghost use Rattle.std.specs.String.{string_bytes};
 ghost use Rattle.command_requests.specs.Words.{AsksForVersion, IsVersionWord};
 
 /// The version of the program.
-pub const VERSION: &str = "1.9.0";
+pub const VERSION: &str = "1.10.0";
 
 fn is_version_word(word: &str) -> bool
     ensures { (result ≡ true) ↔ IsVersionWord word.now }

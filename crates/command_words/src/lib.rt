@@ -2,7 +2,9 @@
 #![tactic(auto)]
 
 mod command_line;
+mod explore_reading;
 mod grammar;
+mod meant;
 mod names;
 mod options;
 mod pair_reading;

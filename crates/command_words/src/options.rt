@@ -75,8 +75,10 @@ pub(crate) enum Group {
     Listed,
     // which form of C is written
     Formed,
-    // the inputs on which two programs are compared
+    // inputs of files
     Tried,
+    // inputs that are drawn
+    Sampled,
     // what is compared of two programs, and their limits
     Compared,
     // what is done with a text that is laid out
@@ -340,16 +342,17 @@ const FORMED: &[CommandOption] = &[CommandOption {
     help: "The form: mpi, c or openmp",
 }];
 
-const TRIED: &[CommandOption] = &[
-    CommandOption {
-        name: INPUT,
-        follows: Follows::Words("FILE"),
-        help: "Tries the values of this file, and of each more given so",
-    },
+const TRIED: &[CommandOption] = &[CommandOption {
+    name: INPUT,
+    follows: Follows::Words("FILE"),
+    help: "Tries the values of this file, and of each more given so",
+}];
+
+const SAMPLED: &[CommandOption] = &[
     CommandOption {
         name: RANDOM,
         follows: Follows::Signed("LO..HI"),
-        help: "Tries values of this interval, for K or the common first cells",
+        help: "Tries values of this interval, for K or all common first cells",
     },
     CommandOption {
         name: DRAW,
@@ -431,6 +434,7 @@ pub(crate) fn options_of(group: Group) -> &'static [CommandOption] {
         Group::Listed => LISTED,
         Group::Formed => FORMED,
         Group::Tried => TRIED,
+        Group::Sampled => SAMPLED,
         Group::Compared => COMPARED,
         Group::LaidOut => LAID_OUT,
         Group::Graded => GRADED,

@@ -85,8 +85,8 @@ fn kind_of_count<'a>(
     })
 }
 
-// Inputs of this kind that are drawn.
-fn kind_words<'a>(words: &ArgMatches<'a>, kind: &'a str) -> Result<KindWords, Stop<'a>>
+/// Inputs of this kind that are drawn.
+pub(crate) fn kind_words<'a>(words: &ArgMatches<'a>, kind: &'a str) -> Result<KindWords, Stop<'a>>
     ensures { IfErr result IsOfWords }
 {
     match words.get_str(COUNT) {
@@ -95,8 +95,8 @@ fn kind_words<'a>(words: &ArgMatches<'a>, kind: &'a str) -> Result<KindWords, St
     }
 }
 
-// Inputs that are drawn from an interval. Where an option is missing, one that is there is told.
-fn drawn_words<'a>(words: &ArgMatches<'a>) -> Result<DrawnWords, Stop<'a>>
+/// Inputs that are drawn from an interval. Where an option is missing, one that is there is told.
+pub(crate) fn drawn_words<'a>(words: &ArgMatches<'a>) -> Result<DrawnWords, Stop<'a>>
     ensures { IfErr result IsOfWords }
 {
     match (words.get_str(RANDOM), words.get_str(COUNT)) {
@@ -107,8 +107,19 @@ fn drawn_words<'a>(words: &ArgMatches<'a>) -> Result<DrawnWords, Stop<'a>>
     }
 }
 
-// The option of a scope that is there beside inputs that are drawn.
-fn scope_option(words: &ArgMatches<'_>) -> &'static str {
+/// Whether one of the options is there by which inputs are drawn.
+pub(crate) fn are_drawn(words: &ArgMatches<'_>) -> bool {
+    let is_seeded = words.get_str(COUNT).is_some() || words.get_str(SEED).is_some();
+    is_seeded || words.get_str(RANDOM).is_some() || words.get_str(DRAW).is_some()
+}
+
+/// Whether one is there that says all inputs of a scope.
+pub(crate) fn are_whole(words: &ArgMatches<'_>) -> bool {
+    words.get_str(VALUES).is_some() || words.get_str(PERMUTATIONS).is_some()
+}
+
+/// The option of a scope that is there beside inputs that are drawn.
+pub(crate) fn scope_option(words: &ArgMatches<'_>) -> &'static str {
     if words.get_str(PERMUTATIONS).is_some() {
         "--permutations"
     } else {
@@ -121,10 +132,8 @@ fn input_words<'a>(alloc: Global, words: &ArgMatches<'a>) -> Result<InputWords<'
     ensures { IfErr result IsOfWords }
 {
     let is_of_files = words.get_strs(INPUT).is_some();
-    let is_seeded = words.get_str(COUNT).is_some() || words.get_str(SEED).is_some();
-    let is_drawn = is_seeded || words.get_str(RANDOM).is_some() || words.get_str(DRAW).is_some();
-    let is_whole = words.get_str(VALUES).is_some() || words.get_str(PERMUTATIONS).is_some();
-    let is_scope = is_whole || (words.get_str(CELLS).is_some() && !is_drawn);
+    let is_drawn = are_drawn(words);
+    let is_scope = are_whole(words) || (words.get_str(CELLS).is_some() && !is_drawn);
     match (is_of_files, is_scope, is_drawn) {
         (true, false, false) => Ok(InputWords::Files(input_files(alloc, words)?)),
         (false, true, false) => Ok(InputWords::Scope(few_inputs(words, INPUTS)?)),

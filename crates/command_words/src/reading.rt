@@ -4,6 +4,7 @@ ghost use Rattle.std.specs.Prelude.{◌≡◌, IfErr, map};
 ghost use Rattle.std.specs.String.{string_bytes};
 ghost use Rattle.command_requests.specs.Words.{AsksForVersion, IsOfWords};
 
+use crate::explore_reading::scope_words;
 use crate::grammar::grammar;
 use crate::names::{
     BOUND, BSP, CHECK, ENSURE, FILE, FILES, FLOW, FORMAT, HTML, LINES, LISTING_FILE, OUTCOME,
@@ -15,7 +16,7 @@ use crate::run_reading::{
     choice_of, cost_words, meaning_words, number_of, opening_of, run_words, step_words,
     sweep_words, trace_words,
 };
-use crate::scope_reading::{always_words, scope_words, witness_of};
+use crate::scope_reading::{always_words, witness_of};
 use clap::ArgMatches;
 use command_requests::{
     ArrangeForm, ArrangeWords, GradeWords, PairWords, ProgramFile, Request, SizeWord,

@@ -3,6 +3,7 @@
 ghost use Rattle.std.specs.Prelude.{IfErr};
 ghost use Rattle.command_requests.specs.Words.{IsOfWords};
 
+use crate::meant::{push_meant, unexpected};
 use clap::error::ErrorKind;
 use command_requests::Request;
 use help::subject_of;
@@ -37,7 +38,7 @@ fn push_hint(text: &mut String, word: &str) -> Result<(), AllocError> {
     Ok(())
 }
 
-// The parser's words, without that tip, and what to type to read more.
+// The parser's words, without that tip, with what is meant, and what to type to read more.
 fn told(alloc: Global, words: &[String], error: &clap::Error) -> Result<String, AllocError> {
     let text = format!(in alloc; "{error}")?;
     let mut kept = String::new(alloc);
@@ -48,6 +49,9 @@ fn told(alloc: Global, words: &[String], error: &clap::Error) -> Result<String, 
         if !is_tip && !(is_behind && line.is_empty()) {
             kept.push_str(line)?;
             kept.push('\n')?;
+        }
+        if let Some(word) = unexpected(line) {
+            push_meant(alloc, &mut kept, words, word)?;
         }
         if line.starts_with(ASIDE) {
             push_hint(&mut kept, explained(words))?;

@@ -123,12 +123,23 @@ fn drawn_of<'a>(words: &ArgMatches<'a>) -> Choice<'a> {
     }
 }
 
-/// Which statements of a run are told, and how.
-pub(crate) fn step_words<'a>(words: &ArgMatches<'a>) -> Result<StepWords<'a>, Stop<'a>>
+// The numbers of the first and of the last statement that are told. None has the number 0: from 1 to 0 none is told.
+fn told_between<'a>(words: &ArgMatches<'a>) -> Result<(u32, u32), Stop<'a>>
     ensures { IfErr result IsOfWords }
 {
     let from = number_of(words, FROM)?;
     let to = number_of(words, TO)?;
+    if from > 1 && from > to {
+        return Err(Stop::Number("--from"));
+    }
+    Ok((from, to))
+}
+
+/// Which statements of a run are told, and how.
+pub(crate) fn step_words<'a>(words: &ArgMatches<'a>) -> Result<StepWords<'a>, Stop<'a>>
+    ensures { IfErr result IsOfWords }
+{
+    let (from, to) = told_between(words)?;
     let only = only_of(words)?;
     Ok(StepWords {
         from,

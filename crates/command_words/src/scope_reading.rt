@@ -3,10 +3,9 @@
 ghost use Rattle.std.specs.Prelude.{◌≤◌, IfOk, IfErr};
 ghost use Rattle.command_requests.specs.Words.{IsOfWords};
 
-use crate::names::{CELLS, PERMUTATIONS, SHRINK, UNDER, VALUES, WITNESS, WORKERS};
-use crate::run_reading::number_of;
+use crate::names::{CELLS, PERMUTATIONS, UNDER, VALUES, WITNESS};
 use clap::ArgMatches;
-use command_requests::{AlwaysWords, FewInputs, MOST_CELLS, MOST_INPUTS, MOST_ORDERED, ScopeWords};
+use command_requests::{AlwaysWords, FewInputs, MOST_CELLS, MOST_INPUTS, MOST_ORDERED};
 use intervals::Interval;
 use pram_model::Rule;
 use program_texts::Stop;
@@ -105,21 +104,6 @@ pub(crate) fn few_inputs<'a>(
         (None, Some(_), None) => Err(Stop::Number("--values")),
         (None, None, None) => Err(Stop::Number(missing)),
     }
-}
-
-/// The inputs on which a program is run, under which rule, and by how many workers; and whether those that are told are made smaller.
-pub(crate) fn scope_words<'a>(words: &ArgMatches<'a>) -> Result<ScopeWords, Stop<'a>>
-    ensures { IfErr result IsOfWords }
-{
-    let rule = rule_of(words)?;
-    let workers = number_of(words, WORKERS)?;
-    let few = few_inputs(words, "--cells")?;
-    Ok(ScopeWords {
-        scope: few.scope,
-        rule,
-        workers,
-        shrink: words.get_flag(SHRINK),
-    })
 }
 
 /// The file into which the first input that is told is written, if the command line has one. The name of standard input is none.
