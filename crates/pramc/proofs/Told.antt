@@ -8,7 +8,7 @@ use Rattle.diagnoses.specs.declared.about.About.{About}
 use Rattle.command_facts.specs.declared.found.Found.{Found}
 use Rattle.command_facts.specs.declared.found.Found.TheVariants as found
 use Rattle.command_facts.specs.declared.found.FoundSteps.{FoundSteps}
-use Rattle.command_witnesses.specs.Left.{NothingWrong}
+use Rattle.command_files.specs.WitnessLeft.{NothingWrong}
 use Rattle.pramc.specs.Left.{LeavesTold}
 
 module _ (leaves : List (List ℕ) → Found → (out out_new err err_new : OutState) → Status → Type 0)

@@ -10,9 +10,9 @@ use Rattle.command_requests.specs.declared.arrange_words.ArrangeWords.{ArrangeWo
 use Rattle.command_requests.specs.declared.request.Request.{Request}
 use Rattle.command_requests.specs.declared.request.Request.TheVariants as request
 use Rattle.command_facts.specs.declared.found.Found.{Found}
-use Rattle.command_layouts.specs.Left.{LeavesArranged}
-use Rattle.command_witnesses.specs.Left.{LeavesWitness}
-use Rattle.command_witnesses.specs.Witness.{wrong_in}
+use Rattle.command_files.specs.Left.{LeavesArranged}
+use Rattle.command_files.specs.WitnessLeft.{LeavesWitness}
+use Rattle.command_files.specs.Witness.{wrong_in}
 use Rattle.pramc.specs.Calls.{Finds, IsStop, witness_of}
 
 -- What was found is told, and then the first input of it on which something goes wrong is written into the file that is named for it, if

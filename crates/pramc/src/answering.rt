@@ -9,9 +9,8 @@ ghost use Rattle.pramc.specs.Left.{Leaves, LeavesTold};
 
 use crate::finding::find;
 use command_facts::{Found, Settled, Voice};
-use command_layouts::say_arranged;
+use command_files::{say_arranged, say_witness};
 use command_requests::Request;
-use command_witnesses::say_witness;
 use diagnoses::Halted;
 use observing::Watch;
 use program_texts::{Status, Stop};

@@ -1,0 +1,4 @@
+pub mod Arranged
+pub mod Left
+pub mod Witness
+pub mod WitnessLeft
