@@ -9,8 +9,8 @@ use Rattle.scopes.specs.Firsts.{Met}
 use Rattle.scopes.specs.Found.{Found}
 use Rattle.scopes.specs.declared.findings.Span.{Span}
 use Rattle.scopes.specs.declared.specification.Specification.{Specification}
-use Rattle.json_texts.specs.ExplorationFacts.{asked_fields, behind_fields, cost_fields, count_fields, exploration_facts, first_fields}
-use Rattle.json_texts.specs.ExplorationFacts.{input_fields, met_facts, span_facts, span_fields, specified_fields}
+use Rattle.json_texts.specs.ExplorationFacts.{asked_fields, behind_fields, cells_fields, cost_fields, count_fields, exploration_facts}
+use Rattle.json_texts.specs.ExplorationFacts.{first_fields, input_fields, met_facts, span_facts, span_fields, specified_fields}
 use Rattle.json_texts.specs.OutcomeFacts.{fault_fields}
 use Rattle.json_texts.proofs.Readable.{readable, small_fault}
 
@@ -68,7 +68,13 @@ small_behind s f =
     has_all 3 (specified_fields s f) (first_fields f ++ cost_fields f) (small_specified s f)
     (has_all 3 (first_fields f) (cost_fields f) (small_firsts f) (small_costs f))
 
-pub readable_exploration : (layout : List SharedEntry) (s : Specification) (f : Found) → IsReadable (exploration_facts layout s f)
-readable_exploration layout s f =
-    readable (count_fields layout f ++ behind_fields s f)
-    (has_all 3 (count_fields layout f) (behind_fields s f) (small_counts layout f) (small_behind s f))
+pub small_cells : (cells : Option ℕ) → HasSmall 3 (cells_fields cells)
+small_cells None = tt
+small_cells (Some n) = (small_large 3 n, tt)
+
+pub readable_exploration : (layout : List SharedEntry) (s : Specification) (cells : Option ℕ) (f : Found) →
+    IsReadable (exploration_facts layout s cells f)
+readable_exploration layout s cells f =
+    readable (cells_fields cells ++ (count_fields layout f ++ behind_fields s f))
+    (has_all 3 (cells_fields cells) (count_fields layout f ++ behind_fields s f) (small_cells cells)
+    (has_all 3 (count_fields layout f) (behind_fields s f) (small_counts layout f) (small_behind s f)))

@@ -47,6 +47,7 @@ small_reasons layout (reason.Operand o operand) = (small_letters 1 _, (small_int
 small_reasons layout (reason.Subscript a subscript) = (small_interval subscript, small_name 1 (slice_get layout a))
 small_reasons layout (reason.Width first last) = (small_value 1 first, (small_value 1 last, tt))
 small_reasons layout reason.Shared = (small_flag 1 true, tt)
+small_reasons layout reason.Single = (small_flag 1 true, tt)
 
 small_reason : (layout : List SharedEntry) (r : Reason) → IsSmall 2 (reason_facts layout r)
 small_reason layout r = small_object 1 (reason_fields layout r) (small_reasons layout r)

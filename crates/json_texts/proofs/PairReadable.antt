@@ -12,11 +12,11 @@ use Rattle.comparing.specs.declared.difference.Difference.{Difference}
 use Rattle.comparing.specs.declared.difference.Difference.TheVariants as differ
 use Rattle.comparing.specs.declared.difference.Ending.{Ending}
 use Rattle.comparing.specs.declared.difference.Ending.TheVariants as ending
-use Rattle.json_texts.specs.PairFacts.{both_fields, cells_fields, difference_fields, differing_facts, differing_fields, ending_facts}
+use Rattle.json_texts.specs.PairFacts.{both_fields, difference_fields, differing_facts, differing_fields, ending_facts}
 use Rattle.json_texts.specs.PairFacts.{ending_fields, head_fields}
 use Rattle.json_texts.specs.PairFacts.{excess_fields, first_fields, found_fields, pair_fields, told_fields, value_fields, whole_facts}
-use Rattle.json_texts.specs.ExplorationFacts.{asked_fields}
-use Rattle.json_texts.proofs.ExplorationReadable.{small_asked}
+use Rattle.json_texts.specs.ExplorationFacts.{asked_fields, cells_fields}
+use Rattle.json_texts.proofs.ExplorationReadable.{small_asked, small_cells}
 use Rattle.json_texts.proofs.Readable.{readable, small_fault}
 
 small_one : (name : List ℕ) (x : Option ℤ) → HasSmall 3 (value_fields name x)
@@ -65,10 +65,6 @@ small_found : (first second : List SharedEntry) (f : Found) → HasSmall 3 (foun
 small_found first second f =
     has_all 3 (told_fields f) (first_fields first second f.told)
     (small_told_if (length f.told) (nat_lt (length f.told) (f.counting - f.same))) (small_first first second f.told)
-
-small_cells : (cells : Option ℕ) → HasSmall 3 (cells_fields cells)
-small_cells None = tt
-small_cells (Some n) = (small_large 3 n, tt)
 
 small_head : (w : Option Checked) (cells : Option ℕ) (f : Found) → HasSmall 3 (head_fields w cells f)
 small_head w cells f =

@@ -1,4 +1,4 @@
--- What JSON says of what is found on the inputs of a scope.
+-- What JSON says of what is found on the inputs of a scope, or on some that are drawn.
 use Rattle.std.specs.Prelude.{ℕ, ℤ, List, [], ◌∷◌, ◌++◌, Option, Some, None, codes, map}
 use Rattle.serde_json.specs.Data.{Data}
 use Rattle.json_texts.specs.Facts.{Field, large, list, object_of, values}
@@ -55,5 +55,10 @@ cost_fields f = span_fields (codes "time") f.time ++ span_fields (codes "work") 
 abbrev pub behind_fields : Specification → Found → List Field
 behind_fields s f = specified_fields s f ++ (first_fields f ++ cost_fields f)
 
-abbrev pub exploration_facts : List SharedEntry → Specification → Found → Data
-exploration_facts layout s f = object_of (count_fields layout f ++ behind_fields s f)
+-- how many cells are drawn, where inputs are
+abbrev pub cells_fields : Option ℕ → List Field
+cells_fields None = []
+cells_fields (Some n) = (codes "cells", large n) ∷ []
+
+abbrev pub exploration_facts : List SharedEntry → Specification → (cells : Option ℕ) → Found → Data
+exploration_facts layout s cells f = object_of (cells_fields cells ++ (count_fields layout f ++ behind_fields s f))

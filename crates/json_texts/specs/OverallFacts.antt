@@ -44,6 +44,7 @@ reason_fields layout (reason.Operand o operand) =
 reason_fields layout (reason.Subscript a subscript) = (codes "subscript", interval_facts subscript) ∷ name_fields (slice_get layout a)
 reason_fields layout (reason.Width first last) = (codes "first", value first) ∷ (codes "last", value last) ∷ []
 reason_fields layout reason.Shared = (codes "shared", flag true) ∷ []
+reason_fields layout reason.Single = (codes "single", flag true) ∷ []
 
 abbrev pub reason_facts : List SharedEntry → Reason → Data
 reason_facts layout r = object_of (reason_fields layout r)

@@ -10,7 +10,7 @@ use Rattle.comparing.specs.declared.difference.Difference.{Difference}
 use Rattle.comparing.specs.declared.difference.Difference.TheVariants as differ
 use Rattle.comparing.specs.declared.difference.Ending.{Ending}
 use Rattle.comparing.specs.declared.difference.Ending.TheVariants as ending
-use Rattle.json_texts.specs.ExplorationFacts.{asked_fields}
+use Rattle.json_texts.specs.ExplorationFacts.{asked_fields, cells_fields}
 use Rattle.json_texts.specs.OutcomeFacts.{fault_fields}
 
 -- a value, where there is one
@@ -76,11 +76,6 @@ told_fields f = if nat_lt (length f.told) (f.counting - f.same) then (codes "tol
 
 abbrev pub found_fields : (first second : List SharedEntry) → Found → List Field
 found_fields first second f = told_fields f ++ first_fields first second f.told
-
--- how many cells are drawn, where inputs are
-abbrev pub cells_fields : Option ℕ → List Field
-cells_fields None = []
-cells_fields (Some n) = (codes "cells", large n) ∷ []
 
 -- how many inputs count, where there is a precondition, and how many cells are drawn
 abbrev pub head_fields : Option Checked → (cells : Option ℕ) → Found → List Field

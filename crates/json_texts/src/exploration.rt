@@ -179,16 +179,42 @@ fn put_findings(
     put_behind(alloc, object, specification, findings)
 }
 
+/// How many cells are drawn, where inputs are.
+pub(crate) fn put_cells(object: &mut Object, cells: Option<u32>) -> Result<(), AllocError>
+    ensures { OnOk result (shown object.new ≡ with_fields (spec.cells_fields cells) (shown object.old)) }
+{
+    match cells {
+        None => Ok(()),
+        Some(count) => object.put_large("cells", u128::from(count)),
+    }
+}
+
+fn put_told(
+    alloc: Global,
+    object: &mut Object,
+    layout: &Layout,
+    specification: &Specification,
+    cells: Option<u32>,
+    findings: &Findings,
+) -> Result<(), AllocError>
+    ensures { OnOk result (shown object.new ≡ with_fields (spec.cells_fields cells ++ (spec.count_fields layout.now (found_is findings.now)
+        ++ spec.behind_fields specification.now (found_is findings.now))) (shown object.old)) }
+{
+    put_cells(object, cells)?;
+    put_findings(alloc, object, layout, specification, findings)
+}
+
 fn exploration_value(
     alloc: Global,
     layout: &Layout,
     specification: &Specification,
+    cells: Option<u32>,
     findings: &Findings,
 ) -> Result<Value, AllocError>
-    ensures { IfOk result (λ v. view v ≡ spec.exploration_facts layout.now specification.now (found_is findings.now)) }
+    ensures { IfOk result (λ v. view v ≡ spec.exploration_facts layout.now specification.now cells (found_is findings.now)) }
 {
     let mut object = Object::new(alloc);
-    put_findings(alloc, &mut object, layout, specification, findings)?;
+    put_told(alloc, &mut object, layout, specification, cells, findings)?;
     Ok(object.into_value())
 }
 
@@ -196,18 +222,19 @@ fn exploration_value(
 /// `{"ended":610,"faulted":15,"faults":[{"input":["3","1"],"kind":"read-conflict","line":4,"place":"a[1]"}],"go_on":0,"inputs":625,
 /// "time":{"greatest":17,"least":9},"work":{"greatest":40,"least":12}}`. Time and work stand there where any run ends, and where one goes
 /// on `goes_on_at`, the first input on which it does. With a precondition `counting` stands there. With a postcondition `failed` does, and
-/// where a run fails `fails_at`, the first input on which it does.
+/// where a run fails `fails_at`, the first input on which it does. Where inputs are drawn, `cells` is how many values each has.
 pub fn json_exploration(
     alloc: Global,
     layout: &Layout,
     specification: &Specification,
+    cells: Option<u32>,
     findings: &Findings,
 ) -> Result<String, AllocError>
     // The line is exactly the facts of what is found, by what is asked of the inputs, and read as JSON it is these
     // facts again.
     ensures json { IfOk result
-        (λ text. IsJson (spec.exploration_facts layout.now specification.now (found_is findings.now) ∷ []) (string_bytes text)) }
+        (λ text. IsJson (spec.exploration_facts layout.now specification.now cells (found_is findings.now) ∷ []) (string_bytes text)) }
 {
-    let facts = exploration_value(alloc, layout, specification, findings)?;
+    let facts = exploration_value(alloc, layout, specification, cells, findings)?;
     line_of(alloc, &facts)
 }

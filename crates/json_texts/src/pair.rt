@@ -8,7 +8,7 @@ ghost use Rattle.json_texts.specs.Lines.{Adds, IsJson};
 ghost use Rattle.json_texts.specs.Shown.{shown};
 ghost use Rattle.json_texts.specs.PairFacts as spec;
 
-use crate::exploration::put_asked;
+use crate::exploration::{put_asked, put_cells};
 use crate::fault::{cell_text, put_fault};
 use crate::line::push_line;
 use crate::{Object, Value};
@@ -246,16 +246,6 @@ fn put_found(
 {
     put_told(object, comparison)?;
     put_first(alloc, object, first, second, &comparison.told)
-}
-
-// How many cells are drawn, where inputs are.
-fn put_cells(object: &mut Object, cells: Option<u32>) -> Result<(), AllocError>
-    ensures { OnOk result (shown object.new ≡ with_fields (spec.cells_fields cells) (shown object.old)) }
-{
-    match cells {
-        None => Ok(()),
-        Some(count) => object.put_large("cells", u128::from(count)),
-    }
 }
 
 // How many inputs count, where there is a precondition, and how many cells are drawn.

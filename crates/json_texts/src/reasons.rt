@@ -131,6 +131,7 @@ fn put_reason(
         }
         Reason::Width { first, last } => put_width(object, first, last),
         Reason::Shared => object.put("shared", Value::Bool(true)),
+        Reason::Single => object.put("single", Value::Bool(true)),
     }
 }
 

@@ -2,8 +2,7 @@ use Rattle.std.proofs.lemmas.Result.{on_ok_weaker}
 use Rattle.std.specs.Prelude.{codes}
 use Rattle.json_texts.proofs.Small.{put_then}
 use Rattle.json_texts.specs.Shown.{shown}
-use Rattle.json_texts.specs.ExplorationFacts.{asked_fields}
-use Rattle.json_texts.specs.PairFacts.{cells_fields}
+use Rattle.json_texts.specs.ExplorationFacts.{asked_fields, cells_fields}
 use Rattle.json_texts.proofs.pair.put_head.Goals as goal
 
 pub returns : goal.returns
