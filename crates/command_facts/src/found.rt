@@ -78,12 +78,13 @@ pub struct FoundSweep {
     pub form: SweepForm,
 }
 
-/// The runs of a program on the inputs of a scope: the program as it was run, which inputs count and which results are right, and what is
-/// found of it.
+/// The runs of a program on the inputs of a scope, or on some that are drawn: the program as it was run, which inputs count and which
+/// results are right, how many cells are drawn of each input, where inputs are, and what is found of it.
 #[derive(Drop)]
 pub struct FoundScope {
     pub program: Program,
     pub specification: Specification,
+    pub drawn: Option<u32>,
     pub findings: Findings,
 }
 
@@ -152,7 +153,7 @@ pub enum Settled<'a> {
     Traced(FoundRun<'a>, TraceWords, FoundTrace),
     /// A program was run at several sizes.
     Swept(FoundSweep),
-    /// A program was run on the inputs of a scope that count.
+    /// A program was run on the inputs of a scope, or on those that were drawn, that count.
     Explored(FoundScope),
     /// A program was run once for all inputs of a scope.
     Surveyed(FoundOverall),

@@ -53,7 +53,7 @@ AreFactsOf (settled.Run r shown) told = told ≡ chosen_facts shown r.loaded.pro
 AreFactsOf (settled.Costed r w c) told = told ≡ cost_facts r.loaded.program.layout (verdict_of r.outcome) c w.schedule w.lines ∷ []
 AreFactsOf (settled.Traced r w t) told =
     told ≡ trace_facts t.lines.items w.outcome r.loaded.program.layout (cost_asked w.rates t.counts) t.counts (verdict_of r.outcome)
-AreFactsOf (settled.Explored f) told = told ≡ exploration_facts f.program.layout f.specification (found_is f.findings) ∷ []
+AreFactsOf (settled.Explored f) told = told ≡ exploration_facts f.program.layout f.specification f.drawn (found_is f.findings) ∷ []
 AreFactsOf (settled.Surveyed f) told = told ≡ survey_facts f.program.layout f.scope f.told ∷ []
 AreFactsOf (settled.Paired p) told = told ≡ pair_facts p.first.layout p.second.layout p.precondition p.drawn (pairs.found_is p.comparison)
 AreFactsOf (settled.Graded f) told = told ≡ grade_facts f

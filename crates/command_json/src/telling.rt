@@ -122,13 +122,14 @@ fn sweep_text(alloc: Global, swept: &FoundSweep) -> Result<String, AllocError>
 
 // What is found on the inputs of a scope.
 fn scope_text(alloc: Global, found: &FoundScope) -> Result<String, AllocError>
-    ensures told { IfOk result (λ text. IsJson (exploration_facts found.now.program.layout found.now.specification
+    ensures told { IfOk result (λ text. IsJson (exploration_facts found.now.program.layout found.now.specification found.now.drawn
         (found_is found.now.findings) ∷ []) (string_bytes text)) }
 {
     json_exploration(
         alloc,
         found.program.layout(),
         &found.specification,
+        found.drawn,
         &found.findings,
     )
 }

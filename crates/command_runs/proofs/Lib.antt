@@ -8,3 +8,4 @@ pub mod WordsTold
 pub mod Overalls
 pub mod Specifications
 pub mod Unlikes
+pub mod Singles

@@ -37,6 +37,7 @@ use Rattle.command_requests.specs.declared.step_words.StepWords.{StepWords}
 use Rattle.command_requests.specs.declared.sweep_words.SweepForm.{SweepForm}
 use Rattle.command_requests.specs.declared.sweep_words.SweepForm.TheVariants as sweep
 use Rattle.command_facts.specs.declared.found.FoundRun.{FoundRun}
+use Rattle.command_facts.specs.declared.found.FoundScope.{FoundScope}
 use Rattle.command_facts.specs.declared.found.FoundSweep.{FoundSweep}
 use Rattle.command_facts.specs.declared.found.Settled.{Settled}
 use Rattle.command_facts.specs.declared.found.Settled.TheVariants as settled
@@ -48,7 +49,7 @@ use Rattle.command_text.specs.Steps.{IsTelling, told_text}
 use Rattle.command_text.specs.Traces.{counts_text, outcome_text}
 
 abbrev pub version_text : List ℕ
-version_text = line (codes "pramc 1.9.0")
+version_text = line (codes "pramc 1.10.0")
 
 -- `accepted cells 16 procs 8 rule erew`
 abbrev pub accepted_line : Checked → List ℕ
@@ -98,6 +99,10 @@ abbrev pub told_of_all : List SharedEntry → Scope → Result Overall Undecided
 told_of_all layout scope (Ok overall) = overall_text layout scope overall
 told_of_all layout scope (Err why) = undecided_text scope why
 
+-- how many cells are drawn, where inputs are, and what is found
+abbrev pub explored_text : FoundScope → List ℕ
+explored_text f = pair_texts.cells_line f.drawn ++ findings_text f.program.layout f.specification (found_is f.findings)
+
 -- The text of what was found.
 abbrev pub IsTextOf : Settled → List ℕ → Type 0
 IsTextOf settled.Version text = text ≡ version_text
@@ -108,7 +113,7 @@ IsTextOf (settled.Planned code) text = text ≡ spelling code
 IsTextOf (settled.Exported code) text = text ≡ c_text code
 IsTextOf (settled.ExportedAlone code) text = text ≡ alone_text code
 IsTextOf (settled.Compared c) text = text ≡ comparison_text c
-IsTextOf (settled.Explored f) text = text ≡ findings_text f.program.layout f.specification (found_is f.findings)
+IsTextOf (settled.Explored f) text = text ≡ explored_text f
 IsTextOf (settled.Surveyed f) text = text ≡ told_of_all f.program.layout f.scope f.told
 IsTextOf (settled.Paired p) text =
     text ≡ pair_texts.comparison_text p.first.layout p.second.layout p.precondition p.drawn (pairs.found_is p.comparison)

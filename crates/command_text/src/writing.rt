@@ -10,20 +10,18 @@ ghost use Rattle.memory_texts.specs.Chosen.{shown_by};
 ghost use Rattle.help.specs.Explained.{explanation};
 ghost use Rattle.comparing.specs.Found as pairs;
 ghost use Rattle.comparing.specs.ComparisonText as pair_texts;
-ghost use Rattle.scopes.specs.Found.{found_is};
-ghost use Rattle.scopes.specs.FindingsText.{findings_text};
 ghost use Rattle.mpi_export.specs.Alone.{alone_text};
 ghost use Rattle.mpi_export.specs.Program.{c_text};
 ghost use Rattle.comparing.specs.RulesText.{comparison_text};
 ghost use Rattle.superstep_listing.specs.Listing.{spelling};
 ghost use Rattle.command_text.specs.Costs.{costs_text};
 ghost use Rattle.command_facts.specs.Written.{Wrote};
-ghost use Rattle.command_text.specs.Texts.{accepted_line, told_of_all, version_text};
+ghost use Rattle.command_text.specs.Texts.{accepted_line, explored_text, told_of_all, version_text};
 
 use all_inputs::{Overall, Scope, Undecided, write_overall, write_undecided};
 use command_facts::{FoundOverall, FoundPair, FoundScope};
 use command_requests::{CostWords, VERSION};
-use comparing::{UnderRules, show_comparison, write_comparison};
+use comparing::{UnderRules, show_comparison, write_cells, write_comparison};
 use costs::{Cost, write_cost, write_lines};
 use help::{Subject, write_explanation};
 use itoa::Buffer;
@@ -148,21 +146,28 @@ pub(crate) fn write_plain_c<'a, O: Out>(out: &mut O, plan: &AlonePlan) -> Result
     finish(out, Status::Done)
 }
 
-/// Writes what is found on the inputs of a scope, and ends with that status.
-pub(crate) fn write_exploration<'a, O: Out>(
-    out: &mut O,
-    explored: &FoundScope,
-    status: Status,
-) -> Result<Status, Stop<'a>>
-    ensures written { Wrote status (findings_text explored.now.program.layout explored.now.specification (found_is explored.now.findings))
-        (O.Out.state out.old) (O.Out.state out.new) result }
+fn write_explored<O: Out>(out: &mut O, explored: &FoundScope) -> Result<(), WriteFault>
+    ensures written { Writes (O.Out.state out.old) (O.Out.state out.new) (explored_text explored.now) result }
 {
+    write_cells(out, explored.drawn)?;
     write_findings(
         out,
         explored.program.layout(),
         &explored.specification,
         &explored.findings,
-    )?;
+    )
+}
+
+/// Writes what is found on the inputs of a scope, or on some that are drawn, and ends with that status.
+pub(crate) fn write_exploration<'a, O: Out>(
+    out: &mut O,
+    explored: &FoundScope,
+    status: Status,
+) -> Result<Status, Stop<'a>>
+    ensures written { Wrote status (explored_text explored.now)
+        (O.Out.state out.old) (O.Out.state out.new) result }
+{
+    write_explored(out, explored)?;
     finish(out, status)
 }
 

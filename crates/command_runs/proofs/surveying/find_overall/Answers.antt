@@ -17,6 +17,7 @@ returns-in-Ok-clause-found g c =
       ran = c.in-Ok.ensures.program ∙ c.under-program.ensures;
       asked = subst (λ p. IsAsked c.args.words p found.scope) same c.in-Ok.ensures.asked;
       told = subst (λ p. IfOk found.told (Tells p found.scope c.args.bound)) same c.in-Ok.ensures.told;
+      decided = c.in-Ok.ensures.decided;
     }
 
 pub returns-clause-refused : goal.returns-clause-refused
