@@ -27,7 +27,7 @@ _pramc() {
             rules) words="--bound --input --memory --random --draw --seed --size --format --explain --help" ;;
             run) words="--bound --input --memory --random --draw --seed --workers --map --reserve --show --quiet --size --format --explain --help" ;;
             trace) words="--bound --input --memory --random --draw --seed --workers --map --reserve --svg --outcome --lines --bsp --size --format --explain --help" ;;
-            explore) words="--cells --values --permutations --where --ensure --shrink --witness --bound --under --workers --size --format --explain --help" ;;
+            explore) words="--cells --values --permutations --random --draw --count --seed --where --ensure --shrink --witness --bound --under --workers --size --format --explain --help" ;;
             always) words="--cells --values --bound --under --size --format --explain --help" ;;
             compare) words="--cells --values --permutations --where --bound --input --random --draw --count --seed --only --time-at-most --work-at-most --size --format --explain --help" ;;
             grade) words="--cells --values --permutations --where --bound --input --random --draw --count --seed --only --time-at-most --work-at-most --procs-at-most --under --size --format --explain --help" ;;

@@ -40,8 +40,8 @@ COMING = [
     ("steps once --only s", False, BARE),
     ("steps once --only s", True, BESIDE),
     ("steps once --to 1", False, BARE),
-    ("steps once --from 2 --to 1 --format json", False, OPENED),
-    ("steps once --from 2 --to 1 --format json", True, OPENED),
+    ("steps once --to 0 --format json", False, OPENED),
+    ("steps once --to 0 --format json", True, OPENED),
 ]
 TIMED = [
     "once", "once --only s", "once --format json", "once --html", "once --html --to 9", "once --svg", "once --svg --to 9", "once --flow",

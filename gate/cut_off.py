@@ -36,7 +36,7 @@ GOES_ON = b"1\n2\n2\ngoes on\n"
 
 # A program, its input, words, the text if it was worked out, the exit status, and what is told where the file is full.
 ROWS = [
-    (SUM, b"", "--version", b"pramc 1.9.0\n", 0, LINE),
+    (SUM, b"", "--version", b"pramc 1.10.0\n", 0, LINE),
     (SUM, b"", "run program", SUMMED, 0, LINE),
     *((SUM, b"", f"{verb} program", None, 0, LINE) for verb in ("plan", "rules", "steps")),
     (WRITE, b"", "trace program --workers 2 --bound 9", TRACE, 0, LINE),

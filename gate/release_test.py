@@ -9,7 +9,7 @@ import tempfile
 from pathlib import Path
 
 GATE = Path(__file__).resolve().parent
-NAME = "pramc-1.9.0-x86_64-linux"
+NAME = "pramc-1.10.0-x86_64-linux"
 NEEDED = ("sh", "tar", "xz", "sha256sum", "cat", "chmod", "cut", "dirname", "find", "grep", "mkdir", "mktemp", "mv", "rm", "sed", "sort",
           "uniq", "xargs")
 FILES = {"HANDLES": "none\n", "crates.txt": "low:\nprogram: low\n", "crates/low/src/lib.rt": "low\n", "crates/low/specs/Low.antt": "l\n",

@@ -120,16 +120,18 @@ def rules(
 
 def explore(
     text: Text, *, cells: Optional[int] = None, values: Optional[Interval] = None, permutations: Optional[int] = None,
+    count: Optional[int] = None, random: Optional[Interval] = None, draw: Optional[str] = None, seed: Optional[int] = None,
     where: Optional[Text] = None, ensure: Optional[Text] = None, shrink: bool = False, witness: Optional[str] = None,
     under: Optional[str] = None, sizes: Sizes = None, bound: Bound = None, workers: Optional[int] = None
 ) -> Exploration:
-    """Runs a program on every input of `cells` values of the interval `values`, or on all orders of 1 to `permutations`.
+    """Runs a program on every input of `cells` values of the interval `values`, on all orders of 1 to `permutations`, or on `count` drawn
+    ones.
 
     `where` and `ensure` are programs: which inputs count, and which results are right. The first input on which something goes wrong is
     written into the file of the name `witness`."""
     request = started("explore", text, sizes, bound)
     scope(request, cells, values, permutations)
-    request.text_option("where", where)
+    tried(request, None, count, random, draw, seed, where)
     request.text_option("ensure", ensure)
     request.flag("shrink", shrink)
     request.option("witness", witness)

@@ -105,5 +105,5 @@ def explain(word: str = "") -> str:
 
 
 def version() -> str:
-    """The version of the program, as `1.9.0`."""
+    """The version of the program, as `1.10.0`."""
     return call(["--version"]).out.decode().split()[1]

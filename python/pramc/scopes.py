@@ -28,9 +28,10 @@ class FoundFault:
 
 @dataclass(frozen=True)
 class Exploration:
-    """How many inputs of a scope there are, and how the runs on them come out.
+    """How many inputs there are, of a scope or drawn, and how the runs on them come out.
 
-    `counting` is there with `where=`, `failed` with `ensure=`. `goes_on_at` and `fails_at` are the first such inputs."""
+    `counting` is there with `where=`, `failed` with `ensure=`. `goes_on_at` and `fails_at` are the first such inputs. Where inputs are
+    drawn `cells` is for how many cells."""
 
     inputs: int
     ended: int
@@ -43,6 +44,7 @@ class Exploration:
     fails_at: Optional[Input]
     time: Optional[Range]
     work: Optional[Range]
+    cells: Optional[int]
 
     @property
     def is_right(self) -> bool:
@@ -114,7 +116,7 @@ class Grade:
 @dataclass(frozen=True)
 class Reason:
     """What is known where a fault may come: the operands of an `operator` (or its one `operand`), the `subscript` of an array, the indices
-    of a pardo (`first` to `last`), or that processors may share a cell."""
+    of a pardo (`first` to `last`), that processors may share a cell, or that the one input of the scope comes to it (`single`)."""
 
     operator: Optional[str]
     left: Optional[Range]
@@ -125,6 +127,7 @@ class Reason:
     first: Optional[int]
     last: Optional[int]
     shared: bool
+    single: bool
 
 
 @dataclass(frozen=True)
@@ -197,7 +200,8 @@ def exploration_of(said: Mapping[str, Any]) -> Exploration:
     counts = [int(said[it]) for it in ("inputs", "ended", "faulted", "go_on")]
     more = [optional_number(said, it) for it in ("counting", "failed")]
     firsts = [input_of(said, it) for it in ("goes_on_at", "fails_at")]
-    return Exploration(*counts, faults, *more, *firsts, range_of(said.get("time")), range_of(said.get("work")))
+    spans = [range_of(said.get(it)) for it in ("time", "work")]
+    return Exploration(*counts, faults, *more, *firsts, *spans, optional_number(said, "cells"))
 
 
 def side_of(said: Any) -> Union[int, str, Fault, None]:
@@ -235,8 +239,8 @@ def grade_of(said: Mapping[str, Any]) -> Grade:
 def reason_of(said: Mapping[str, Any]) -> Reason:
     left, right, operand, subscript = (range_of(said.get(it)) for it in ("left", "right", "operand", "subscript"))
     first, last = (optional_number(said, it) for it in ("first", "last"))
-    shared = bool(said.get("shared", False))
-    return Reason(said.get("operator"), left, right, operand, said.get("subscript_of"), subscript, first, last, shared)
+    shared, single = (bool(said.get(it, False)) for it in ("shared", "single"))
+    return Reason(said.get("operator"), left, right, operand, said.get("subscript_of"), subscript, first, last, shared, single)
 
 
 def cells_of(said: Mapping[str, Any]) -> Cells:

@@ -24,6 +24,8 @@ class Explorations(unittest.TestCase):
 
     def test_orders(self):
         self.assertEqual(pramc.explore(OWED, permutations=4).inputs, 24)
+        drawn = pramc.explore(OWED, draw="permutation", count=7, cells=3)
+        self.assertEqual((drawn.inputs, drawn.cells), (7, 3))
 
     def test_where_and_ensure(self):
         found = pramc.explore(HALVES, cells=1, values=(0, 3), ensure=HALVED)
